@@ -1,0 +1,4 @@
+// Layer 1: rounding to a whole number, maximum and minimum, saturating casts.
+pub mod casts;
+pub mod pick;
+pub mod whole;
