@@ -1,3 +1,4 @@
 -- Laws that the crates above cite.
 pub mod Replies
 pub mod Folds
+pub mod Rules

@@ -5,3 +5,5 @@ pub mod Saturates
 pub mod Sizes
 pub mod Ranges
 pub mod Exact
+pub mod Rows
+pub mod Powers

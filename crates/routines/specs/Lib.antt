@@ -1,2 +1,4 @@
 pub mod Pick
+pub mod Tables
+pub mod Powers
 pub mod Whole

@@ -1,4 +1,5 @@
 // Layer 1: rounding to a whole number, maximum and minimum, saturating casts.
 pub mod casts;
 pub mod pick;
+pub mod tables;
 pub mod whole;
