@@ -6,4 +6,5 @@ pub mod Sizes
 pub mod Ranges
 pub mod Exact
 pub mod Rows
+pub mod Patterns
 pub mod Powers

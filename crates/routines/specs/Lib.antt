@@ -2,3 +2,4 @@ pub mod Pick
 pub mod Tables
 pub mod Powers
 pub mod Whole
+pub mod Exp

@@ -1,5 +1,6 @@
 // Layer 1: rounding to a whole number, maximum and minimum, saturating casts.
 pub mod casts;
+pub mod exp;
 pub mod pick;
 pub mod tables;
 pub mod whole;
