@@ -1,11 +1,12 @@
 -- Which patterns are no NaN's, and which values are no NaN: what `f64::from_bits` and `f64::to_bits` ask. Assumes nothing.
 use mathlib.Core.Path.{_≡_, refl, sym, ap, _∙_, subst}
-use mathlib.Core.Bool.{Bool, true, false, not, false≢true}
-use Prim.Native.Nat.{ℕ, _*_, _%_, _^_, _≤_}
+use mathlib.Core.Bool.{Bool, true, false, not, cond, false≢true}
+use Prim.Native.Nat.{ℕ, zero, suc, _+_, _*_, _%_, _^_, _≤_}
 use native.Mathlib.Omega.{arith}
 use borrow.Author.Tests.{le-ltb}
 use lib.Dec.{T, ltb}
-use lib.Ieee.{Float, nan, inf, fin, binary64, nanBits, isNan, le, lt}
+use lib.Ieee.{Float, nan, inf, fin, Format, binary64, prec, emax, low, odd, units, round, unlike, up, down, mul, ofBits, nanBits, isNan, le, lt}
+use lib.Ieee.Fits.{round-is}
 use lib.Ieee.Bits.{nanBits-above}
 use Rattle.routines.proofs.Tests.{no}
 
@@ -27,3 +28,23 @@ least-no-nan (inf s) nan h = absurd (false≢true h)
 least-no-nan (fin s m e) nan h = absurd (false≢true h)
 least-no-nan a (inf s) h = tt
 least-no-nan a (fin s m e) h = tt
+
+-- ---- what is rounded is no NaN
+units-no-nan : (f : Format) (s : Bool) (q k : ℕ) → T (not (isNan (units f s q k)))
+unfolding units odd isNan
+units-no-nan f s q k = go (ltb (q * 2 ^ k) (2 ^ (low f + suc (emax f)))) q
+  where
+    go : (b : Bool) (q : ℕ) → T (not (isNan (cond b (odd (suc (prec f)) s q k (low f)) (inf s))))
+    go true zero = tt
+    go true (suc q) = tt
+    go false q = tt
+
+pub round-no-nan : (f : Format) (s : Bool) (a d : ℕ) → T (not (isNan (round f s a d)))
+round-no-nan f s a d = subst (λ (x : Float). T (not (isNan x))) (sym (round-is f s a d)) (units-no-nan f s _ _)
+
+-- a positive value times 2 ^ 54
+pub positive-times : (x : Float) → lt (ofBits binary64 0) x ≡ true → T (not (isNan (mul binary64 x (ofBits binary64 0x4350000000000000))))
+unfolding lt ofBits mul isNan
+positive-times nan h = absurd (false≢true h)
+positive-times (inf s) h = tt
+positive-times (fin s m e) h = round-no-nan binary64 (unlike s false) (m * up e * (1 * 2 ^ 54)) (down e * 1)

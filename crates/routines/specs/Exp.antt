@@ -3,6 +3,7 @@ use Prim.Native.Nat.{ℕ, _-_, _*_, _/_, _%_}
 use mathlib.Core.Bool.{Bool, true, false, cond}
 use lib.ListN.{getD}
 use lib.Ieee.{Float, inf, binary64, add, sub, mul, lt, le, ofBits, toBits}
+use Rattle.routines.specs.Held.{atLeast, atMost}
 use Rattle.routines.specs.Tables.{rows, valueIn, restIn}
 
 -- 32 / ln 2, ln 2 / 32 in two parts, 1.5 * 2^52 + 2046 * 32, and that less and more 35,200
@@ -77,7 +78,8 @@ scaledUp x t =
 
 -- step 8: below 0, v held to 0 .. 1; otherwise v held to 1 and above
 unfoldable pub besideOne : Float → Float → Float
-besideOne x v = cond (lt x zero) (cond (lt v one) (cond (lt zero v) v zero) one) (cond (lt one v) v one)
+unfolding atLeast atMost
+besideOne x v = cond (lt x zero) (atMost (atLeast v zero) one) (atLeast v one)
 
 -- steps 2 and 3
 unfoldable pub beyond : Float → Float

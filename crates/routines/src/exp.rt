@@ -7,6 +7,8 @@ ghost use mathlib.Core.Bool.{not};
 ghost use lib.Dec.{T};
 ghost use lib.Ieee.{isNan};
 ghost use Rattle.routines.specs.Exp.{expOf, besideOne, scaledUp, beyond, hpoly, reduced};
+use crate::held::at_least;
+use crate::held::at_most;
 use crate::tables::power_at;
 
 // 32 / ln 2, and ln 2 / 32 in two parts, the first of 37 bits, so that k times it is exact.
@@ -54,13 +56,9 @@ fn beside_one(x: f64, v: f64) -> f64
     ensures { λ r. ⌜ r ≡ besideOne x v ⌝ }
 {
     if x < 0.0 {
-        if v < 1.0 {
-            if v > 0.0 { v } else { 0.0 }
-        } else {
-            1.0
-        }
+        at_most(at_least(v, 0.0), 1.0)
     } else {
-        if v > 1.0 { v } else { 1.0 }
+        at_least(v, 1.0)
     }
 }
 

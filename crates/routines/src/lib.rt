@@ -1,6 +1,9 @@
 // Layer 1: rounding to a whole number, maximum and minimum, saturating casts.
 pub mod casts;
 pub mod exp;
+pub mod held;
+pub mod ln;
+pub mod ln_table;
 pub mod pick;
 pub mod tables;
 pub mod whole;

@@ -1,0 +1,115 @@
+// ln, in the steps of docs/ROUTINES.md.
+//
+// x = 2^k * z with z between 0.7089.. and 1.4179.., both cut out of the bits of x. The table has a c near z: z = c * (1 + r), so
+// ln x = k ln 2 + ln c + ln(1 + r), and |r| is below 0.0048.
+ghost use mathlib.Core.Path.{_≡_};
+ghost use mathlib.Core.Bool.{not};
+ghost use Prim.Native.Nat.{_≤_};
+ghost use lib.Dec.{T};
+ghost use lib.Ieee.{isNan};
+ghost use Rattle.routines.specs.Ln.{lnOf, lnCore, lnTail, besideZero, notAboveZero};
+use crate::held::at_least;
+use crate::held::at_most;
+use crate::ln_table::log_at;
+use crate::ln_table::piece_at;
+
+// ln 2 in two parts: k times the first is exact.
+const LN2_HIGH: f64 = 0.6931471805598903;
+
+const LN2_LOW: f64 = 5.497923018708371e-14;
+
+// The least normal value, the largest, and 2^54, which makes each subnormal value normal.
+const NORMAL: f64 = 2.2250738585072014e-308;
+
+const LARGEST: f64 = 1.7976931348623157e308;
+
+const SCALE: f64 = 18014398509481984.0;
+
+// The coefficients, without their signs.
+const B1: f64 = 0.3333333333333337;
+
+const B2: f64 = 0.24999999995751013;
+
+const B3: f64 = 0.19999999990379436;
+
+const B4: f64 = 0.16667155552646487;
+
+const B5: f64 = 0.14286322620881653;
+
+// The offset moves the octave's start from 1 to z's least value, and keeps 64 octaves in hand, of which a scaled x uses 54.
+const OFFSET: u64 = 0x409_5000_0000_0000;
+
+const SCALED_OFFSET: u64 = 0xa9_5000_0000_0000;
+
+// 2^52 + 1023 + 64.
+const BIAS: f64 = 4503599627371583.0;
+
+const SCALED_BIAS: f64 = 4503599627371573.0;
+
+// ln(1 + r) - r for |r| below 0.0053.
+fn tail(r: f64) -> f64
+    ensures { λ v. ⌜ v ≡ lnTail r ⌝ }
+{
+    (r * r) * (r * (B1 + r * (r * (B3 + r * (r * B5 - B4)) - B2)) - 0.5)
+}
+
+// ln x from a normal x and the offset that goes with it.
+fn core(x: f64, offset: u64) -> f64
+    requires { ⌜ T (not (isNan x)) ⌝ ∗ ⌜ offset ≤ 0x409500000000000 ⌝ }
+    ensures { λ r. ⌜ r ≡ lnCore x offset ⌝ }
+{
+    let q = f64::to_bits(x) % 0x8000_0000_0000_0000 + offset;
+    let k = f64::from_bits(0x4330_0000_0000_0000 + q / 0x10_0000_0000_0000) - BIAS;
+    let digits = q % 0x10_0000_0000_0000;
+    let z = f64::from_bits(digits + 0x3fe6_b000_0000_0000);
+    let piece = piece_at(digits / 0x2000_0000_0000);
+    let log = log_at(digits / 0x2000_0000_0000);
+    let r = (z - piece.0) * piece.1;
+    let high = k * LN2_HIGH + log.0;
+    let sum = high + r;
+    let rest = (high - sum) + r;
+    sum + (((rest + log.1) + k * LN2_LOW) + tail(r))
+}
+
+// The last step: v where v * x is above it, so that v lies on the side of 0 where ln x lies, and otherwise +0. Only the v at 1
+// needs it; it makes the rule hold by its form.
+fn beside_zero(x: f64, v: f64) -> f64
+    ensures { λ r. ⌜ r ≡ besideZero x v ⌝ }
+{
+    if v * x > v { v } else { 0.0 }
+}
+
+// ln x for an x that is not above 0, or a NaN.
+fn not_above_zero(x: f64) -> f64
+    ensures { λ r. ⌜ r ≡ notAboveZero x ⌝ }
+{
+    if x == 0.0 { -1.0 / 0.0 } else { 0.0 / 0.0 }
+}
+
+// The natural logarithm of x.
+pub fn ln(x: f64) -> f64
+    ensures { λ r. ⌜ r ≡ lnOf x ⌝ }
+{
+    let mut value = x;
+    let mut offset = OFFSET;
+    if x >= NORMAL {
+        if x > LARGEST {
+            return x;
+        }
+    } else {
+        if x > 0.0 {
+            value = x * SCALE;
+            offset = SCALED_OFFSET;
+        } else {
+            return not_above_zero(x);
+        }
+    }
+    beside_zero(x, core(value, offset))
+}
+
+#[no_mangle]
+pub extern "C" fn fog_ln(x: f64) -> f64
+    ensures { λ r. ⌜ r ≡ lnOf x ⌝ }
+{
+    ln(x)
+}
