@@ -66,7 +66,6 @@ scaledBy y d r h = add binary64 y (mul binary64 y (add binary64 (add binary64 d 
 
 -- steps 4 to 7
 unfoldable pub scaledUp : Float → Float → Float
-unfolding reduced hpoly scaledBy
 scaledUp x t =
     let r = reduced x (sub binary64 t SHE) in
     let u = toBits binary64 t in
@@ -78,7 +77,6 @@ scaledUp x t =
 
 -- step 8: below 0, v held to 0 .. 1; otherwise v held to 1 and above
 unfoldable pub besideOne : Float → Float → Float
-unfolding atLeast atMost
 besideOne x v = cond (lt x zero) (atMost (atLeast v zero) one) (atLeast v one)
 
 -- steps 2 and 3
@@ -86,5 +84,4 @@ unfoldable pub beyond : Float → Float
 beyond x = cond (lt x zero) zero (cond (le zero x) (inf false) x)
 
 unfoldable pub expOf : Float → Float
-unfolding tee scaledUp besideOne beyond
 expOf x = let t = tee x in cond (le LEAST t) (cond (le t MOST) (besideOne x (scaledUp x t)) (beyond x)) (beyond x)

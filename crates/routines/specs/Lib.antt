@@ -6,3 +6,4 @@ pub mod Held
 pub mod Exp
 pub mod LnTable
 pub mod Ln
+pub mod Expm1

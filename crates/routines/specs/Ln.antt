@@ -53,7 +53,6 @@ lnTail r = mul binary64 (mul binary64 r r) (less r (more r B1 (less r (more r B3
 
 -- ln x from a normal x and the offset that goes with it
 unfoldable pub lnCore : Float → ℕ → Float
-unfolding lnTail
 lnCore x offset =
     let q = toBits binary64 x % 0x8000000000000000 + offset in
     let k = sub binary64 (ofBits binary64 (0x4330000000000000 + q / 0x10000000000000)) BIAS in
@@ -82,7 +81,6 @@ abbrev pub notAboveZero : Float → Float
 notAboveZero x = cond (eq x zero) (inf true) nan
 
 unfoldable pub lnOf : Float → Float
-unfolding lnCore besideZero
 lnOf x =
     cond (le NORMAL x) (cond (lt LARGEST x) x (besideZero x (lnCore x OFFSET)))
     (cond (lt zero x) (besideZero x (lnCore (mul binary64 x SCALE) SCALEDOFFSET)) (notAboveZero x))

@@ -1,6 +1,7 @@
 // Layer 1: rounding to a whole number, maximum and minimum, saturating casts.
 pub mod casts;
 pub mod exp;
+pub mod expm1;
 pub mod held;
 pub mod ln;
 pub mod ln_table;
