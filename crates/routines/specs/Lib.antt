@@ -7,3 +7,4 @@ pub mod Exp
 pub mod LnTable
 pub mod Ln
 pub mod Expm1
+pub mod Lgamma

@@ -3,6 +3,7 @@ pub mod casts;
 pub mod exp;
 pub mod expm1;
 pub mod held;
+pub mod lgamma;
 pub mod ln;
 pub mod ln_table;
 pub mod pick;
