@@ -20,7 +20,7 @@ ln-requires c κs = search needs
 
 returns-3 : tie.Need-returns-3
 unfolding aboveZero fourUp
-returns-3 c = 
+returns-3 c =
     let test = c .before .before in
     rw (test .before .before .if1 .taken, test .before .if2 .left, test .if3 .left) (rw (c .before .stirling .ensures, c .ln .ensures))
 

@@ -11,7 +11,7 @@ floor-requires c κs = search needs
 
 returns : tie.Need-returns
 unfolding belowZero div ofBits
-returns c = 
+returns c =
     let same = sym (c .before .floor .ensures) in
     rw (same, c .if1 .taken)
 
@@ -26,7 +26,7 @@ above-zero-requires-3 c κs = search needs
 
 returns-2 : tie.Need-returns-2
 unfolding belowZero reflected
-returns-2 c = 
+returns-2 c =
     let test = c .before .before .before in
     let same = sym (test .before .floor .ensures) in
     rw (same, test .if1 .left) (rw (c .above-zero3 .ensures, c .before .above-zero2 .ensures, c .before .before .above-zero .ensures))
