@@ -5,6 +5,9 @@ pub mod Saturates
 pub mod Sizes
 pub mod Ranges
 pub mod Exact
+pub mod Special
+pub mod Orders
+pub mod Shapes
 pub mod Rows
 pub mod Patterns
 pub mod Powers

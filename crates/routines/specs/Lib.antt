@@ -8,3 +8,4 @@ pub mod LnTable
 pub mod Ln
 pub mod Expm1
 pub mod Lgamma
+pub mod Signs
