@@ -8,6 +8,7 @@ pub mod Exact
 pub mod Special
 pub mod Orders
 pub mod Shapes
+pub mod ShapesExpm1
 pub mod Rows
 pub mod Patterns
 pub mod Powers

@@ -1,9 +1,9 @@
 -- What one comparison says of another, against zero and one, on every value. Assumes nothing.
 use mathlib.Core.Path.{_≡_, refl, sym, ap, _∙_, subst}
-use mathlib.Core.Logic.{_⊎_, inl, inr}
+use mathlib.Core.Logic.{_⊎_, inl, inr, ⊎-elim}
 use mathlib.Core.Bool.{Bool, true, false, not, _&&_, _||_, Bool·beq, cond, true≢false, false≢true}
 use Prim.Native.Nat.{ℕ, zero, suc, _+_, _*_, _≤_, _<_, zero-le}
-use native.Mathlib.Nat.{zero-mul, le-antisymm}
+use native.Mathlib.Nat.{zero-mul, le-antisymm, le-of-eq, le-of-lt}
 use native.Mathlib.Omega.{arith}
 use borrow.Author.Tests.{ltb-true, ltb-false, le-ltb, lt-ltb}
 use lib.IntN.{ℤ, pos}
@@ -11,7 +11,8 @@ use lib.Dec.{T, ltb, eqb, eqb→eq, eqb-refl}
 use lib.Ieee.{Float, nan, inf, fin, binary64, up, down, ofBits, lt, le, eq, isNan, fits}
 use lib.Ieee.Back.{whole-unique}
 use lib.Ieee.Bits.{is-true}
-use lib.Ieee.Fits.{eq→eqb, up-pos, down-pos, and-l}
+use lib.Ieee.Fits.{eq→eqb, up-pos, down-pos, and-l, and-r}
+use Rattle.routines.specs.Exp.{one}
 use Rattle.routines.specs.Exp.{zero as nought}
 use Rattle.routines.specs.Held.{atLeast, atMost}
 use Rattle.routines.specs.Signs.{signClear}
@@ -131,3 +132,22 @@ zero-is (fin s m e) F h = (s, whole-unique binary64 (fin s m e) (fin s 0 (pos 0)
   where
     same : Bool → Bool
     same s = Bool·beq s false || eqb (m * up e * 1) 0
+
+-- ---- against one
+one-positive : (n d : ℕ) → 1 * d ≤ n → 0 < d → 0 * d < n
+one-positive n d h k = omega arith
+
+pub one-above-zero : (x : Float) → le one x ≡ true → lt nought x ≡ true
+unfolding lt le eq ofBits
+one-above-zero nan h = absurd (false≢true h)
+one-above-zero (inf true) h = absurd (false≢true h)
+one-above-zero (inf false) h = refl
+one-above-zero (fin true m e) h = absurd (apart (1 * down e) (m * up e * 1) (down-pos e) h)
+  where
+    apart : (a b : ℕ) → 0 < down e → (eqb (1 * down e) b && eqb (1 * down e) 0) ≡ true → ⊥
+    apart a b k h = none (down e) k (eqb→eq (1 * down e) 0 (and-r (eqb (1 * down e) b) (eqb (1 * down e) 0) (yes h)))
+      where
+        none : (d : ℕ) → 0 < d → 1 * d ≡ 0 → ⊥
+        none d k h = omega arith
+one-above-zero (fin false m e) h =
+    lt-ltb (0 * down e) (m * up e * 1) (one-positive (m * up e * 1) (down e) (⊎-elim (λ l. le-of-lt (ltb-true (1 * down e) (m * up e * 1) l)) (λ l. le-of-eq (eqb→eq (1 * down e) (m * up e * 1) (and-l (eqb (1 * down e) (m * up e * 1)) true (yes l)))) (or-split (ltb (1 * down e) (m * up e * 1)) (eqb (1 * down e) (m * up e * 1) && true) h)) (down-pos e))

@@ -34,7 +34,7 @@ one-level : le one one ≡ true
 unfolding le lt eq ofBits
 one-level = refl
 
-zero-level : le nought nought ≡ true
+pub zero-level : le nought nought ≡ true
 unfolding le lt eq ofBits
 zero-level = refl
 
