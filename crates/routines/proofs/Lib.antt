@@ -9,6 +9,7 @@ pub mod Special
 pub mod Orders
 pub mod Shapes
 pub mod ShapesExpm1
+pub mod ShapesLn
 pub mod Products
 pub mod Rows
 pub mod Patterns

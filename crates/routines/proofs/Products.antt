@@ -13,13 +13,13 @@ use lib.Ieee.{Float, nan, inf, fin, binary64, up, down, unlike, ofBits, neg, lt,
 use lib.Ieee.Fits.{down-pos, up-pos, and-l}
 use lib.Ieee.Exact.{HasValue, round-exact}
 use lib.Ieee.Order.{round-mono}
-use lib.Ieee.Bits.{is-true}
+use lib.Ieee.Scale.{round-same}
 use Rattle.routines.specs.Exp.{one}
 use Rattle.routines.specs.Exp.{zero as nought}
 use Rattle.routines.proofs.Tests.{yes}
 use Rattle.routines.proofs.Patterns.{rounded-are}
 use Rattle.routines.proofs.Sizes.{in-units, neg-round}
-use Rattle.routines.proofs.Orders.{le-split}
+use Rattle.routines.proofs.Orders.{one-above-zero}
 
 -- ---- the size of a value that fits, rounded, is that size
 own-size : (s : Bool) (m : ℕ) (e : ℤ) → T (fits binary64 (fin s m e)) → HasValue (round binary64 false (m * up e) (down e)) false (m * up e) (down e)
@@ -43,7 +43,7 @@ module _ (X dx A da W dw : ℕ) (D : 0 < da) (same : A * dx ≡ X * da) where
       let r : W * dx * da ≤ X * dw * da = omega arith in
       le-of-mul-le-mul-right r D
 
-or-le : (a b : ℕ) → T (ltb a b || (eqb a b && true)) → a ≤ b
+pub or-le : (a b : ℕ) → T (ltb a b || (eqb a b && true)) → a ≤ b
 or-le a b t = go (ltb a b) refl t
   where
     go : (c : Bool) → ltb a b ≡ c → T (c || (eqb a b && true)) → a ≤ b
@@ -124,3 +124,104 @@ module _ (m : ℕ) (e : ℤ) (n : ℕ) (d : ℤ) where
       at-size = rounded-are binary64 false (m * up e * (n * up d)) (down e * down d) (λ (r : Float). T (le r x0) → lt (fin false m e) r ≡ false)
           (λ (t : T (le (inf false) x0)). absurd (finite-below m e x0 (own-size false m e F) (inf false) t refl))
           (λ (k : ℕ) (g : ℤ) (t : T (le (fin false k g) x0)). unfold lt in le-ltb (m * up e * down g) (k * up g * down e) (down-to m e x0 (own-size false m e F) (fin false k g) t k g refl))
+
+-- ---- a zero times anything finite
+zero-product : (s : Bool) (u b c : ℕ) → 0 < c → round binary64 s (0 * u * b) c ≡ fin s 0 (pos 0)
+zero-product s u b c C = round-same binary64 s (0 * u * b) c 0 1 C (zero-lt-suc 0) (flat u b c) ∙ at-zero s
+  where
+    flat : (u b c : ℕ) → 0 * u * b * 1 ≡ 0 * c
+    flat u b c = omega arith
+
+    at-zero : (s : Bool) → round binary64 s 0 1 ≡ fin s 0 (pos 0)
+    at-zero true = unfold round in refl
+    at-zero false = unfold round in refl
+
+pub zero-stays : (s : Bool) (e : ℤ) (x : Float) → lt (fin s 0 e) (mul binary64 (fin s 0 e) x) ≡ false
+unfolding mul lt
+zero-stays s e nan = refl
+zero-stays s e (inf t) = refl
+zero-stays s e (fin t n d) =
+    subst (λ (r : Float). lt (fin s 0 e) r ≡ false) (sym (zero-product (unlike s t) (up e) (n * up d) (down e * down d) (mul-pos (down-pos e) (down-pos d)))) (level s (unlike s t))
+  where
+    level : (s u : Bool) → lt (fin s 0 e) (fin u 0 (pos 0)) ≡ false
+    level true true = le-ltb (0 * 1 * down e) (0 * up e * 1) (flat (down e) (up e))
+      where
+        flat : (d u : ℕ) → 0 * u * 1 ≤ 0 * 1 * d
+        flat d u = omega arith
+    level true false = le-ltb 0 (0 * up e * 1 + 0 * 1 * down e) (flat (down e) (up e))
+      where
+        flat : (d u : ℕ) → 0 * u * 1 + 0 * 1 * d ≤ 0
+        flat d u = omega arith
+    level false true = refl
+    level false false = le-ltb (0 * up e * 1) (0 * 1 * down e) (flat (down e) (up e))
+      where
+        flat : (d u : ℕ) → 0 * 1 * d ≤ 0 * u * 1
+        flat d u = omega arith
+
+-- an infinity does not rise
+inf-stays : (s : Bool) (x : Float) → lt nought x ≡ true → lt (inf s) (mul binary64 (inf s) x) ≡ false
+unfolding mul lt ofBits
+inf-stays s nan h = absurd (false≢true h)
+inf-stays s (inf true) h = absurd (false≢true h)
+inf-stays true (inf false) h = refl
+inf-stays false (inf false) h = refl
+inf-stays s (fin true n d) h = absurd (false≢true h)
+inf-stays s (fin false n d) h = go s (eqb n 0)
+  where
+    go : (s b : Bool) → lt (inf s) (cond b nan (inf (unlike s false))) ≡ false
+    go s true = refl
+    go true false = refl
+    go false false = refl
+
+-- ---- against one, as fractions
+at-least-one : (n : ℕ) (d : ℤ) → le one (fin false n d) ≡ true → down d ≤ n * up d
+unfolding le lt eq ofBits
+at-least-one n d h = plain (n * up d) (down d) (or-le (1 * down d) (n * up d * 1) (yes h))
+  where
+    plain : (a b : ℕ) → 1 * b ≤ a * 1 → b ≤ a
+    plain a b h = omega arith
+
+at-most-one : (n : ℕ) (d : ℤ) → le (fin false n d) one ≡ true → n * up d ≤ down d
+unfolding le lt eq ofBits
+at-most-one n d h = plain (n * up d) (down d) (or-le (n * up d * 1) (1 * down d) (yes h))
+  where
+    plain : (a b : ℕ) → a * 1 ≤ 1 * b → a ≤ b
+    plain a b h = omega arith
+
+-- ---- THE SIGN: v x is above v
+some-size : (m u d : ℕ) → 0 < u → 0 * d < suc m * u * 1
+some-size m u d h = more (suc m * u) d (mul-pos (zero-lt-suc m) h)
+  where
+    more : (n d : ℕ) → 0 < n → 0 * d < n * 1
+    more n d h = omega arith
+
+-- where x is at least 1, v is positive
+pub rises-from-one : (x v : Float) → T (fits binary64 v) → le one x ≡ true → lt v (mul binary64 v x) ≡ true → lt nought v ≡ true
+rises-from-one x nan F h r = absurd (false≢true (unfold mul lt in r))
+rises-from-one x (inf s) F h r = absurd (false≢true (sym (inf-stays s x (one-above-zero x h)) ∙ r))
+rises-from-one x (fin s zero e) F h r = absurd (false≢true (sym (zero-stays s e x) ∙ r))
+rises-from-one x (fin false (suc m) e) F h r = unfold lt ofBits in lt-ltb (0 * down e) (suc m * up e * 1) (some-size m (up e) (down e) (up-pos e))
+rises-from-one nan (fin true (suc m) e) F h r = absurd (false≢true (unfold le lt eq ofBits in h))
+rises-from-one (inf true) (fin true (suc m) e) F h r = absurd (false≢true (unfold le lt eq ofBits in h))
+rises-from-one (inf false) (fin true (suc m) e) F h r = absurd (false≢true (sym (falls (eqb (suc m) 0)) ∙ unfold mul in r))
+  where
+    falls : (b : Bool) → lt (fin true (suc m) e) (cond b nan (inf true)) ≡ false
+    falls true = unfold lt in refl
+    falls false = unfold lt in refl
+rises-from-one (fin true n d) (fin true (suc m) e) F h r = absurd (false≢true (unfold lt ofBits in one-above-zero (fin true n d) h))
+rises-from-one (fin false n d) (fin true (suc m) e) F h r = absurd (false≢true (sym (no-rise (suc m) e n d F (at-least-one n d h)) ∙ r))
+
+-- where x is above 0 and at most 1, v is negative
+pub rises-to-one : (x v : Float) → T (fits binary64 v) → lt nought x ≡ true → le x one ≡ true → lt v (mul binary64 v x) ≡ true → lt v nought ≡ true
+rises-to-one x nan F p h r = absurd (false≢true (unfold mul lt in r))
+rises-to-one x (inf s) F p h r = absurd (false≢true (sym (inf-stays s x p) ∙ r))
+rises-to-one x (fin s zero e) F p h r = absurd (false≢true (sym (zero-stays s e x) ∙ r))
+rises-to-one x (fin true (suc m) e) F p h r = unfold lt ofBits in lt-ltb 0 (suc m * up e * 1 + 0 * down e) (under (suc m * up e * 1) (down e) (some-size m (up e) (down e) (up-pos e)))
+  where
+    under : (n d : ℕ) → 0 * d < n → 0 < n + 0 * d
+    under n d h = omega arith
+rises-to-one nan (fin false (suc m) e) F p h r = absurd (false≢true (unfold lt ofBits in p))
+rises-to-one (inf true) (fin false (suc m) e) F p h r = absurd (false≢true (unfold lt ofBits in p))
+rises-to-one (inf false) (fin false (suc m) e) F p h r = absurd (false≢true (unfold le lt eq ofBits in h))
+rises-to-one (fin true n d) (fin false (suc m) e) F p h r = absurd (false≢true (unfold lt ofBits in p))
+rises-to-one (fin false n d) (fin false (suc m) e) F p h r = absurd (false≢true (sym (no-growth (suc m) e n d F (at-most-one n d h)) ∙ r))
