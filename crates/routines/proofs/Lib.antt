@@ -6,6 +6,7 @@ pub mod Sizes
 pub mod Ranges
 pub mod Exact
 pub mod Special
+pub mod Poles
 pub mod Orders
 pub mod Shapes
 pub mod ShapesExpm1
