@@ -5,6 +5,7 @@ pub mod Saturates
 pub mod Sizes
 pub mod Ranges
 pub mod Exact
+pub mod AnnexF
 pub mod Special
 pub mod Poles
 pub mod Orders
