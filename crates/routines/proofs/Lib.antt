@@ -16,3 +16,4 @@ pub mod Products
 pub mod Rows
 pub mod Patterns
 pub mod Powers
+pub mod Logs

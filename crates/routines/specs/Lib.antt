@@ -5,6 +5,7 @@ pub mod Whole
 pub mod Held
 pub mod Exp
 pub mod LnTable
+pub mod Logs
 pub mod Ln
 pub mod Expm1
 pub mod Lgamma
