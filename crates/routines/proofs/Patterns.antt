@@ -1,13 +1,14 @@
 -- Which patterns are no NaN's, and which values are no NaN: what `f64::from_bits` and `f64::to_bits` ask. Assumes nothing.
 use mathlib.Core.Path.{_≡_, refl, sym, ap, _∙_, subst}
-use mathlib.Core.Bool.{Bool, true, false, not, cond, false≢true}
+use mathlib.Core.Bool.{Bool, true, false, not, cond, true≢false, false≢true}
 use Prim.Native.Nat.{ℕ, zero, suc, _+_, _*_, _/_, _%_, _^_, _≤_}
 use native.Mathlib.Omega.{arith}
 use borrow.Author.Tests.{le-ltb}
 use lib.Dec.{T, ltb}
 use lib.IntN.{ℤ, pos}
 use lib.Count.{trailingZeros}
-use lib.Ieee.{Float, nan, inf, fin, Format, binary64, prec, emax, low, minus, odd, units, round, unlike, up, down, mul, ofBits, nanBits, isNan, le, lt}
+use lib.Ieee.{Float, nan, inf, fin, Format, binary64, prec, emax, low, minus, odd, units, round, unlike, up, down, mul, ofBits, nanBits, isNan, le, lt, ne}
+use lib.Ieee.Compare.{nan-differs}
 use lib.Ieee.Fits.{round-is}
 use lib.Ieee.Bits.{nanBits-above}
 use Rattle.routines.proofs.Tests.{no}
@@ -54,3 +55,10 @@ unfolding lt ofBits mul isNan
 positive-times nan h = absurd (false≢true h)
 positive-times (inf s) h = tt
 positive-times (fin s m e) h = round-no-nan binary64 (unlike s false) (m * up e * (1 * 2 ^ 54)) (down e * 1)
+
+-- what `x != x` found false
+pub equal-no-nan : (x : Float) → ne x x ≡ false → T (not (isNan x))
+unfolding isNan
+equal-no-nan nan h = absurd (true≢false (sym nan-differs ∙ h))
+equal-no-nan (inf s) h = tt
+equal-no-nan (fin s m e) h = tt

@@ -1,5 +1,6 @@
 pub mod Pick
 pub mod Tables
+pub mod Starts
 pub mod Powers
 pub mod Whole
 pub mod Held
@@ -10,3 +11,4 @@ pub mod Ln
 pub mod Expm1
 pub mod Lgamma
 pub mod Signs
+pub mod Units

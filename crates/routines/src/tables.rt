@@ -1,6 +1,7 @@
 // The constant tables: the powers of two that exp and expm1 start from, and the error starts.
 ghost use mathlib.Core.Path.{_≡_};
 ghost use Prim.Native.Nat.{_%_};
+ghost use Rattle.routines.specs.Starts.{paretoStarts, weibullStarts};
 ghost use Rattle.routines.specs.Tables.{powerOf};
 
 // 2^(i/32) in two parts: the nearest `f64`, and what is left of it over that, again the nearest `f64`.
@@ -144,4 +145,21 @@ pub fn power_at(i: u64) -> Power
             rest: 4.5784915277060095e-17,
         },
     }
+}
+
+// The error starts, rows of three: tail exponent, singleton probability, shape. Pareto has no shape: its 0 is not read.
+const PARETO: [f64; 6] = [1.5, 0.8, 0.0, 2.5, 0.95, 0.0];
+
+const WEIBULL: [f64; 9] = [1.5, 0.8, 0.05, 2.5, 0.9, 0.5, 2.0, 0.95, 1.0];
+
+pub fn pareto_starts() -> [f64; 6]
+    ensures { λ r. ⌜ r ≡ paretoStarts ⌝ }
+{
+    PARETO
+}
+
+pub fn weibull_starts() -> [f64; 9]
+    ensures { λ r. ⌜ r ≡ weibullStarts ⌝ }
+{
+    WEIBULL
 }

@@ -1,0 +1,13 @@
+-- `routines::tables::weibull_starts` meets its contract. Assumes nothing.
+use mathlib.Core.Path.{refl}
+use lib.Ieee.{ofBits, round}
+use Rattle.routines.specs.Starts.{weibullStarts}
+use Rattle.routines.proofs.tables.weibull_starts.Statement.{statement}
+use Rattle.routines.proofs.tables.weibull_starts.Tie as tie
+
+returns : tie.Need-returns
+unfolding weibullStarts ofBits round
+returns c = refl
+
+pub weibull-starts-spec : {M : Type 1} → statement M
+weibull-starts-spec = tie.close (tie.spec returns)
