@@ -23,3 +23,4 @@ pub mod Values
 pub mod Compared
 pub mod RunningSum
 pub mod Sums
+pub mod Levels

@@ -125,16 +125,19 @@ module _ (m : ℕ) (e : ℤ) (n : ℕ) (d : ℤ) where
           (λ (t : T (le (inf false) x0)). absurd (finite-below m e x0 (own-size false m e F) (inf false) t refl))
           (λ (k : ℕ) (g : ℤ) (t : T (le (fin false k g) x0)). unfold lt in le-ltb (m * up e * down g) (k * up g * down e) (down-to m e x0 (own-size false m e F) (fin false k g) t k g refl))
 
--- ---- a zero times anything finite
-zero-product : (s : Bool) (u b c : ℕ) → 0 < c → round binary64 s (0 * u * b) c ≡ fin s 0 (pos 0)
-zero-product s u b c C = round-same binary64 s (0 * u * b) c 0 1 C (zero-lt-suc 0) (flat u b c) ∙ at-zero s
+-- ---- a zero, and a zero times anything finite
+pub zero-rounds : (s : Bool) (n c : ℕ) → 0 < c → n ≡ 0 → round binary64 s n c ≡ fin s 0 (pos 0)
+zero-rounds s n c C z = round-same binary64 s n c 0 1 C (zero-lt-suc 0) (ap (λ (k : ℕ). k * 1) z ∙ sym (zero-mul c)) ∙ at-zero s
   where
-    flat : (u b c : ℕ) → 0 * u * b * 1 ≡ 0 * c
-    flat u b c = omega arith
-
     at-zero : (s : Bool) → round binary64 s 0 1 ≡ fin s 0 (pos 0)
     at-zero true = unfold round in refl
     at-zero false = unfold round in refl
+
+zero-product : (s : Bool) (u b c : ℕ) → 0 < c → round binary64 s (0 * u * b) c ≡ fin s 0 (pos 0)
+zero-product s u b c C = zero-rounds s (0 * u * b) c C (flat u b)
+  where
+    flat : (u b : ℕ) → 0 * u * b ≡ 0
+    flat u b = omega arith
 
 pub zero-stays : (s : Bool) (e : ℤ) (x : Float) → lt (fin s 0 e) (mul binary64 (fin s 0 e) x) ≡ false
 unfolding mul lt

@@ -12,3 +12,4 @@ pub mod Expm1
 pub mod Lgamma
 pub mod Signs
 pub mod Units
+pub mod Ops
