@@ -1,0 +1,48 @@
+-- `helpers::log_sums::lse2` meets its contract. Assumes nothing.
+use mathlib.Core.Path.{sym, _∙_}
+use Rattle.helpers.specs.LogSums.{lse2Of}
+use borrow.Author.Needs.{needs}
+use Rattle.helpers.proofs.log_sums.lse2.Statement.{statement}
+use Rattle.helpers.proofs.log_sums.lse2.Tie as tie
+
+max-requires : tie.Need-max-requires
+max-requires c κs = search needs
+
+is-finite-requires : tie.Need-is-finite-requires
+is-finite-requires c κs = search needs
+
+weight-requires : tie.Need-weight-requires
+weight-requires c κs = search needs
+
+weight-requires-2 : tie.Need-weight-requires-2
+weight-requires-2 c κs = search needs
+
+ln-requires : tie.Need-ln-requires
+ln-requires c κs = search needs
+
+returns : tie.Need-returns
+unfolding lse2Of
+returns c = 
+    let test = c .before .before .before in
+    let most = sym (test .before .before .max .ensures) in
+    let known = sym (test .before .is-finite .ensures) ∙ test .if1 .taken in
+    rw (most, known) (rw (c .ln .ensures, c .before .weight2 .ensures, c .before .before .weight .ensures))
+
+returns-2 : tie.Need-returns-2
+unfolding lse2Of
+returns-2 c = 
+    let most = sym (c .before .before .max .ensures) in
+    let known = sym (c .before .is-finite .ensures) ∙ c .if1 .left in
+    rw (most, known)
+
+pub lse2-spec : {M : Type 1} → statement M
+lse2-spec =
+    tie.close
+    (tie.spec
+    max-requires
+    is-finite-requires
+    weight-requires
+    weight-requires-2
+    ln-requires
+    returns
+    returns-2)

@@ -1,0 +1,11 @@
+// The answers of calls that can refuse: a value, or the number that comes back instead.
+pub enum Number {
+    Value(f64),
+    Refused(u8),
+}
+
+// How many entries were written.
+pub enum Written {
+    Items(usize),
+    Refused(u8),
+}
