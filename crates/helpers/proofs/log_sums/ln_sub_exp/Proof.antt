@@ -25,7 +25,7 @@ ln-requires c κs = search needs
 
 returns-4 : tie.Need-returns-4
 unfolding lnSubExpOf div neg ofBits
-returns-4 c = 
+returns-4 c =
     let test = c .before .before in
     rw (test .before .before .if1 .left, test .before .if2 .left, test .if3 .left) (rw (c .ln .ensures, c .before .expm1 .ensures))
 

@@ -22,7 +22,7 @@ ln-requires c κs = search needs
 
 returns : tie.Need-returns
 unfolding lse2Of
-returns c = 
+returns c =
     let test = c .before .before .before in
     let most = sym (test .before .before .max .ensures) in
     let known = sym (test .before .is-finite .ensures) ∙ test .if1 .taken in
@@ -30,7 +30,7 @@ returns c =
 
 returns-2 : tie.Need-returns-2
 unfolding lse2Of
-returns-2 c = 
+returns-2 c =
     let most = sym (c .before .before .max .ensures) in
     let known = sym (c .before .is-finite .ensures) ∙ c .if1 .left in
     rw (most, known)

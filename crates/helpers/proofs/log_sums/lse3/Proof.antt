@@ -28,7 +28,7 @@ ln-requires c κs = search needs
 
 returns : tie.Need-returns
 unfolding lse3Of
-returns c = 
+returns c =
     let test = c .before .before .before .before in
     let two = test .before .before in
     let first = sym (two .before .max .ensures) in
@@ -38,7 +38,7 @@ returns c =
 
 returns-2 : tie.Need-returns-2
 unfolding lse3Of
-returns-2 c = 
+returns-2 c =
     let two = c .before .before in
     let first = sym (two .before .max .ensures) in
     let most = sym (two .max2 .ensures) in
