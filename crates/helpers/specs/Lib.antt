@@ -1,1 +1,4 @@
 pub mod LogSums
+pub mod Lobes
+pub mod Answers
+pub mod Shelves

@@ -2,3 +2,4 @@
 pub mod Replies
 pub mod Folds
 pub mod Rules
+pub mod Overs

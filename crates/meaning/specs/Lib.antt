@@ -1,3 +1,4 @@
 pub mod Reply
 pub mod Fold
 pub mod Table
+pub mod Over

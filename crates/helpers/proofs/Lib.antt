@@ -1,0 +1,3 @@
+-- Laws of this layer, for its functions and for the crates above.
+pub mod Densities
+pub mod Tables

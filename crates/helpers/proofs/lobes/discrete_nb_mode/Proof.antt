@@ -1,0 +1,44 @@
+-- `helpers::lobes::discrete_nb_mode` meets its contract. Assumes nothing.
+use mathlib.Core.Path.{sym, _∙_}
+use Rattle.helpers.specs.Lobes.{discreteNbModeOf}
+use borrow.Author.Needs.{needs}
+use Rattle.helpers.proofs.lobes.discrete_nb_mode.Statement.{statement}
+use Rattle.helpers.proofs.lobes.discrete_nb_mode.Tie as tie
+
+is-finite-requires : tie.Need-is-finite-requires
+is-finite-requires c κs = search needs
+
+floor-requires : tie.Need-floor-requires
+floor-requires c κs = search needs
+
+min-requires : tie.Need-min-requires
+min-requires c κs = search needs
+
+to-u64-requires : tie.Need-to-u64-requires
+to-u64-requires c κs = search needs
+
+returns : tie.Need-returns
+unfolding discreteNbModeOf
+returns c =
+    let test = c .before .before .before in
+    rw (sym (test .before .before .is-finite .ensures) ∙ test .before .if1 .taken, test .if2 .taken) (rw (c .to-u64 .ensures, c .before .min .ensures, c .before .before .floor .ensures))
+
+returns-2 : tie.Need-returns-2
+unfolding discreteNbModeOf
+returns-2 c = rw (sym (c .before .before .is-finite .ensures) ∙ c .before .if1 .taken, c .if2 .left)
+
+returns-3 : tie.Need-returns-3
+unfolding discreteNbModeOf
+returns-3 c = rw (sym (c .before .is-finite .ensures) ∙ c .if1 .left)
+
+pub discrete-nb-mode-spec : {M : Type 1} → statement M
+discrete-nb-mode-spec =
+    tie.close
+    (tie.spec
+    is-finite-requires
+    floor-requires
+    min-requires
+    to-u64-requires
+    returns
+    returns-2
+    returns-3)

@@ -1,0 +1,38 @@
+-- `helpers::shelves::last_entry` meets its contract: the second arm is never taken. Assumes nothing.
+use mathlib.Core.Path.{_≡_}
+use Prim.Native.Nat.{_≤_}
+use native.Mathlib.Omega.{arith}
+use Rattle.helpers.specs.Shelves.{lastOf}
+use Rattle.helpers.proofs.Tables.{last-few}
+use borrow.Author.Needs.{needs}
+use Rattle.helpers.proofs.shelves.last_entry.Statement.{statement}
+use Rattle.helpers.proofs.shelves.last_entry.Tie as tie
+
+int-to-float-min : tie.Need-int-to-float-min
+int-to-float-min c = search needs
+
+min-requires : tie.Need-min-requires
+min-requires c κs = search needs
+
+to-u64-requires : tie.Need-to-u64-requires
+to-u64-requires c κs = search needs
+
+cast-result : tie.Need-cast-result
+cast-result c = search needs
+
+returns : tie.Need-returns
+unfolding lastOf
+returns c = rw (c .before .to-u64 .ensures, c .before .before .min .ensures)
+
+returns-2 : tie.Need-returns-2
+unfolding lastOf
+returns-2 c =
+    let args = c .before .before .before .before .args in
+    let few : lastOf (args .trials) (args .top) ≤ args .top = last-few (args .trials) (args .top) (omega arith) in
+    let cut : c .before .to-u64 .result ≡ lastOf (args .trials) (args .top) = rw (c .before .to-u64 .ensures, c .before .before .min .ensures) in
+    omega (arith, c .if1 .left)
+
+pub last-entry-spec : {M : Type 1} → statement M
+last-entry-spec =
+    tie.close
+    (tie.spec int-to-float-min min-requires to-u64-requires cast-result returns returns-2)

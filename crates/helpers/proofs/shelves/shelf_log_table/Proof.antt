@@ -1,0 +1,95 @@
+-- `helpers::shelves::shelf_log_table` meets its contract: each `return` is what the chain answers where the tests are as found. Assumes nothing.
+use mathlib.Core.Path.{_≡_, sym, ap, _∙_}
+use Prim.Native.Nat.{ℕ, _+_}
+use native.Mathlib.Numerals.{add-one}
+use borrow.Author.Tests.{lt-ltb, le-ltb, eq-eqb, ne-eqb, le-leb, lt-leb}
+use lib.ListN.{length}
+use lib.Ieee.{Float}
+use Rattle.meaning.specs.Reply.{Reply, refuse, give}
+use Rattle.helpers.specs.Shelves.{shelfLogTableOf, shelfTrialsOf, lastOf}
+use Rattle.helpers.proofs.Tables.{table-refused, table-given}
+use borrow.Author.Needs.{needs}
+use Rattle.helpers.proofs.shelves.shelf_log_table.Statement.{statement}
+use Rattle.helpers.proofs.shelves.shelf_log_table.Tie as tie
+
+said : (c : tie.Then1) → refuse 2 ≡ shelfLogTableOf (c .before .before .args .mean) (c .before .before .args .top) (length (c .before .before .args .table .now))
+unfolding shelfLogTableOf
+said c = simp (lt-ltb _ _ (c .if1 .taken))
+
+said-2 : (c : tie.Then2) → refuse 5 ≡ shelfLogTableOf (c .before .before .before .args .mean) (c .before .before .before .args .top) (length (c .before .before .before .args .table .now))
+unfolding shelfLogTableOf
+said-2 c = simp (le-ltb _ _ (c .before .if1 .left), eq-eqb _ _ (c .if2 .taken))
+
+-- where neither refused: the arguments, and the last entry's number
+abbrev start : tie.After-last-entry → tie.Start
+start c = c .before .before .before .before .before
+
+last-is : (c : tie.After-last-entry) → c .last-entry .result ≡ lastOf (shelfTrialsOf (start c .args .mean)) (start c .args .top)
+last-is c = c .last-entry .ensures ∙ ap (λ (t : Float). lastOf t (start c .args .top)) (c .before .shelf-trials .ensures)
+
+said-3 : (c : tie.Then3) → refuse 10 ≡ shelfLogTableOf (start (c .before) .args .mean) (start (c .before) .args .top) (length (start (c .before) .args .table .now))
+unfolding shelfLogTableOf
+said-3 c =
+    let tests = c .before .before .before in
+    simp (le-ltb _ _ (tests .before .if1 .left), ne-eqb _ _ (tests .if2 .left), sym (last-is (c .before)), le-leb _ _ (c .if3 .taken))
+
+said-4 : (c : tie.Else3) → give (c .before .last-entry .result + 1) ≡ shelfLogTableOf (start (c .before) .args .mean) (start (c .before) .args .top) (length (start (c .before) .args .table .now))
+unfolding shelfLogTableOf
+said-4 c =
+    let tests = c .before .before .before in
+    simp (le-ltb _ _ (tests .before .if1 .left), ne-eqb _ _ (tests .if2 .left), sym (last-is (c .before)), lt-leb _ _ (c .if3 .left), add-one)
+
+returns : tie.Need-returns
+returns c = (said c, table-refused _ _ _ _ 2 (said c))
+
+returns-2 : tie.Need-returns-2
+returns-2 c = (said-2 c, table-refused _ _ _ _ 5 (said-2 c))
+
+shelf-trials-requires : tie.Need-shelf-trials-requires
+shelf-trials-requires c κs = search needs
+
+cast-last-entry : tie.Need-cast-last-entry
+cast-last-entry c = search needs
+
+last-entry-requires : tie.Need-last-entry-requires
+last-entry-requires c κs = search needs
+
+cast-if3 : tie.Need-cast-if3
+cast-if3 c = search needs
+
+returns-3 : tie.Need-returns-3
+returns-3 c = (said-3 c, table-refused _ _ _ _ 10 (said-3 c))
+
+write-table-requires : tie.Need-write-table-requires
+write-table-requires c κs = search needs
+
+cast-t9 : tie.Need-cast-t9
+cast-t9 c = search needs
+
+add-t10 : tie.Need-add-t10
+add-t10 c = search needs
+
+same-length : tie.Need-same-length
+same-length c = search needs
+
+returns-4 : tie.Need-returns-4
+returns-4 c =
+    let left = c .before .before .before .before in
+    (said-4 left, c .before .before .write-table .ensures ∙ rw (left .before .before .shelf-trials .ensures, last-is (left .before)) (table-given _ _ _ _ _ (said-4 left)))
+
+pub shelf-log-table-spec : {M : Type 1} → statement M
+shelf-log-table-spec =
+    tie.close
+    (tie.spec
+    returns
+    returns-2
+    shelf-trials-requires
+    cast-last-entry
+    last-entry-requires
+    cast-if3
+    returns-3
+    write-table-requires
+    cast-t9
+    add-t10
+    same-length
+    returns-4)

@@ -1,0 +1,95 @@
+-- `helpers::shelves::write_table` meets its contract. The loop's invariant: the first x entries are written, and `entry` is entry x. Assumes nothing.
+use borrow.Author.Needs.{needs}
+use mathlib.Core.Path.{_≡_, refl, ap, _∙_}
+use Prim.Native.Nat.{ℕ, _-_, _≤_, _<_, zero-le}
+use native.Mathlib.Omega.{arith}
+use lib.ListN.{length, length-set}
+use lib.Ieee.{Float}
+use Rattle.meaning.specs.Over.{over}
+use Rattle.routines.specs.Ops.{_⊕_}
+use Rattle.helpers.specs.Shelves.{tableOf, entryOf}
+use Rattle.helpers.proofs.Tables.{entry-first, entry-more, table-none, table-more}
+use Rattle.helpers.proofs.shelves.write_table.Statement.{statement}
+use Rattle.helpers.proofs.shelves.write_table.Tie as tie
+
+abbrev Inv-loop : tie.InvT-loop
+Inv-loop trials alpha beta last table₀ entry₀ x₀ table entry x =
+    (x ≤ last) × (length table ≡ length table₀) × (last < length table₀) × (entry ≡ entryOf trials alpha beta x) × (table ≡ over (tableOf trials alpha beta x) table₀)
+
+abbrev μ-loop : tie.MeasureT-loop
+μ-loop trials alpha beta last table₀ entry₀ x₀ table entry x = last - x
+
+table-start-requires : tie.Need-table-start-requires Inv-loop μ-loop
+table-start-requires c κs = search needs
+
+loop-holds : tie.Need-loop-holds Inv-loop μ-loop
+loop-holds c = (zero-le, refl, c .before .before .pre, c .table-start .ensures ∙ entry-first _ _ _, table-none _ _ _ _)
+
+cast-table : tie.Need-cast-table Inv-loop μ-loop
+cast-table c = search needs
+
+mul-table : tie.Need-mul-table Inv-loop μ-loop
+mul-table c = search needs
+
+slice-write-table : tie.Need-slice-write-table Inv-loop μ-loop
+slice-write-table c = omega arith
+
+int-to-float-table-step : tie.Need-int-to-float-table-step Inv-loop μ-loop
+int-to-float-table-step c = search needs
+
+table-step-requires : tie.Need-table-step-requires Inv-loop μ-loop
+table-step-requires c κs = search needs
+
+add-x : tie.Need-add-x Inv-loop μ-loop
+add-x c = omega arith
+
+loop-less : tie.Need-loop-less Inv-loop μ-loop
+loop-less c = omega arith
+
+loop-again : tie.Need-loop-again Inv-loop μ-loop
+loop-again c =
+    let inv = c .before .before .before .loop .inv in (
+      omega arith,
+      simp length-set (inv .1),
+      inv .2,
+      rw (c .table-step .ensures, inv .3) (entry-more _ _ _ _),
+      table-more _ _ _ _ _ _ _ (inv .4) (omega arith) (inv .3),
+    )
+
+mul-table-2 : tie.Need-mul-table-2 Inv-loop μ-loop
+mul-table-2 c = search needs
+
+slice-write-table-2 : tie.Need-slice-write-table-2 Inv-loop μ-loop
+slice-write-table-2 c = omega arith
+
+same-length : tie.Need-same-length Inv-loop μ-loop
+same-length c = search needs
+
+returns : tie.Need-returns Inv-loop μ-loop
+returns c =
+    let inv = c .before .loop .inv in
+    let a = c .before .before .before .before .args in
+    let done : c .before .loop .x ≡ a .last = omega arith in
+    table-more (a .trials) (a .alpha) (a .beta) (a .last) (a .table .now) (c .before .loop .table) (c .before .loop .entry)
+    (inv .4 ∙ ap (λ (k : ℕ). over (tableOf (a .trials) (a .alpha) (a .beta) k) (a .table .now)) done) (inv .2) (inv .3 ∙ ap (entryOf (a .trials) (a .alpha) (a .beta)) done)
+
+pub write-table-spec : {M : Type 1} → statement M
+write-table-spec =
+    tie.close
+    (tie.spec
+    Inv-loop
+    μ-loop
+    table-start-requires
+    loop-holds
+    cast-table
+    mul-table
+    slice-write-table
+    int-to-float-table-step
+    table-step-requires
+    add-x
+    loop-less
+    loop-again
+    mul-table-2
+    slice-write-table-2
+    same-length
+    returns)

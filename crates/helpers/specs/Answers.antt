@@ -1,0 +1,18 @@
+-- What each answer says: its number and its value. The maps are injective (proofs/Says.antt). Definitions only. Assumes nothing.
+use Prim.Native.Nat.{ℕ}
+use lib.Ieee.{Float}
+use Rattle.meaning.specs.Reply.{Reply, refuse, give}
+use Rattle.helpers.specs.declared.answers.Number.{Number}
+use Rattle.helpers.specs.declared.answers.Number.the-variants.{Value}
+use Rattle.helpers.specs.declared.answers.Number.the-variants as number
+use Rattle.helpers.specs.declared.answers.Written.{Written}
+use Rattle.helpers.specs.declared.answers.Written.the-variants.{Items}
+use Rattle.helpers.specs.declared.answers.Written.the-variants as written
+
+abbrev pub numberSays : Number → Reply Float
+numberSays (Value x) = give x
+numberSays (number.Refused n) = refuse n
+
+abbrev pub writtenSays : Written → Reply ℕ
+writtenSays (Items n) = give n
+writtenSays (written.Refused n) = refuse n

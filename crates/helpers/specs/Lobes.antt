@@ -1,0 +1,59 @@
+-- Poisson and negative binomial, as math_helpers.rs has them, operation by operation. Definitions only. Assumes nothing.
+use Prim.Native.Nat.{ℕ}
+use mathlib.Core.Bool.{Bool, true, false, _&&_, cond}
+use lib.Ieee.{Float, binary64, ofBits, neg, lt, le, toUnsigned}
+use lib.Ieee.Scale.{finite}
+use Rattle.routines.specs.Exp.{zero, one}
+use Rattle.routines.specs.Lgamma.{lgammaOf}
+use Rattle.routines.specs.Ln.{lnOf}
+use Rattle.routines.specs.Ops.{_⊕_, _⊖_, _⊗_, _⊘_}
+use Rattle.routines.specs.Pick.{minOf}
+use Rattle.routines.specs.Whole.{floorOf}
+use Rattle.helpers.specs.declared.lobes.Lobe.{Lobe}
+
+-- 1.0 + 1e-9
+abbrev pub nearlyPoisson : Float
+nearlyPoisson = ofBits binary64 0x3ff000000044b830
+
+unfoldable pub lnDpoisOf : Float → Float → Float
+lnDpoisOf x lambda = x ⊗ lnOf lambda ⊖ lgammaOf (x ⊕ one) ⊖ lambda
+
+-- r = mean / (dispersion - 1)
+abbrev pub sizeOf : Float → Float → Float
+sizeOf mean dispersion = mean ⊘ (dispersion ⊖ one)
+
+-- ln(1 - 1 / dispersion)
+abbrev pub logQOf : Float → Float
+logQOf dispersion = lnOf (one ⊖ one ⊘ dispersion)
+
+unfoldable pub lnDnbinomOf : Float → Float → Float → Float
+lnDnbinomOf x mean dispersion =
+    cond (le dispersion nearlyPoisson) (lnDpoisOf x mean)
+    (let r = sizeOf mean dispersion in
+    lgammaOf (x ⊕ r) ⊖ lgammaOf (x ⊕ one) ⊖ lgammaOf r ⊕ r ⊗ neg (lnOf dispersion) ⊕ x ⊗ logQOf dispersion)
+
+-- ---- the same density with what does not change with x worked out before (`density-is` in proofs/Densities.antt)
+abbrev pub poissonOf : Float → Lobe
+poissonOf mean = record { poisson = true; mean = mean; rate = lnOf mean; size = zero; gamma = zero; start = zero; slope = zero }
+
+abbrev pub binomialOf : Float → Float → Lobe
+binomialOf mean dispersion =
+    let r = sizeOf mean dispersion in
+    record { poisson = false; mean = mean; rate = zero; size = r; gamma = lgammaOf r; start = r ⊗ neg (lnOf dispersion); slope = logQOf dispersion }
+
+unfoldable pub lobeOf : Float → Float → Lobe
+lobeOf mean dispersion = cond (le dispersion nearlyPoisson) (poissonOf mean) (binomialOf mean dispersion)
+
+unfoldable pub densityOf : Lobe → Float → Float
+densityOf l x =
+    cond (l .poisson) (x ⊗ l .rate ⊖ lgammaOf (x ⊕ one) ⊖ l .mean)
+    (lgammaOf (x ⊕ l .size) ⊖ lgammaOf (x ⊕ one) ⊖ l .gamma ⊕ l .start ⊕ x ⊗ l .slope)
+
+-- 2^64: Rust's usize::MAX as f64
+abbrev pub two64 : Float
+two64 = ofBits binary64 0x43f0000000000000
+
+unfoldable pub discreteNbModeOf : Float → Float → ℕ
+discreteNbModeOf mean dispersion =
+    let mode = mean ⊖ (dispersion ⊖ one) in
+    cond (finite mode && lt zero mode) (toUnsigned 64 (minOf (floorOf mode) two64)) 0
