@@ -1,3 +1,4 @@
 -- Laws of this layer, for its functions and for the crates above.
 pub mod Densities
 pub mod Tables
+pub mod Recurrences

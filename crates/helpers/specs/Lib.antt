@@ -2,3 +2,4 @@ pub mod LogSums
 pub mod Lobes
 pub mod Answers
 pub mod Shelves
+pub mod Masses

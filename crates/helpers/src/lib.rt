@@ -2,4 +2,5 @@
 pub mod answers;
 pub mod lobes;
 pub mod log_sums;
+pub mod masses;
 pub mod shelves;

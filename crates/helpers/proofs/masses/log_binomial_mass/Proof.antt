@@ -1,0 +1,68 @@
+-- `helpers::masses::log_binomial_mass` meets its contract. Assumes nothing.
+use borrow.Author.Needs.{needs}
+use mathlib.Core.Path.{_≡_, refl}
+use Prim.Native.Nat.{_+_, _-_}
+use native.Mathlib.Omega.{arith}
+use lib.Ieee.{div, neg, ofBits}
+use Rattle.routines.specs.Exp.{one}
+use Rattle.helpers.specs.Lobes.{lnDnbinomOf, sizeOf, logQOf}
+use Rattle.helpers.specs.Masses.{binomialMassOf, binomialRatio}
+use Rattle.helpers.proofs.Recurrences.{Summed, begins, goes-on, ends}
+use Rattle.helpers.proofs.masses.log_binomial_mass.Statement.{statement}
+use Rattle.helpers.proofs.masses.log_binomial_mass.Tie as tie
+
+abbrev Inv-loop : tie.InvT-loop
+Inv-loop mean dispersion top r log-q total₀ term₀ count₀ total term count =
+    (r ≡ sizeOf mean dispersion) × (log-q ≡ logQOf dispersion) × Summed (binomialRatio mean dispersion) (lnDnbinomOf one mean dispersion) top total term count
+
+abbrev μ-loop : tie.MeasureT-loop
+μ-loop mean dispersion top r log-q total₀ term₀ count₀ total term count = top + 1 - count
+
+ln-requires : tie.Need-ln-requires Inv-loop μ-loop
+ln-requires c κs = search needs
+
+ln-dnbinom-requires : tie.Need-ln-dnbinom-requires Inv-loop μ-loop
+ln-dnbinom-requires c κs = search needs
+
+loop-holds : tie.Need-loop-holds Inv-loop μ-loop
+loop-holds c = (refl, c .before .ln .ensures, begins _ _ _ _ _ (unfold div neg ofBits in refl) (c .ln-dnbinom .ensures))
+
+lse2-requires : tie.Need-lse2-requires Inv-loop μ-loop
+lse2-requires c κs = search needs
+
+int-to-float-ln : tie.Need-int-to-float-ln Inv-loop μ-loop
+int-to-float-ln c = search needs
+
+ln-requires-2 : tie.Need-ln-requires-2 Inv-loop μ-loop
+ln-requires-2 c κs = search needs
+
+add-ln : tie.Need-add-ln Inv-loop μ-loop
+add-ln c = omega arith
+
+int-to-float-ln-2 : tie.Need-int-to-float-ln-2 Inv-loop μ-loop
+int-to-float-ln-2 c = search needs
+
+ln-requires-3 : tie.Need-ln-requires-3 Inv-loop μ-loop
+ln-requires-3 c κs = search needs
+
+add-count : tie.Need-add-count Inv-loop μ-loop
+add-count c = omega arith
+
+loop-less : tie.Need-loop-less Inv-loop μ-loop
+loop-less c = omega arith
+
+loop-again : tie.Need-loop-again Inv-loop μ-loop
+loop-again c =
+    let second = c .before .before in
+    let summed = second .before .before in
+    let inv = summed .before .before .loop .inv in
+    (inv .0, inv .1, goes-on _ _ _ (inv .2) _ _ (omega arith) (summed .lse2 .ensures) (rw (c .ln3 .ensures, second .ln2 .ensures, inv .0, inv .1)))
+
+returns : tie.Need-returns Inv-loop μ-loop
+unfolding binomialMassOf
+returns c = ends _ _ _ (c .before .loop .inv .2) (omega arith)
+
+pub log-binomial-mass-spec : {M : Type 1} → statement M
+log-binomial-mass-spec =
+    tie.close
+    (tie.spec Inv-loop μ-loop ln-requires ln-dnbinom-requires loop-holds lse2-requires int-to-float-ln ln-requires-2 add-ln int-to-float-ln-2 ln-requires-3 add-count loop-less loop-again returns)

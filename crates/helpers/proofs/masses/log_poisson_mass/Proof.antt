@@ -1,0 +1,61 @@
+-- `helpers::masses::log_poisson_mass` meets its contract. Assumes nothing.
+use borrow.Author.Needs.{needs}
+use mathlib.Core.Path.{_≡_, refl}
+use Prim.Native.Nat.{_+_, _-_}
+use native.Mathlib.Omega.{arith}
+use lib.Ieee.{div, neg, ofBits}
+use Rattle.routines.specs.Exp.{one}
+use Rattle.routines.specs.Ln.{lnOf}
+use Rattle.helpers.specs.Lobes.{lnDpoisOf}
+use Rattle.helpers.specs.Masses.{poissonMassOf, poissonRatio}
+use Rattle.helpers.proofs.Recurrences.{Summed, begins, goes-on, ends}
+use Rattle.helpers.proofs.masses.log_poisson_mass.Statement.{statement}
+use Rattle.helpers.proofs.masses.log_poisson_mass.Tie as tie
+
+abbrev Inv-loop : tie.InvT-loop
+Inv-loop mean top log-mean total₀ term₀ count₀ total term count = (log-mean ≡ lnOf mean) × Summed (poissonRatio mean) (lnDpoisOf one mean) top total term count
+
+abbrev μ-loop : tie.MeasureT-loop
+μ-loop mean top log-mean total₀ term₀ count₀ total term count = top + 1 - count
+
+ln-requires : tie.Need-ln-requires Inv-loop μ-loop
+ln-requires c κs = search needs
+
+ln-dpois-requires : tie.Need-ln-dpois-requires Inv-loop μ-loop
+ln-dpois-requires c κs = search needs
+
+loop-holds : tie.Need-loop-holds Inv-loop μ-loop
+unfolding div neg ofBits
+loop-holds c = (c .before .ln .ensures, begins _ _ _ _ _ refl (c .ln-dpois .ensures))
+
+lse2-requires : tie.Need-lse2-requires Inv-loop μ-loop
+lse2-requires c κs = search needs
+
+add-ln : tie.Need-add-ln Inv-loop μ-loop
+add-ln c = omega arith
+
+int-to-float-ln : tie.Need-int-to-float-ln Inv-loop μ-loop
+int-to-float-ln c = search needs
+
+ln-requires-2 : tie.Need-ln-requires-2 Inv-loop μ-loop
+ln-requires-2 c κs = search needs
+
+add-count : tie.Need-add-count Inv-loop μ-loop
+add-count c = omega arith
+
+loop-less : tie.Need-loop-less Inv-loop μ-loop
+loop-less c = omega arith
+
+loop-again : tie.Need-loop-again Inv-loop μ-loop
+loop-again c =
+    let inv = c .before .before .before .before .loop .inv in
+    (inv .0, goes-on _ _ _ (inv .1) _ _ (omega arith) (c .before .before .lse2 .ensures) (rw (c .ln2 .ensures, inv .0)))
+
+returns : tie.Need-returns Inv-loop μ-loop
+unfolding poissonMassOf
+returns c = ends _ _ _ (c .before .loop .inv .1) (omega arith)
+
+pub log-poisson-mass-spec : {M : Type 1} → statement M
+log-poisson-mass-spec =
+    tie.close
+    (tie.spec Inv-loop μ-loop ln-requires ln-dpois-requires loop-holds lse2-requires add-ln int-to-float-ln ln-requires-2 add-count loop-less loop-again returns)
