@@ -2,3 +2,6 @@
 pub mod Densities
 pub mod Tables
 pub mod Recurrences
+pub mod Corners
+pub mod LogLaws
+pub mod Says
