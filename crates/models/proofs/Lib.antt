@@ -1,0 +1,2 @@
+-- Laws of this layer.
+pub mod Lengths

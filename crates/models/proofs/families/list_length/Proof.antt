@@ -1,0 +1,22 @@
+-- `models::families::list_length` meets its contract. Assumes nothing.
+use native.Mathlib.Omega.{arith}
+use Rattle.models.proofs.Lengths.{count-few, extra-few}
+use borrow.Author.Needs.{needs}
+use Rattle.models.proofs.families.list_length.Statement.{statement}
+use Rattle.models.proofs.families.list_length.Tie as tie
+
+parameter-count-requires : tie.Need-parameter-count-requires
+parameter-count-requires c κs = search needs
+
+extra-parameters-requires : tie.Need-extra-parameters-requires
+extra-parameters-requires c κs = search needs
+
+add-result : tie.Need-add-result
+add-result c = record { fits = omega (arith, c .before .parameter-count .ensures, c .extra-parameters .ensures, count-few (c .before .before .args .error), extra-few (c .before .before .args .genome)) }
+
+returns : tie.Need-returns
+returns c = search needs
+
+pub list-length-spec : {M : Type 1} → statement M
+list-length-spec =
+    tie.close (tie.spec parameter-count-requires extra-parameters-requires add-result returns)

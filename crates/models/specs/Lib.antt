@@ -1,0 +1,4 @@
+pub mod Families
+pub mod Errors
+pub mod Recovery
+pub mod ShelfRules

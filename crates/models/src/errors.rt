@@ -1,0 +1,83 @@
+// The error component. Ported from src/preprocessing/models.rs of bacpop/sparrowhawk-asm, f1f8af1232, Apache-2.0; ported and changed.
+ghost use mathlib.Core.Path.{_≡_};
+ghost use Rattle.helpers.specs.Answers.{numberSays};
+ghost use Rattle.models.specs.Errors.{factorOf, survivalOf, logProbabilityOf, logWindowMassTo, logWindowMassOf};
+use helpers::answers::Number;
+use helpers::log_sums::ln_sub_exp;
+use routines::expm1::expm1;
+use routines::ln::ln;
+
+// The Rust's Option<f64>: a Weibull shape, or none for the Pareto tail. It is never read off a family.
+pub enum ShapePart {
+    Absent,
+    Present(f64),
+}
+
+// Count 1 has the probability `singleton_probability`; from 2 on the tail has survival exp(-l ((x-1)^b - 1)/b), with l the
+// tail exponent and b the shape, and (x-1)^-l without a shape.
+pub struct ErrorParams {
+    pub singleton_probability: f64,
+    pub tail_exponent: f64,
+    pub weibull_shape: ShapePart,
+}
+
+// (e^v - 1) / v for v = shape * offset; 1 at v = 0 and without a shape.
+fn factor(shape: ShapePart, offset: f64) -> f64
+    ensures { λ r. ⌜ r ≡ factorOf shape offset ⌝ }
+{
+    let ShapePart::Present(beta) = shape else {
+        return 1.0;
+    };
+    let value = beta * offset;
+    if value == 0.0 {
+        return 1.0;
+    }
+    expm1(value) / value
+}
+
+impl ErrorParams {
+    // ln of the probability that an error k-mer of count 2 or more reaches `count`.
+    fn log_survival_from_two(self, count: f64) -> f64
+        ensures { λ r. ⌜ r ≡ survivalOf self count ⌝ }
+    {
+        let shape = self.weibull_shape;
+        let log_offset = ln(count - 1.0);
+        -self.tail_exponent * log_offset * factor(shape, log_offset)
+    }
+
+    // ln of the probability of `count`.
+    pub fn log_probability(self, count: f64) -> f64
+        ensures { λ r. ⌜ r ≡ logProbabilityOf self count ⌝ }
+    {
+        if count == 1.0 {
+            return ln(self.singleton_probability);
+        }
+        ln(1.0 - self.singleton_probability)
+            + ln_sub_exp(
+                self.log_survival_from_two(count),
+                self.log_survival_from_two(count + 1.0),
+            )
+    }
+
+    // ln of the mass on 1 to `top`, for any top that a u16 holds.
+    pub fn log_window_mass_to(self, top: u16) -> f64
+        ensures { λ r. ⌜ r ≡ logWindowMassTo self top ⌝ }
+    {
+        let log_beyond = ln(1.0 - self.singleton_probability)
+            + self.log_survival_from_two((top as f64) + 1.0);
+        ln(-expm1(log_beyond))
+    }
+
+    // ln of the mass on 1 to `top`; 2 for a top above 65,535 and 5 for 0.
+    pub fn log_window_mass(self, top: usize) -> Number
+        ensures { λ r. ⌜ numberSays r ≡ logWindowMassOf self top ⌝ }
+    {
+        if top > 65535 {
+            return Number::Refused(2);
+        }
+        if top == 0 {
+            return Number::Refused(5);
+        }
+        Number::Value(self.log_window_mass_to(top as u16))
+    }
+}

@@ -1,0 +1,6 @@
+// Layer 3: families, parameters, cost, fit, heights, modes.
+// Ported from src/preprocessing/models.rs of bacpop/sparrowhawk-asm, f1f8af1232, Apache-2.0; ported and changed.
+pub mod errors;
+pub mod families;
+pub mod recovery;
+pub mod shelf_rules;
