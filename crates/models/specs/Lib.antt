@@ -2,3 +2,4 @@ pub mod Families
 pub mod Errors
 pub mod Recovery
 pub mod ShelfRules
+pub mod Params

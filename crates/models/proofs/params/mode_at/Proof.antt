@@ -1,0 +1,15 @@
+-- `models::params::mode_at` meets its contract. Assumes nothing.
+use Rattle.models.specs.Params.{modeOf}
+use borrow.Author.Needs.{needs}
+use Rattle.models.proofs.params.mode_at.Statement.{statement}
+use Rattle.models.proofs.params.mode_at.Tie as tie
+
+exp-requires : tie.Need-exp-requires
+exp-requires c κs = search needs
+
+returns : tie.Need-returns
+unfolding modeOf
+returns c = rw (c .exp .ensures)
+
+pub mode-at-spec : {M : Type 1} → statement M
+mode-at-spec = tie.close (tie.spec exp-requires returns)

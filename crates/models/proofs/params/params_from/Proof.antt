@@ -1,0 +1,54 @@
+-- `models::params::params_from` meets its contract. Assumes nothing.
+use mathlib.Core.Path.{ap, sym}
+use Rattle.meaning.specs.Reply.{give}
+use borrow.Author.Tests.{lt-ltb, le-ltb, eq-eqb, ne-eqb}
+use Rattle.models.specs.Params.{paramsAnswerOf}
+use borrow.Author.Needs.{needs}
+use Rattle.models.proofs.params.params_from.Statement.{statement}
+use Rattle.models.proofs.params.params_from.Tie as tie
+
+returns : tie.Need-returns
+unfolding paramsAnswerOf
+returns c = simp (lt-ltb _ _ (c .if1 .taken))
+
+returns-2 : tie.Need-returns-2
+unfolding paramsAnswerOf
+returns-2 c = simp (le-ltb _ _ (c .before .if1 .left), lt-ltb _ _ (c .if2 .taken))
+
+list-length-requires : tie.Need-list-length-requires
+list-length-requires c κs = search needs
+
+returns-3 : tie.Need-returns-3
+unfolding paramsAnswerOf
+returns-3 c =
+    let tests = c .before .before in
+    simp (le-ltb _ _ (tests .before .if1 .left), le-ltb _ _ (tests .if2 .left), sym (c .before .list-length .ensures), ne-eqb _ _ (c .if3 .taken))
+
+cast-decode : tie.Need-cast-decode
+cast-decode c = search needs
+
+int-to-float-decode : tie.Need-int-to-float-decode
+int-to-float-decode c = search needs
+
+decode-requires : tie.Need-decode-requires
+decode-requires c κs = search needs
+
+returns-4 : tie.Need-returns-4
+unfolding paramsAnswerOf
+returns-4 c =
+    let last = c .before .before in
+    let tests = last .before .before in
+    simp (le-ltb _ _ (tests .before .if1 .left), le-ltb _ _ (tests .if2 .left), sym (last .before .list-length .ensures), eq-eqb _ _ (last .if3 .left)) (ap give (c .decode .ensures))
+
+pub params-from-spec : {M : Type 1} → statement M
+params-from-spec =
+    tie.close
+    (tie.spec
+    returns
+    returns-2
+    list-length-requires
+    returns-3
+    cast-decode
+    int-to-float-decode
+    decode-requires
+    returns-4)
