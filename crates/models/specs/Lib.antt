@@ -3,3 +3,4 @@ pub mod Errors
 pub mod Recovery
 pub mod ShelfRules
 pub mod Params
+pub mod Fits

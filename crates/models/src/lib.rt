@@ -2,6 +2,7 @@
 // Ported from src/preprocessing/models.rs of bacpop/sparrowhawk-asm, f1f8af1232, Apache-2.0; ported and changed.
 pub mod errors;
 pub mod families;
+pub mod fit;
 pub mod params;
 pub mod recovery;
 pub mod shelf_rules;

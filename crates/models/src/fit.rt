@@ -1,0 +1,86 @@
+// A fit as its readers have it. Ported from src/preprocessing/models.rs of bacpop/sparrowhawk-asm, f1f8af1232, Apache-2.0; ported and changed.
+ghost use mathlib.Core.Path.{_≡_};
+ghost use Rattle.models.specs.Fits.{absOf, roundtripOf, totalRatioOf, roundtripErrorOf, primaryModeOf, repeatModeOf};
+use crate::errors::ErrorParams;
+use crate::families::ErrorModel;
+use crate::families::GenomeModel;
+use helpers::lobes::discrete_nb_mode;
+use helpers::log_sums::lse3;
+use helpers::shelves::ShelfPart;
+use routines::exp::exp;
+use routines::ln::ln;
+
+// The Rust's fields, in its order.
+pub struct SpectrumFit {
+    pub error_model: ErrorModel,
+    pub genome_model: GenomeModel,
+    pub w_error: f64,
+    pub w_single: f64,
+    pub w_repeat: f64,
+    pub mean: f64,
+    pub dispersion: f64,
+    pub target_mode: f64,
+    pub error_params: ErrorParams,
+    pub shelf: ShelfPart,
+    pub repeat_ratio: f64,
+    pub genome_kmers: f64,
+    pub error_kmers: f64,
+    pub repeat_kmers: f64,
+    pub log_likelihood: f64,
+    pub bic: f64,
+    pub deviance: f64,
+    pub fit_window_end: usize,
+    pub best_iterations: u64,
+    pub component_log_window_masses: [f64; 3],
+    pub component_log_totals: [f64; 3],
+    pub observed_total: f64,
+    pub full_distinct_total: f64,
+}
+
+// |x|: the sign off, and a NaN as it is.
+fn abs(x: f64) -> f64
+    ensures { λ r. ⌜ r ≡ absOf x ⌝ }
+{
+    if x < 0.0 {
+        return -x;
+    }
+    if x == 0.0 {
+        return 0.0;
+    }
+    x
+}
+
+// How far the mode that the mean gives back lies from the mode the fit was at.
+pub fn roundtrip(mean: f64, dispersion: f64, mode: f64) -> f64
+    ensures { λ r. ⌜ r ≡ roundtripOf mean dispersion mode ⌝ }
+{
+    abs(mean - (dispersion - 1.0) - mode)
+}
+
+// The components' totals over the spectrum's distinct k-mers.
+pub fn component_total_ratio(fit: SpectrumFit) -> f64
+    ensures { λ r. ⌜ r ≡ totalRatioOf fit ⌝ }
+{
+    let totals = fit.component_log_totals;
+    exp(lse3(totals[0], totals[1], totals[2]) - ln(fit.full_distinct_total))
+}
+
+pub fn mode_roundtrip_error(fit: SpectrumFit) -> f64
+    ensures { λ r. ⌜ r ≡ roundtripErrorOf fit ⌝ }
+{
+    roundtrip(fit.mean, fit.dispersion, fit.target_mode)
+}
+
+// The single-copy lobe's mode.
+pub fn primary_mode(fit: SpectrumFit) -> u64
+    ensures { λ r. ⌜ r ≡ primaryModeOf fit ⌝ }
+{
+    discrete_nb_mode(fit.mean, fit.dispersion)
+}
+
+// The repeat lobe's mode.
+pub fn repeat_mode(fit: SpectrumFit) -> u64
+    ensures { λ r. ⌜ r ≡ repeatModeOf fit ⌝ }
+{
+    discrete_nb_mode(fit.repeat_ratio * fit.mean, fit.dispersion)
+}
