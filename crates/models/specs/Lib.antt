@@ -4,3 +4,4 @@ pub mod Recovery
 pub mod ShelfRules
 pub mod Params
 pub mod Fits
+pub mod Heights

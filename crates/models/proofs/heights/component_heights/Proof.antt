@@ -1,0 +1,30 @@
+-- `models::heights::component_heights` meets its contract. Assumes nothing.
+use mathlib.Core.Path.{ap}
+use Rattle.meaning.specs.Reply.{give}
+use borrow.Author.Tests.{lt-ltb, le-ltb}
+use Rattle.models.specs.Heights.{componentHeightsOf}
+use borrow.Author.Needs.{needs}
+use Rattle.models.proofs.heights.component_heights.Statement.{statement}
+use Rattle.models.proofs.heights.component_heights.Tie as tie
+
+returns : tie.Need-returns
+unfolding componentHeightsOf
+returns c = simp (lt-ltb _ _ (c .if1 .taken))
+
+cast-heights-at : tie.Need-cast-heights-at
+cast-heights-at c = search needs
+
+int-to-float-heights-at : tie.Need-int-to-float-heights-at
+int-to-float-heights-at c = search needs
+
+heights-at-requires : tie.Need-heights-at-requires
+heights-at-requires c κs = search needs
+
+returns-2 : tie.Need-returns-2
+unfolding componentHeightsOf
+returns-2 c = simp (le-ltb _ _ (c .before .before .if1 .left)) (ap give (c .heights-at .ensures))
+
+pub component-heights-spec : {M : Type 1} → statement M
+component-heights-spec =
+    tie.close
+    (tie.spec returns cast-heights-at int-to-float-heights-at heights-at-requires returns-2)
