@@ -9,3 +9,9 @@ pub enum Written {
     Items(usize),
     Refused(u8),
 }
+
+// A count, or a mode.
+pub enum Count {
+    Whole(u64),
+    Refused(u8),
+}

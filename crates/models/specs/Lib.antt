@@ -5,3 +5,4 @@ pub mod ShelfRules
 pub mod Params
 pub mod Fits
 pub mod Heights
+pub mod Modes

@@ -4,6 +4,7 @@ pub mod errors;
 pub mod families;
 pub mod fit;
 pub mod heights;
+pub mod modes;
 pub mod params;
 pub mod recovery;
 pub mod shelf_rules;

@@ -1,0 +1,39 @@
+-- `models::modes::error_mode` meets its contract. Assumes nothing.
+use mathlib.Core.Path.{_≡_, sym, ap, _∙_}
+use borrow.Author.Tests.{lt-ltb, le-ltb, eq-eqb, ne-eqb}
+use Rattle.models.specs.declared.modes.Standing.{Standing}
+use Rattle.meaning.specs.Reply.{give}
+use Rattle.models.specs.Modes.{errorModeOf}
+use borrow.Author.Needs.{needs}
+use Rattle.models.proofs.modes.error_mode.Statement.{statement}
+use Rattle.models.proofs.modes.error_mode.Tie as tie
+
+returns : tie.Need-returns
+unfolding errorModeOf
+returns c = simp (lt-ltb _ _ (c .if1 .taken))
+
+returns-2 : tie.Need-returns-2
+unfolding errorModeOf
+returns-2 c = simp (le-ltb _ _ (c .before .if1 .left), eq-eqb _ _ (c .if2 .taken))
+
+cast-highest : tie.Need-cast-highest
+cast-highest c = search needs
+
+highest-requires : tie.Need-highest-requires
+highest-requires c κs = search needs
+
+returns-3 : tie.Need-returns-3
+unfolding errorModeOf
+returns-3 c = simp (le-ltb _ _ (c .before .before .before .if1 .left), ne-eqb _ _ (c .before .before .if2 .left), sym (ap (λ (b : Standing). b .nan) (c .before .highest .ensures)) ∙ c .if3 .taken)
+
+cast-t6 : tie.Need-cast-t6
+cast-t6 c = search needs
+
+returns-4 : tie.Need-returns-4
+unfolding errorModeOf
+returns-4 c = simp (le-ltb _ _ (c .before .before .before .before .if1 .left), ne-eqb _ _ (c .before .before .before .if2 .left), sym (ap (λ (b : Standing). b .nan) (c .before .before .highest .ensures)) ∙ c .before .if3 .left) (ap (λ (b : Standing). give (b .count)) (c .before .before .highest .ensures))
+
+pub error-mode-spec : {M : Type 1} → statement M
+error-mode-spec =
+    tie.close
+    (tie.spec returns returns-2 cast-highest highest-requires returns-3 cast-t6 returns-4)

@@ -1,0 +1,40 @@
+-- Where a fit's error component is highest, as models.rs has it. Definitions only. Assumes nothing.
+use Prim.Native.Nat.{ℕ, _+_}
+use mathlib.Core.Bool.{Bool, true, false, not, cond, _&&_, _||_}
+use mathlib.Core.List.{[], _∷_}
+use lib.Dec.{ltb, eqb}
+use lib.Ieee.{Float, inf, lt, eq, ne}
+use Rattle.meaning.specs.Fold.{fold}
+use Rattle.meaning.specs.Reply.{Reply, give, chain, test}
+use Rattle.routines.specs.Exp.{one}
+use Rattle.routines.specs.Ops.{_⊘_, ofCount}
+use Rattle.models.specs.Errors.{logProbabilityOf}
+use Rattle.models.specs.declared.errors.ErrorParams.{ErrorParams}
+use Rattle.models.specs.declared.fit.SpectrumFit.{SpectrumFit}
+use Rattle.models.specs.declared.modes.Standing.{Standing}
+
+-- total_cmp on what is not NaN, the later of equals: -0 is below +0, and 1 / -0 below 1 / +0
+unfoldable pub laterWins : Float → Float → Bool
+laterWins best here = cond (lt best here) true (eq best here && not (lt (one ⊘ here) (one ⊘ best)))
+
+unfoldable pub withNan : Bool → Float → Bool
+withNan nan here = nan || ne here here
+
+abbrev pub stands : ℕ → Float → Bool → Standing
+stands count log nan = record { count = count; log = log; nan = nan }
+
+unfoldable pub higherOf : ErrorParams → ℕ → Standing → Standing
+higherOf p count best =
+    let here = logProbabilityOf p (ofCount count) in
+    let nan = withNan (best .nan) here in
+    cond (laterWins (best .log) here) (stands count here nan) (stands (best .count) (best .log) nan)
+
+-- over the counts 1 to top
+unfoldable pub highestOf : ErrorParams → ℕ → Standing
+highestOf p top = fold (higherOf p) 1 (top + 1) (stands 1 (inf true) false)
+
+unfoldable pub errorModeOf : SpectrumFit → Reply ℕ
+errorModeOf fit =
+    let top = fit .«fit_window_end» in
+    let best = highestOf (fit .«error_params») top in
+    chain (test (ltb 65535 top) 2 ∷ test (eqb top 0) 5 ∷ test (best .nan) 8 ∷ []) (give (best .count))

@@ -1,0 +1,87 @@
+// Where a fit's error component is highest. Ported from src/preprocessing/models.rs of bacpop/sparrowhawk-asm, f1f8af1232, Apache-2.0; ported and changed:
+// a window end is refused by number, and so is a NaN among the heights compared.
+ghost use mathlib.Core.Path.{_≡_};
+ghost use Rattle.helpers.specs.Answers.{countSays};
+ghost use Rattle.models.specs.Modes.{laterWins, withNan, higherOf, highestOf, errorModeOf};
+use crate::errors::ErrorParams;
+use crate::fit::SpectrumFit;
+use helpers::answers::Count;
+
+// The highest of the counts so far, and whether one of them was NaN.
+struct Standing {
+    count: u32,
+    log: f64,
+    nan: bool,
+}
+
+// The order of all numbers that are not NaN, with -0 below +0: 1 / -0 is below 1 / +0.
+fn later_wins(best: f64, here: f64) -> bool
+    ensures { λ r. ⌜ r ≡ laterWins best here ⌝ }
+{
+    if best < here {
+        return true;
+    }
+    best == here && !(1.0 / here < 1.0 / best)
+}
+
+fn with_nan(nan: bool, here: f64) -> bool
+    ensures { λ r. ⌜ r ≡ withNan nan here ⌝ }
+{
+    if nan {
+        return true;
+    }
+    here != here
+}
+
+fn higher(p: ErrorParams, best: Standing, count: u32) -> Standing
+    ensures { λ r. ⌜ r ≡ higherOf p count best ⌝ }
+{
+    let here = p.log_probability(count as f64);
+    let nan = with_nan(best.nan, here);
+    if later_wins(best.log, here) {
+        return Standing {
+            count: count,
+            log: here,
+            nan: nan,
+        };
+    }
+    Standing {
+        count: best.count,
+        log: best.log,
+        nan: nan,
+    }
+}
+
+fn highest(p: ErrorParams, top: u16) -> Standing
+    ensures { λ r. ⌜ r ≡ highestOf p top ⌝ }
+{
+    let mut best = Standing {
+        count: 1,
+        log: -1.0 / 0.0,
+        nan: false,
+    };
+    let mut count: u32 = 1;
+    while count <= (top as u32) {
+        best = higher(p, best, count);
+        count += 1;
+    }
+    best
+}
+
+// The later of equal maxima; 2 for a window end above 65,535, 5 for 0, 8 for a NaN among the heights.
+pub fn error_mode(fit: SpectrumFit) -> Count
+    ensures { λ r. ⌜ countSays r ≡ errorModeOf fit ⌝ }
+{
+    let top = fit.fit_window_end;
+    if top > 65535 {
+        return Count::Refused(2);
+    }
+    if top == 0 {
+        return Count::Refused(5);
+    }
+    let best = highest(fit.error_params, top as u16);
+    if best.nan {
+        return Count::Refused(8);
+    }
+    Count::Whole(best.count as u64)
+}
