@@ -1,2 +1,3 @@
 -- Laws of this layer.
 pub mod Lengths
+pub mod Loops

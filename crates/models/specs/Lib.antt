@@ -6,3 +6,4 @@ pub mod Params
 pub mod Fits
 pub mod Heights
 pub mod Modes
+pub mod Spectra

@@ -8,3 +8,4 @@ pub mod modes;
 pub mod params;
 pub mod recovery;
 pub mod shelf_rules;
+pub mod spectra;
