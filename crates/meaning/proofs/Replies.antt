@@ -1,8 +1,10 @@
 -- Equal replies hold equal values, and an answer is no refusal: what a map from a call's answers into `Reply` needs in order to be injective. Assumes nothing.
-use Prim.Native.Nat.{ℕ}
-use mathlib.Core.Path.{_≡_}
+use Prim.Native.Nat.{ℕ, zero, suc, _<_}
+use mathlib.Core.Path.{_≡_, refl, sym, ap, _∙_}
+use mathlib.Core.Bool.{Bool, true, false, true≢false}
+use mathlib.Core.List.{List, [], _∷_}
 use native.Mathlib.Omega.{arith}
-use Rattle.meaning.specs.Reply.{Reply, refuse, broken, give}
+use Rattle.meaning.specs.Reply.{Reply, refuse, broken, give, Test, test, chain, firstOf}
 
 module _ {A : Type 0} where
   pub same-answer : {a b : A} → give a ≡ give b → a ≡ b
@@ -22,3 +24,23 @@ module _ {A : Type 0} where
 
   pub refused-not-broken : {n p : ℕ} → _≡_ {A = Reply A} (refuse n) (broken p) → ⊥
   refused-not-broken e = let z : _≡_ {A = ℕ} 0 1 = cc in omega arith
+
+-- ---- a chain whose tests another function went through
+-- no test has the number 0, which stands for none
+abbrev pub numbered : List Test → Bool
+numbered [] = true
+numbered (test b zero ∷ ts) = false
+numbered (test b (suc n) ∷ ts) = numbered ts
+
+module _ {A : Type 0} (r : Reply A) where
+  pub chain-refused : (ts : List Test) (n : ℕ) → n ≡ firstOf ts → 0 < n → chain ts r ≡ refuse n
+  chain-refused [] n e h = let z : n ≡ 0 = e in absurd (omega arith)
+  chain-refused (test true m ∷ ts) n e h = ap refuse (sym e)
+  chain-refused (test false m ∷ ts) n e h = chain-refused ts n e h
+
+  pub chain-passed : (ts : List Test) → numbered ts ≡ true → 0 ≡ firstOf ts → chain ts r ≡ r
+  chain-passed [] p e = refl
+  chain-passed (test true zero ∷ ts) p e = absurd (true≢false (sym p))
+  chain-passed (test true (suc m) ∷ ts) p e = let z : 0 ≡ suc m = e in absurd (omega arith)
+  chain-passed (test false zero ∷ ts) p e = absurd (true≢false (sym p))
+  chain-passed (test false (suc m) ∷ ts) p e = chain-passed ts p e

@@ -7,3 +7,5 @@ pub mod Fits
 pub mod Heights
 pub mod Modes
 pub mod Spectra
+pub mod Refusals
+pub mod Usable

@@ -7,5 +7,7 @@ pub mod heights;
 pub mod modes;
 pub mod params;
 pub mod recovery;
+pub mod refusals;
 pub mod shelf_rules;
 pub mod spectra;
+pub mod usable;
