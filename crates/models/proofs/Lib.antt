@@ -1,3 +1,4 @@
 -- Laws of this layer.
 pub mod Lengths
 pub mod Loops
+pub mod Points

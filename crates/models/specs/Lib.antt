@@ -9,3 +9,5 @@ pub mod Modes
 pub mod Spectra
 pub mod Refusals
 pub mod Usable
+pub mod Masses
+pub mod Likelihoods
