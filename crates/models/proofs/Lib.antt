@@ -2,3 +2,6 @@
 pub mod Lengths
 pub mod Loops
 pub mod Points
+pub mod Filled
+pub mod Costed
+pub mod Passed

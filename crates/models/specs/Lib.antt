@@ -11,3 +11,4 @@ pub mod Refusals
 pub mod Usable
 pub mod Masses
 pub mod Likelihoods
+pub mod Costs

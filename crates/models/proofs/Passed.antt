@@ -1,0 +1,88 @@
+-- What is known once no test of `fitTests` holds, and what cost answers by the number that they give. Assumes nothing.
+use Prim.Native.Nat.{ℕ, suc, _≤_, _<_}
+use mathlib.Core.Path.{_≡_, refl, sym, ap, _∙_}
+use mathlib.Core.Bool.{Bool, true, false, not, cond}
+use mathlib.Core.List.{List}
+use native.Mathlib.Omega.{arith}
+use borrow.Author.Tests.{ltb-false, eqb-false, lt-ltb}
+use lib.Dec.{ltb, eqb}
+use lib.ListN.{length}
+use lib.Ieee.{Float}
+use Rattle.meaning.specs.Reply.{refuse, give, firstOf}
+use Rattle.meaning.proofs.Replies.{chain-refused, chain-passed}
+use Rattle.routines.specs.Ops.{ofCount}
+use Rattle.helpers.specs.declared.shelves.ShelfPart.{ShelfPart}
+use Rattle.models.specs.Costs.{roomy, costAt, tableAt, costOf, costTable}
+use Rattle.models.specs.Families.{listLengthOf}
+use Rattle.models.specs.Params.{paramsOf, shelfPartOf}
+use Rattle.models.specs.Recovery.{usedScaleOf}
+use Rattle.models.specs.Refusals.{tableDemand, fitTests}
+use Rattle.models.specs.Spectra.{allZeroOf, noneRecoveredOf}
+use Rattle.models.specs.declared.families.ErrorModel.{ErrorModel}
+use Rattle.models.specs.declared.families.GenomeModel.{GenomeModel}
+use Rattle.models.specs.declared.families.GenomeModel.the-variants.{NegativeBinomial, ShelfNegativeBinomial}
+use Rattle.models.specs.declared.params.Params.{Params}
+
+first-none : (b : Bool) (n x : ℕ) → 0 ≡ cond b (suc n) x → (b ≡ false) × (0 ≡ x)
+first-none true n x e = absurd (omega arith)
+first-none false n x e = (refl, e)
+
+pub record Passed (peak end : ℕ) (genome : GenomeModel) (room : ℕ) : Type 0 where
+  pub peak-few : peak ≤ 65535
+  pub end-few : end ≤ 65535
+  pub end-some : 1 ≤ end
+  pub roomed : tableDemand genome end ≤ room
+
+pub passed : (bins : List ℕ) (scale : Float) (end peak : ℕ) (error : ErrorModel) (genome : GenomeModel) (listed room : ℕ) → 0 ≡ firstOf (fitTests bins scale end peak error genome listed room) → Passed peak end genome room
+unfolding fitTests
+passed bins scale end peak error genome listed room z =
+    let s1 = first-none (ltb peak 2) 0 _ z in
+    let s2 = first-none (ltb (length bins) 2) 0 _ (s1 .1) in
+    let s3 = first-none (ltb 65535 (length bins)) 1 _ (s2 .1) in
+    let s4 = first-none (ltb 65535 peak) 1 _ (s3 .1) in
+    let s5 = first-none (ltb 65535 end) 1 _ (s4 .1) in
+    let s6 = first-none (allZeroOf bins) 3 _ (s5 .1) in
+    let s7 = first-none (eqb end 0) 4 _ (s6 .1) in
+    let s8 = first-none (ltb (length bins) end) 4 _ (s7 .1) in
+    let s9 = first-none (noneRecoveredOf bins scale end) 5 _ (s8 .1) in
+    let s10 = first-none (not (eqb listed (listLengthOf error genome))) 6 _ (s9 .1) in
+    let s11 = first-none (ltb room (tableDemand genome end)) 9 _ (s10 .1) in
+    record { peak-few = ltb-false 65535 peak (s4 .0); end-few = ltb-false 65535 end (s5 .0); end-some = some end (eqb-false end 0 (s7 .0)); roomed = ltb-false room (tableDemand genome end) (s11 .0) }
+  where
+    some : (n : ℕ) → (n ≡ 0 → ⊥) → 1 ≤ n
+    some n h = omega (arith, h)
+
+roomy-of : (genome : GenomeModel) (a b c : Float) (end room : ℕ) → tableDemand genome end ≤ room → roomy (shelfPartOf genome a b c) end room ≡ true
+roomy-of NegativeBinomial a b c end room h = refl
+roomy-of ShelfNegativeBinomial a b c end room h = lt-ltb end room (omega (arith, h))
+
+-- the table has room for the shelf of a list's parameters
+pub passed-roomy : {peak end room : ℕ} {genome : GenomeModel} (error : ErrorModel) (x : Float) (list : List Float) (p : Params) → Passed peak end genome room → p ≡ paramsOf error genome x list → roomy (p .shelf) end room ≡ true
+unfolding paramsOf
+passed-roomy {peak} {end} {room} {genome} error x list p h e = ap (λ (q : Params). roomy (q .shelf) end room) e ∙ roomy-of genome _ _ _ end room (h .roomed)
+
+-- ---- what cost answers
+module _ (bins : List ℕ) (scale used : Float) (end peak : ℕ) (error : ErrorModel) (genome : GenomeModel) (list : List Float) (u : used ≡ usedScaleOf scale) where
+  module _ (room n : ℕ) (e : n ≡ firstOf (fitTests bins used end peak error genome (length list) room)) where
+    first-is : n ≡ firstOf (fitTests bins (usedScaleOf scale) end peak error genome (length list) room)
+    first-is = e ∙ ap (λ (x : Float). firstOf (fitTests bins x end peak error genome (length list) room)) u
+
+    pub cost-refused : 0 < n → refuse n ≡ costOf bins scale end peak error genome list room
+    unfolding costOf
+    cost-refused h = sym (chain-refused _ (fitTests bins (usedScaleOf scale) end peak error genome (length list) room) n first-is h)
+
+    pub cost-given : (v : Float) (p : Params) → n ≡ 0 → p ≡ paramsOf error genome (ofCount peak) list → v ≡ costAt bins used end p → give v ≡ costOf bins scale end peak error genome list room
+    unfolding costOf fitTests
+    cost-given v p z q h =
+        ap give (h ∙ ap (λ (x : Float). costAt bins x end p) u ∙ ap (costAt bins (usedScaleOf scale) end) q)
+        ∙ sym (chain-passed _ (fitTests bins (usedScaleOf scale) end peak error genome (length list) room) refl (sym z ∙ first-is))
+
+module _ (bins : List ℕ) (scale : Float) (end peak : ℕ) (error : ErrorModel) (genome : GenomeModel) (list held : List Float) where
+  pub refused-table : (n : ℕ) → refuse n ≡ costOf bins scale end peak error genome list (length held) → held ≡ costTable bins scale end peak error genome list held
+  unfolding costTable
+  refused-table n h = rw (sym h)
+
+  pub given-table : (v : Float) (p : Params) (t : List Float) → give v ≡ costOf bins scale end peak error genome list (length held) → p ≡ paramsOf error genome (ofCount peak) list → t ≡ tableAt end p held
+      → t ≡ costTable bins scale end peak error genome list held
+  unfolding costTable
+  given-table v p t h q e = rw (sym h) (e ∙ ap (λ (x : Params). tableAt end x held) q)

@@ -1,0 +1,64 @@
+-- The cost of a parameter list, as models.rs has it. Definitions only. Assumes nothing.
+use Prim.Native.Nat.{ℕ}
+use mathlib.Core.Bool.{Bool, true, false, not, _&&_, cond}
+use mathlib.Core.List.{List}
+use lib.Dec.{ltb}
+use lib.ListN.{length}
+use lib.Ieee.{Float, inf, neg, lt, le}
+use lib.Ieee.Scale.{finite}
+use Rattle.meaning.specs.Over.{over}
+use Rattle.meaning.specs.Reply.{Reply, give, chain, onGive}
+use Rattle.routines.specs.Exp.{zero, half}
+use Rattle.routines.specs.Ops.{ofCount}
+use Rattle.helpers.specs.declared.shelves.ShelfPart.{ShelfPart}
+use Rattle.helpers.specs.declared.shelves.ShelfPart.the-variants.{Absent, Present}
+use Rattle.models.specs.Fits.{roundtripOf}
+use Rattle.models.specs.Likelihoods.{likelihoodOf}
+use Rattle.models.specs.Masses.{entriesOf, windowMassesOf, massesUsable}
+use Rattle.models.specs.Params.{paramsOf}
+use Rattle.models.specs.Recovery.{usedScaleOf}
+use Rattle.models.specs.Refusals.{fitTests}
+use Rattle.models.specs.Usable.{paramsUsable}
+use Rattle.models.specs.declared.families.ErrorModel.{ErrorModel}
+use Rattle.models.specs.declared.families.GenomeModel.{GenomeModel}
+use Rattle.models.specs.declared.params.Params.{Params}
+
+-- a table of `room` entries holds a shelf's entries 0 to `end`
+abbrev pub roomy : ShelfPart → ℕ → ℕ → Bool
+roomy Absent end room = true
+roomy (Present s) end room = ltb end room
+
+-- the mode that the mean gives back is at most 0.5 off
+unfoldable pub modeHeld : Params → Bool
+modeHeld p = not (lt half (roundtripOf (p .mean) (p .dispersion) (p .«target_mode»)))
+
+-- what stops the cost before the table is written
+unfoldable pub started : Params → Bool
+started p = paramsUsable p && modeHeld p
+
+unfoldable pub likelihoodUsable : Float → Bool
+likelihoodUsable total = finite total && le total zero
+
+unfoldable pub evaluatedOf : List ℕ → Float → ℕ → Params → List Float → Float
+evaluatedOf bins scale end p table =
+    let masses = windowMassesOf p table end in
+    let total = likelihoodOf bins scale end p masses table in
+    cond (massesUsable masses && likelihoodUsable total) (neg total) (inf false)
+
+-- the scale is the one in use
+unfoldable pub costAt : List ℕ → Float → ℕ → Params → Float
+costAt bins scale end p = cond (started p) (evaluatedOf bins scale end p (entriesOf (p .shelf) (p .mean) end)) (inf false)
+
+-- what stands in the table afterwards
+unfoldable pub tableAt : ℕ → Params → List Float → List Float
+tableAt end p held = cond (started p) (over (entriesOf (p .shelf) (p .mean) end) held) held
+
+-- `room` is the lent table's length: nothing else of it is read
+unfoldable pub costOf : List ℕ → Float → ℕ → ℕ → ErrorModel → GenomeModel → List Float → ℕ → Reply Float
+costOf bins scale end peak error genome list room =
+    let used = usedScaleOf scale in
+    chain (fitTests bins used end peak error genome (length list) room) (give (costAt bins used end (paramsOf error genome (ofCount peak) list)))
+
+unfoldable pub costTable : List ℕ → Float → ℕ → ℕ → ErrorModel → GenomeModel → List Float → List Float → List Float
+costTable bins scale end peak error genome list held =
+    onGive (costOf bins scale end peak error genome list (length held)) (tableAt end (paramsOf error genome (ofCount peak) list) held) held
