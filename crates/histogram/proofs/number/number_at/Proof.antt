@@ -1,0 +1,126 @@
+-- `histogram::number::number_at` meets its contract: at each turn what is left to read of the number is what the whole is. Assumes nothing.
+use Prim.Native.Nat.{ℕ, suc, _+_, _*_, _-_, _^_, _≤_}
+use mathlib.Core.Path.{_≡_, refl, sym, _∙_, ap}
+use native.Mathlib.Nat.{sub-self}
+use native.Mathlib.Numerals.{add-one}
+use native.Mathlib.Omega.{arith}
+use lib.ListN.{length, getD, drop}
+use borrow.Author.Needs.{needs}
+use Rattle.meaning.specs.Reply.{give, broken}
+use Rattle.histogram.specs.declared.number.Taken.{Taken}
+use Rattle.histogram.specs.declared.number.Taken.the-variants as Taken
+use Rattle.histogram.specs.Number.{between, takeOf, foundBy, numberFrom, numberAt}
+use Rattle.histogram.proofs.Weights.{weight-suc}
+use Rattle.histogram.proofs.Takes.{tells}
+use Rattle.histogram.proofs.Numbers.{byte-more, no-more}
+use Rattle.histogram.proofs.number.number_at.Statement.{statement}
+use Rattle.histogram.proofs.number.number_at.Tie as tie
+
+abbrev Inv-loop : tie.InvT-loop
+Inv-loop file start least most value₀ weight₀ at₀ value weight at =
+    (start ≤ at) × ((weight ≡ 128 ^ (at - start)) × (value ≤ most)) × (numberAt (between least most) file start ≡ numberFrom (between least most) start value (at - start) (drop at file))
+
+abbrev μ-loop : tie.MeasureT-loop
+μ-loop file start least most value₀ weight₀ at₀ value weight at = length file - at
+
+-- the byte at the loop's place, and what it makes of the number
+turn : (k : tie.After-take-byte Inv-loop μ-loop) (t : Taken) → k .take-byte .result ≡ t →
+    (let l = k .before .before .before in
+    let a = l .before .before .args in
+    let g = l .loop .at - a .start in
+    numberAt (between (a .least) (a .most)) (a .file .now) (a .start) ≡ foundBy t (a .start) (a .start + suc g) (λ v. numberFrom (between (a .least) (a .most)) (a .start) v (suc g) (drop (suc (l .loop .at)) (a .file .now))))
+turn k t e =
+    let l = k .before .before .before in
+    let a = l .before .before .args in
+    l .loop .inv .2 ∙ byte-more (between (a .least) (a .most)) (a .file .now) (a .start) (l .loop .value) (l .loop .at - a .start) (l .loop .at) t (k .before .before .loop-test .taken) (sym e ∙ k .take-byte .ensures)
+
+-- where another group comes, what it counts fits
+next : (k : tie.After-take-byte Inv-loop μ-loop) (v : ℕ) → k .take-byte .result ≡ Taken.More v →
+    (let l = k .before .before .before in let g = l .loop .at - l .before .before .args .start in (l .loop .weight * 128 ≡ 128 ^ suc g) × (v + 128 ^ suc g ≤ l .before .before .args .most))
+next k v e =
+    let l = k .before .before .before in
+    let a = l .before .before .args in
+    let g = l .loop .at - a .start in
+    let t = tells (between (a .least) (a .most)) (l .loop .value) g (getD (a .file .now) (l .loop .at) 0) (Taken.More v) (sym (k .take-byte .ensures) ∙ e) in
+    let r = t .room in
+    let w = weight-suc g in
+    let i = l .loop .inv .1 .0 in
+    (omega arith, omega arith)
+
+loop-holds : tie.Need-loop-holds Inv-loop μ-loop
+unfolding numberAt
+loop-holds c = (search needs, (rw sub-self, omega arith), rw sub-self)
+
+sub-take-byte : tie.Need-sub-take-byte Inv-loop μ-loop
+sub-take-byte c = search needs
+
+shared-slice-read-take-byte : tie.Need-shared-slice-read-take-byte Inv-loop μ-loop
+shared-slice-read-take-byte c = search needs
+
+take-byte-requires : tie.Need-take-byte-requires Inv-loop μ-loop
+take-byte-requires c κs = search needs
+
+add-at : tie.Need-add-at Inv-loop μ-loop
+add-at c = search needs
+
+enum-known-taken : tie.Need-enum-known-taken Inv-loop μ-loop
+enum-known-taken c = c .match .keys1
+
+mul-weight : tie.Need-mul-weight Inv-loop μ-loop
+mul-weight c = let n = next (c .before .before .before) (c .before .taken .given .0 .0) (c .before .taken .given .1) in omega arith
+
+loop-less : tie.Need-loop-less Inv-loop μ-loop
+loop-less c = search needs
+
+loop-again : tie.Need-loop-again Inv-loop μ-loop
+loop-again c =
+    let k = c .before .before .before in
+    let l = k .before .before .before in
+    let a = l .before .before .args in
+    let e : l .loop .at + 1 - a .start ≡ suc (l .loop .at - a .start) = omega arith in
+    let n = next k (c .before .taken .given .0 .0) (c .before .taken .given .1) in
+    (search needs, (rw e (n .0), omega arith), rw (e, add-one (l .loop .at)) (turn k (Taken.More (c .before .taken .given .0 .0)) (c .before .taken .given .1)))
+
+enum-known-taken-2 : tie.Need-enum-known-taken-2 Inv-loop μ-loop
+enum-known-taken-2 c = c .match .keys2
+
+returns : tie.Need-returns Inv-loop μ-loop
+returns c =
+    let k = c .before .before .before in
+    let l = k .before .before .before in
+    let a = l .before .before .args in
+    let e : l .loop .at + 1 ≡ a .start + suc (l .loop .at - a .start) = omega arith in
+    rw e (sym (turn k (Taken.Whole (c .before .taken2 .given .0 .0)) (c .before .taken2 .given .1)))
+
+enum-told : tie.Need-enum-told Inv-loop μ-loop
+enum-told c = c .match .keys3
+
+returns-2 : tie.Need-returns-2 Inv-loop μ-loop
+returns-2 c = sym (turn (c .before .before) Taken.Wrong (c .enum-told .given .1))
+
+returns-3 : tie.Need-returns-3 Inv-loop μ-loop
+returns-3 c =
+    let l = c .before in
+    let a = l .before .before .args in
+    sym (l .loop .inv .2 ∙ no-more (between (a .least) (a .most)) (a .file .now) (a .start) (l .loop .value) (l .loop .at - a .start) (l .loop .at) (c .loop-test .left))
+
+pub number-at-spec : {M : Type 1} → statement M
+number-at-spec =
+    tie.close
+    (tie.spec
+    Inv-loop
+    μ-loop
+    loop-holds
+    sub-take-byte
+    shared-slice-read-take-byte
+    take-byte-requires
+    add-at
+    enum-known-taken
+    mul-weight
+    loop-less
+    loop-again
+    enum-known-taken-2
+    returns
+    enum-told
+    returns-2
+    returns-3)

@@ -1,0 +1,87 @@
+-- `histogram::writer::file_size` meets its contract: what is counted, and what is left to count, make up the whole. Assumes nothing.
+use Prim.Native.Nat.{ℕ, suc, _+_, _*_, _-_, _^_, _≤_, _<_}
+use mathlib.Core.Path.{_≡_, refl, sym, _∙_, ap}
+use mathlib.Core.List.{List, [], _∷_, _++_}
+use native.Mathlib.Numerals.{add-one}
+use native.Mathlib.Omega.{arith}
+use lib.ListN.{length, getD, drop, length-append}
+use borrow.Author.Needs.{needs}
+use Rattle.histogram.specs.Number.{numberBytes, numbersBytes}
+use Rattle.histogram.specs.File.{mostBins, writeOf}
+use Rattle.histogram.proofs.Groups.{bytes-few}
+use Rattle.histogram.proofs.Sizes.{bytes-from, no-bytes-left, file-length}
+use Rattle.histogram.proofs.writer.file_size.Statement.{statement}
+use Rattle.histogram.proofs.writer.file_size.Tie as tie
+
+abbrev Inv-loop : tie.InvT-loop
+Inv-loop bins size₀ k₀ size k = (k ≤ length bins) × (size ≤ 11 + 10 * k) × (size + length (numbersBytes (drop k bins)) ≡ length (writeOf bins))
+
+abbrev μ-loop : tie.MeasureT-loop
+μ-loop bins size₀ k₀ size k = length bins - k
+
+ten : (n : ℕ) → n < 2 ^ 64 → length (numberBytes n) ≤ 10
+ten n h = bytes-few 9 n (omega arith)
+
+-- the size of the bin at the loop's place
+size : (c : tie.After-number-size2 Inv-loop μ-loop) →
+    (let l = c .before .before .before .before in let v = getD (l .before .before .before .args .bins .now) (l .loop .k) 0 in (c .number-size2 .result ≡ length (numberBytes v)) × (c .number-size2 .result ≤ 10))
+size c =
+    let l = c .before .before .before .before in
+    let v = getD (l .before .before .before .args .bins .now) (l .loop .k) 0 in
+    let e : c .number-size2 .result ≡ length (numberBytes v) = c .number-size2 .ensures ∙ ap (λ (n : ℕ). length (numberBytes n)) (c .before .wide .ensures) in
+    let t = ten v (omega (arith, c .before .before .shared-slice-known2 .given (l .loop .k))) in
+    (e, omega arith)
+
+number-size-requires : tie.Need-number-size-requires Inv-loop μ-loop
+number-size-requires c κs = search needs
+
+add-size : tie.Need-add-size Inv-loop μ-loop
+add-size c = let t = ten (length (c .before .before .args .bins .now)) (omega arith) in omega arith
+
+loop-holds : tie.Need-loop-holds Inv-loop μ-loop
+loop-holds c =
+    let xs = c .before .before .args .bins .now in
+    let t = ten (length xs) (omega arith) in
+    let f = file-length xs in
+    (omega arith, omega arith, omega arith)
+
+mul-wide : tie.Need-mul-wide Inv-loop μ-loop
+mul-wide c = search needs
+
+shared-slice-read-wide : tie.Need-shared-slice-read-wide Inv-loop μ-loop
+shared-slice-read-wide c = search needs
+
+wide-requires : tie.Need-wide-requires Inv-loop μ-loop
+wide-requires c κs = search needs
+
+number-size-requires-2 : tie.Need-number-size-requires-2 Inv-loop μ-loop
+number-size-requires-2 c κs = search needs
+
+add-size-2 : tie.Need-add-size-2 Inv-loop μ-loop
+unfolding mostBins
+add-size-2 c = let s = size c in omega arith
+
+add-k : tie.Need-add-k Inv-loop μ-loop
+add-k c = search needs
+
+loop-less : tie.Need-loop-less Inv-loop μ-loop
+loop-less c = search needs
+
+loop-again : tie.Need-loop-again Inv-loop μ-loop
+loop-again c =
+    let l = c .before .before .before .before in
+    let xs = l .before .before .before .args .bins .now in
+    let s = size c in
+    let h : l .loop .k < length xs = omega arith in
+    let e : length (numbersBytes (drop (l .loop .k) xs)) ≡ length (numberBytes (getD xs (l .loop .k) 0)) + length (numbersBytes (drop (suc (l .loop .k)) xs)) = ap length (bytes-from xs (l .loop .k) h) ∙ length-append (numberBytes (getD xs (l .loop .k) 0)) (numbersBytes (drop (suc (l .loop .k)) xs)) in
+    (omega arith, omega arith, rw (add-one (l .loop .k)) (omega arith))
+
+returns : tie.Need-returns Inv-loop μ-loop
+returns c =
+    let l = c .before in
+    let e = ap length (no-bytes-left (l .before .before .before .args .bins .now) (l .loop .k) (c .loop-test .left)) in
+    omega arith
+
+pub file-size-spec : {M : Type 1} → statement M
+file-size-spec =
+    tie.close (tie.spec Inv-loop μ-loop number-size-requires add-size loop-holds mul-wide shared-slice-read-wide wide-requires number-size-requires-2 add-size-2 add-k loop-less loop-again returns)

@@ -1,0 +1,115 @@
+-- `histogram::writer::put_bins` meets its contract: at each turn the bytes still to come are those of the bins left. Assumes nothing.
+use Prim.Native.Nat.{ℕ, suc, _+_, _-_, _≤_, _<_}
+use mathlib.Core.Path.{_≡_, refl, sym, _∙_, ap, subst}
+use mathlib.Core.List.{List, [], _∷_, _++_}
+use native.Mathlib.Numerals.{add-one}
+use native.Mathlib.Omega.{arith}
+use lib.ListN.{length, getD, take, drop}
+use borrow.Author.Needs.{needs}
+use Rattle.histogram.specs.Number.{numberBytes, numbersBytes}
+use Rattle.histogram.specs.Lent.{over}
+use Rattle.histogram.proofs.Puts.{Putting, begins, fits, room, puts-all, ends}
+use Rattle.histogram.proofs.Sizes.{bytes-from, no-bytes-left}
+use Rattle.histogram.proofs.writer.put_bins.Statement.{statement}
+use Rattle.histogram.proofs.writer.put_bins.Tie as tie
+
+abbrev Inv-loop : tie.InvT-loop
+Inv-loop out₀ bins at₀ k₀ out at k = (k ≤ length bins) × Putting (numbersBytes bins) out₀ out (numbersBytes (drop k bins)) at
+
+abbrev μ-loop : tie.MeasureT-loop
+μ-loop out₀ bins at₀ k₀ out at k = length bins - k
+
+abbrev xs : tie.At-loop Inv-loop μ-loop → List ℕ
+xs l = l .before .before .before .args .bins .now
+
+abbrev bin : tie.At-loop Inv-loop μ-loop → ℕ
+bin l = getD (xs l) (l .loop .k) 0
+
+-- the bin at the loop's place is next
+next : (c : tie.In-loop Inv-loop μ-loop) →
+    (let l = c .before in Putting (numbersBytes (xs l)) (l .before .before .before .args .out .now) (l .loop .out) (numberBytes (bin l) ++ numbersBytes (drop (suc (l .loop .k)) (xs l))) (l .loop .at))
+next c =
+    let l = c .before in
+    subst (λ (rest : List ℕ). Putting (numbersBytes (xs l)) (l .before .before .before .args .out .now) (l .loop .out) rest (l .loop .at)) (bytes-from (xs l) (l .loop .k) (c .loop-test .taken)) (l .loop .inv .1)
+
+inside : (c : tie.In-loop Inv-loop μ-loop) → c .before .loop .at + length (numberBytes (bin (c .before))) ≤ length (c .before .loop .out)
+inside c =
+    let l = c .before in
+    fits (numbersBytes (xs l)) (l .before .before .before .args .out .now) (l .loop .out) (l .loop .at) (numberBytes (bin l)) (numbersBytes (drop (suc (l .loop .k)) (xs l))) (next c) (l .before .before .before .pre)
+
+-- the number of bytes that the call put
+size : (w : tie.After-put-number Inv-loop μ-loop) → w .put-number .result ≡ length (numberBytes (bin (w .before .before .before .before .before)))
+size w = w .put-number .ensures .0 ∙ ap (λ (n : ℕ). length (numberBytes n)) (w .before .wide .ensures)
+
+loop-holds : tie.Need-loop-holds Inv-loop μ-loop
+loop-holds c = (omega arith, begins _ _)
+
+sub-put-number : tie.Need-sub-put-number Inv-loop μ-loop
+sub-put-number c = omega (arith, inside c)
+
+part-put-number-start : tie.Need-part-put-number-start Inv-loop μ-loop
+part-put-number-start c = omega (arith, inside c)
+
+part-put-number-end : tie.Need-part-put-number-end Inv-loop μ-loop
+part-put-number-end c = search needs
+
+mul-wide : tie.Need-mul-wide Inv-loop μ-loop
+mul-wide c = search needs
+
+shared-slice-read-wide : tie.Need-shared-slice-read-wide Inv-loop μ-loop
+shared-slice-read-wide c = search needs
+
+wide-requires : tie.Need-wide-requires Inv-loop μ-loop
+wide-requires c κs = search needs
+
+put-number-requires : tie.Need-put-number-requires Inv-loop μ-loop
+put-number-requires c κs =
+    let t = c .before .before .before in
+    let l = t .before in
+    rw (c .wide .ensures) (room (numbersBytes (xs l)) (l .before .before .before .args .out .now) (l .loop .out) (l .loop .at) (numberBytes (bin l)) (numbersBytes (drop (suc (l .loop .k)) (xs l))) (next t) (l .before .before .before .pre))
+
+add-at : tie.Need-add-at Inv-loop μ-loop
+add-at c = let w = c .before .before in omega (arith, inside (w .before .before .before .before), size w, w .before .before .before .before .before .loop .inv .1 .same)
+
+add-k : tie.Need-add-k Inv-loop μ-loop
+add-k c = search needs
+
+loop-less : tie.Need-loop-less Inv-loop μ-loop
+loop-less c = search needs
+
+loop-again : tie.Need-loop-again Inv-loop μ-loop
+loop-again c =
+    let w = c .before .before in
+    let t = w .before .before .before .before in
+    let l = t .before in
+    let e : w .put-number .last .0 ≡ over (numberBytes (bin l)) (take (length (l .loop .out) - l .loop .at) (drop (l .loop .at) (l .loop .out))) = w .put-number .ensures .1 ∙ ap (λ (n : ℕ). over (numberBytes n) (take (length (l .loop .out) - l .loop .at) (drop (l .loop .at) (l .loop .out)))) (w .before .wide .ensures) in
+    (omega arith, rw (add-one (l .loop .k)) (puts-all (numbersBytes (xs l)) (l .before .before .before .args .out .now) (l .loop .out) (l .loop .at) (numberBytes (bin l)) (numbersBytes (drop (suc (l .loop .k)) (xs l))) (next t) (l .before .before .before .pre) (w .put-number .last .0) (w .put-number .result) (size w) e))
+
+same-length : tie.Need-same-length Inv-loop μ-loop
+same-length c = c .before .loop .inv .1 .same
+
+returns : tie.Need-returns Inv-loop μ-loop
+returns c =
+    let l = c .before in
+    ends (numbersBytes (xs l)) (l .before .before .before .args .out .now) (l .loop .out) (l .loop .at) (subst (λ (rest : List ℕ). Putting (numbersBytes (xs l)) (l .before .before .before .args .out .now) (l .loop .out) rest (l .loop .at)) (no-bytes-left (xs l) (l .loop .k) (c .loop-test .left)) (l .loop .inv .1))
+
+pub put-bins-spec : {M : Type 1} → statement M
+put-bins-spec =
+    tie.close
+    (tie.spec
+    Inv-loop
+    μ-loop
+    loop-holds
+    sub-put-number
+    part-put-number-start
+    part-put-number-end
+    mul-wide
+    shared-slice-read-wide
+    wide-requires
+    put-number-requires
+    add-at
+    add-k
+    loop-less
+    loop-again
+    same-length
+    returns)

@@ -1,0 +1,6 @@
+pub mod Number
+pub mod File
+pub mod Lent
+pub mod Read
+pub mod Write
+pub mod Claims

@@ -1,0 +1,134 @@
+// Reading the histogram file into lent bins: all of it is read and checked before the first bin is written.
+ghost use mathlib.Core.Path.{_≡_};
+ghost use mathlib.Core.List.{List, []};
+ghost use Prim.Native.Nat.{ℕ, _≤_};
+ghost use lib.ListN.{length, take};
+ghost use Rattle.histogram.specs.Number.{between, numberAt, numberSays};
+ghost use Rattle.histogram.specs.File.{mostBins, bins as Bins, readFrom};
+ghost use Rattle.histogram.specs.Lent.{over, laid, counted};
+ghost use Rattle.histogram.specs.Read.{fitsIn, readHistogramOf, fileSays, heldSays, keptOf};
+use crate::number::Number;
+use crate::number::number_at;
+
+// The most bins that a file holds.
+pub const MAX_FILE_BINS: usize = 2047;
+
+// How many bins were read, or the place of the file's first fault (number 3), or another number.
+pub enum FileRead {
+    Bins(usize),
+    Broken(usize),
+    Refused(u8),
+}
+
+fn wide(byte: u8) -> u64
+    ensures { λ r. ⌜ r ≡ byte ⌝ }
+{
+    byte as u64
+}
+
+// The bin at a place. Most are a single group.
+fn bin_at(file: &[u8], at: usize) -> Number
+    ensures { λ r. ⌜ numberSays r ≡ numberAt (between 0 4294967295) (now (file .entry)) at ⌝ }
+{
+    if at < file.len() {
+        let byte = file[at];
+        if byte < 128 {
+            return Number::Is(wide(byte), at + 1);
+        }
+    }
+    number_at(file, at, 0, 4294967295)
+}
+
+// n bins from the place `first` on, and the end of the file behind them.
+fn read_bins(file: &[u8], first: usize, n: usize, held: &mut [u32]) -> FileRead
+    requires { ⌜ n ≤ length (now held) ⌝ }
+    ensures { λ r. ⌜ keptOf r ≤ n ⌝ }
+    ensures { λ r. ⌜ heldSays r (now (held .exit)) ≡ readFrom (Bins n []) (now (file .entry)) first ⌝ }
+{
+    let mut at = first;
+    let mut k = 0;
+    while k < n {
+        let bin = bin_at(file, at);
+        let Number::Is(value, next) = bin else {
+            return FileRead::Broken(at);
+        };
+        held[k] = value as u32;
+        at = next;
+        k += 1;
+    }
+    if at < file.len() {
+        return FileRead::Broken(at);
+    }
+    FileRead::Bins(n)
+}
+
+// 10 where there is no room for the bins.
+fn in_room(read: FileRead, room: usize) -> FileRead
+    ensures { λ r. ⌜ keptOf r ≤ keptOf read ⌝ }
+    ensures { λ r. ⌜ ((held : List ℕ) → keptOf read ≤ length held → heldSays r held ≡ fitsIn room (heldSays read held)) ⌝ }
+{
+    match read {
+        FileRead::Bins(n) => {
+            if room < n {
+                FileRead::Refused(10)
+            } else {
+                read
+            }
+        }
+        FileRead::Broken(_) => read,
+        FileRead::Refused(_) => read,
+    }
+}
+
+// What reading the whole file answers, with the bins held.
+fn check(file: &[u8], room: usize, held: &mut [u32]) -> FileRead
+    requires { ⌜ mostBins ≤ length (now held) ⌝ }
+    ensures { λ r. ⌜ keptOf r ≤ mostBins ⌝ }
+    ensures { λ r. ⌜ heldSays r (now (held .exit)) ≡ readHistogramOf (now (file .entry)) room ⌝ }
+{
+    let form = number_at(file, 0, 1, 1);
+    let Number::Is(_, second) = form else {
+        return FileRead::Broken(0);
+    };
+    let count = number_at(file, second, 2, MAX_FILE_BINS as u64);
+    let Number::Is(n, first) = count else {
+        return FileRead::Broken(second);
+    };
+    let read = read_bins(file, first, n as usize, held);
+    in_room(read, room)
+}
+
+// How many bins are to be written: none where the file or the room is refused.
+fn kept(answer: FileRead) -> usize
+    ensures { λ r. ⌜ r ≡ keptOf answer ⌝ }
+{
+    match answer {
+        FileRead::Bins(n) => n,
+        FileRead::Broken(_) => 0,
+        FileRead::Refused(_) => 0,
+    }
+}
+
+// The first n bins.
+fn copy_bins(held: &[u32], n: usize, bins: &mut [u32])
+    requires { ⌜ (n ≤ length (now held)) × (n ≤ length (now bins)) ⌝ }
+    ensures { λ _. ⌜ now (bins .exit) ≡ over (take n (now (held .entry))) (now (bins .entry)) ⌝ }
+{
+    let mut k = 0;
+    while k < n {
+        bins[k] = held[k];
+        k += 1;
+    }
+}
+
+// The bins of a file into the first of the lent ones; 3 with its place where the file breaks the layout, then 10 where the bins are too few.
+// A refusal writes nothing, and the bins past the last one read stand as found.
+pub fn read_histogram(file: &[u8], bins: &mut [u32]) -> FileRead
+    ensures { λ r. ⌜ fileSays r ≡ counted (readHistogramOf (now (file .entry)) (length (now (bins .entry)))) ⌝ }
+    ensures { λ _. ⌜ now (bins .exit) ≡ laid (readHistogramOf (now (file .entry)) (length (now (bins .entry)))) (now (bins .entry)) ⌝ }
+{
+    let mut held = [0u32; MAX_FILE_BINS];
+    let answer = check(file, bins.len(), &mut held);
+    copy_bins(&held, kept(answer), bins);
+    answer
+}
