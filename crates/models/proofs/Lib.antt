@@ -5,3 +5,4 @@ pub mod Points
 pub mod Filled
 pub mod Costed
 pub mod Passed
+pub mod Infinite

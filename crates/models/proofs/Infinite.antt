@@ -1,0 +1,101 @@
+-- The cost is +inf for exactly what is turned away: one of four tests. It is never NaN, and the table's old entries have no part in it. Assumes nothing.
+use Prim.Native.Nat.{ℕ}
+use mathlib.Core.Path.{_≡_, refl, sym, ap, _∙_}
+use mathlib.Core.Bool.{Bool, true, false, _&&_, cond, true≢false}
+use mathlib.Core.List.{List}
+use mathlib.Core.Logic.{_⊎_, inl, inr}
+use lib.ListN.{length}
+use lib.Ieee.{Float, nan, inf, fin, neg, le, isNan}
+use lib.Ieee.Scale.{finite}
+use Rattle.routines.specs.Exp.{zero}
+use Rattle.models.specs.Costs.{modeHeld, started, likelihoodUsable, evaluatedOf, costAt, costOf}
+use Rattle.models.specs.Likelihoods.{likelihoodOf}
+use Rattle.models.specs.Masses.{entriesOf, windowMassesOf, massesUsable}
+use Rattle.models.specs.Usable.{paramsUsable}
+use Rattle.models.specs.declared.families.ErrorModel.{ErrorModel}
+use Rattle.models.specs.declared.families.GenomeModel.{GenomeModel}
+use Rattle.models.specs.declared.params.Params.{Params}
+use Rattle.models.specs.declared.window_masses.WindowMasses.{WindowMasses}
+
+-- what the window is measured by, at some parameters
+abbrev pub massesAt : ℕ → Params → WindowMasses
+massesAt end p = windowMassesOf p (entriesOf (p .shelf) (p .mean) end) end
+
+abbrev pub totalAt : List ℕ → Float → ℕ → Params → Float
+totalAt bins scale end p = likelihoodOf bins scale end p (massesAt end p) (entriesOf (p .shelf) (p .mean) end)
+
+-- the four tests of models.rs
+pub data TurnedAway (bins : List ℕ) (scale : Float) (end : ℕ) (p : Params) : Type 0 where
+  parameters : paramsUsable p ≡ false → TurnedAway bins scale end p
+  round-trip : modeHeld p ≡ false → TurnedAway bins scale end p
+  window-mass : massesUsable (massesAt end p) ≡ false → TurnedAway bins scale end p
+  log-likelihood : likelihoodUsable (totalAt bins scale end p) ≡ false → TurnedAway bins scale end p
+
+-- a log-likelihood that can be used is finite, and so is its negative
+finite-total : (t : Float) → likelihoodUsable t ≡ true → neg t ≡ inf false → ⊥
+unfolding likelihoodUsable neg
+finite-total nan h e = absurd (true≢false (sym h))
+finite-total (inf s) h e = absurd (true≢false (sym h))
+finite-total (fin s m k) h e = absurd (true≢false (ap finite e))
+
+not-nan : (t : Float) → likelihoodUsable t ≡ true → isNan (neg t) ≡ false
+unfolding likelihoodUsable neg isNan
+not-nan nan h = absurd (true≢false (sym h))
+not-nan (inf s) h = refl
+not-nan (fin s m k) h = refl
+
+module _ (bins : List ℕ) (scale : Float) (end : ℕ) (p : Params) where
+  -- the cost by its four tests
+  abbrev costed : Bool → Bool → Bool → Bool → Float
+  costed a b c d = cond (a && b) (cond (c && d) (neg (totalAt bins scale end p)) (inf false)) (inf false)
+
+  cost-is : costAt bins scale end p ≡ costed (paramsUsable p) (modeHeld p) (massesUsable (massesAt end p)) (likelihoodUsable (totalAt bins scale end p))
+  unfolding costAt started evaluatedOf
+  cost-is = refl
+
+  which : (a b c d : Bool) → paramsUsable p ≡ a → modeHeld p ≡ b → massesUsable (massesAt end p) ≡ c → likelihoodUsable (totalAt bins scale end p) ≡ d → costed a b c d ≡ inf false → TurnedAway bins scale end p
+  which false b c d h k m t e = parameters h
+  which true false c d h k m t e = round-trip k
+  which true true false d h k m t e = window-mass m
+  which true true true false h k m t e = log-likelihood t
+  which true true true true h k m t e = absurd (finite-total (totalAt bins scale end p) t e)
+
+  pub infinite-turned-away : costAt bins scale end p ≡ inf false → TurnedAway bins scale end p
+  infinite-turned-away e = which _ _ _ _ refl refl refl refl (sym cost-is ∙ e)
+
+  never : (a b c d : Bool) → likelihoodUsable (totalAt bins scale end p) ≡ d → isNan (costed a b c d) ≡ false
+  unfolding isNan
+  never false b c d t = refl
+  never true false c d t = refl
+  never true true false d t = refl
+  never true true true false t = refl
+  never true true true true t = not-nan (totalAt bins scale end p) t
+
+  pub cost-not-nan : isNan (costAt bins scale end p) ≡ false
+  cost-not-nan = ap isNan cost-is ∙ never (paramsUsable p) (modeHeld p) (massesUsable (massesAt end p)) (likelihoodUsable (totalAt bins scale end p)) refl
+
+  last-false : (a b c : Bool) → costed a b c false ≡ inf false
+  last-false false b c = refl
+  last-false true false c = refl
+  last-false true true false = refl
+  last-false true true true = refl
+
+  third-false : (a b d : Bool) → costed a b false d ≡ inf false
+  third-false false b d = refl
+  third-false true false d = refl
+  third-false true true d = refl
+
+  second-false : (a c d : Bool) → costed a false c d ≡ inf false
+  second-false false c d = refl
+  second-false true c d = refl
+
+  pub turned-away-infinite : TurnedAway bins scale end p → costAt bins scale end p ≡ inf false
+  turned-away-infinite (parameters h) = cost-is ∙ ap (λ (a : Bool). costed a (modeHeld p) (massesUsable (massesAt end p)) (likelihoodUsable (totalAt bins scale end p))) h
+  turned-away-infinite (round-trip h) = cost-is ∙ ap (λ (b : Bool). costed (paramsUsable p) b (massesUsable (massesAt end p)) (likelihoodUsable (totalAt bins scale end p))) h ∙ second-false (paramsUsable p) (massesUsable (massesAt end p)) (likelihoodUsable (totalAt bins scale end p))
+  turned-away-infinite (window-mass h) = cost-is ∙ ap (λ (c : Bool). costed (paramsUsable p) (modeHeld p) c (likelihoodUsable (totalAt bins scale end p))) h ∙ third-false (paramsUsable p) (modeHeld p) (likelihoodUsable (totalAt bins scale end p))
+  turned-away-infinite (log-likelihood h) = cost-is ∙ ap (costed (paramsUsable p) (modeHeld p) (massesUsable (massesAt end p))) h ∙ last-false (paramsUsable p) (modeHeld p) (massesUsable (massesAt end p))
+
+-- what the table held before has no part in the answer
+pub cost-of-any-table : (bins : List ℕ) (scale : Float) (end peak : ℕ) (error : ErrorModel) (genome : GenomeModel) (list held other : List Float) → length held ≡ length other
+    → costOf bins scale end peak error genome list (length held) ≡ costOf bins scale end peak error genome list (length other)
+cost-of-any-table bins scale end peak error genome list held other e = ap (costOf bins scale end peak error genome list) e
