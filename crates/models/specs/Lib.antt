@@ -12,3 +12,4 @@ pub mod Usable
 pub mod Masses
 pub mod Likelihoods
 pub mod Costs
+pub mod Deviances

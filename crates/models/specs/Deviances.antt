@@ -1,0 +1,28 @@
+-- How far the spectrum lies from a fit, as models.rs has it, operation by operation. Definitions only. Assumes nothing.
+use Prim.Native.Nat.{ℕ, _+_}
+use mathlib.Core.Bool.{false, cond}
+use mathlib.Core.List.{List}
+use lib.Ieee.{Float, inf, neg, binary64, ofBits, lt}
+use Rattle.routines.specs.Exp.{zero}
+use Rattle.routines.specs.Ln.{lnOf}
+use Rattle.routines.specs.Ops.{_⊕_, _⊗_, _⊘_, ofCount}
+use Rattle.models.specs.Heights.{heightsAt}
+use Rattle.models.specs.Spectra.{overObserved}
+use Rattle.models.specs.declared.fit.SpectrumFit.{SpectrumFit}
+
+-- the three heights, added up from the -0 of Rust's sum, over the scale in use
+unfoldable pub expectedAt : SpectrumFit → Float → Float → Float
+expectedAt fit count scale = let h = heightsAt fit count in (neg zero ⊕ h .error ⊕ h .single ⊕ h .repeat) ⊘ scale
+
+-- 2.0
+abbrev pub two : Float
+two = ofBits binary64 0x4000000000000000
+
+unfoldable pub devianceTerm : Float → Float → Float
+devianceTerm observed expected = cond (lt zero expected) (two ⊗ observed ⊗ lnOf (observed ⊘ expected)) (inf false)
+
+abbrev pub devianceAt : SpectrumFit → Float → ℕ → ℕ → Float
+devianceAt fit scale n i = devianceTerm (ofCount n) (expectedAt fit (ofCount (i + 1)) scale)
+
+unfoldable pub devianceOf : List ℕ → Float → ℕ → SpectrumFit → Float
+devianceOf bins scale end fit = overObserved bins scale end (devianceAt fit scale)
