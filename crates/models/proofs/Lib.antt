@@ -6,3 +6,4 @@ pub mod Filled
 pub mod Costed
 pub mod Passed
 pub mod Infinite
+pub mod Unpacked

@@ -8,7 +8,7 @@ use borrow.Author.Tests.{ltb-false, eqb-false, lt-ltb}
 use lib.Dec.{ltb, eqb}
 use lib.ListN.{length}
 use lib.Ieee.{Float}
-use Rattle.meaning.specs.Reply.{refuse, give, firstOf}
+use Rattle.meaning.specs.Reply.{Reply, refuse, give, chain, firstOf}
 use Rattle.meaning.proofs.Replies.{chain-refused, chain-passed}
 use Rattle.routines.specs.Ops.{ofCount}
 use Rattle.helpers.specs.declared.shelves.ShelfPart.{ShelfPart}
@@ -67,15 +67,20 @@ module _ (bins : List ℕ) (scale used : Float) (end peak : ℕ) (error : ErrorM
     first-is : n ≡ firstOf (fitTests bins (usedScaleOf scale) end peak error genome (length list) room)
     first-is = e ∙ ap (λ (x : Float). firstOf (fitTests bins x end peak error genome (length list) room)) u
 
+    pub tests-refused : {A : Type 0} (r : Reply A) → 0 < n → refuse n ≡ chain (fitTests bins (usedScaleOf scale) end peak error genome (length list) room) r
+    tests-refused r h = sym (chain-refused r (fitTests bins (usedScaleOf scale) end peak error genome (length list) room) n first-is h)
+
+    pub tests-passed : {A : Type 0} (r : Reply A) → n ≡ 0 → r ≡ chain (fitTests bins (usedScaleOf scale) end peak error genome (length list) room) r
+    unfolding fitTests
+    tests-passed r z = sym (chain-passed r (fitTests bins (usedScaleOf scale) end peak error genome (length list) room) refl (sym z ∙ first-is))
+
     pub cost-refused : 0 < n → refuse n ≡ costOf bins scale end peak error genome list room
     unfolding costOf
-    cost-refused h = sym (chain-refused _ (fitTests bins (usedScaleOf scale) end peak error genome (length list) room) n first-is h)
+    cost-refused h = tests-refused _ h
 
     pub cost-given : (v : Float) (p : Params) → n ≡ 0 → p ≡ paramsOf error genome (ofCount peak) list → v ≡ costAt bins used end p → give v ≡ costOf bins scale end peak error genome list room
-    unfolding costOf fitTests
-    cost-given v p z q h =
-        ap give (h ∙ ap (λ (x : Float). costAt bins x end p) u ∙ ap (costAt bins (usedScaleOf scale) end) q)
-        ∙ sym (chain-passed _ (fitTests bins (usedScaleOf scale) end peak error genome (length list) room) refl (sym z ∙ first-is))
+    unfolding costOf
+    cost-given v p z q h = ap give (h ∙ ap (λ (x : Float). costAt bins x end p) u ∙ ap (costAt bins (usedScaleOf scale) end) q) ∙ tests-passed _ z
 
 module _ (bins : List ℕ) (scale : Float) (end peak : ℕ) (error : ErrorModel) (genome : GenomeModel) (list held : List Float) where
   pub refused-table : (n : ℕ) → refuse n ≡ costOf bins scale end peak error genome list (length held) → held ≡ costTable bins scale end peak error genome list held

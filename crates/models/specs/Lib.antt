@@ -13,3 +13,4 @@ pub mod Masses
 pub mod Likelihoods
 pub mod Costs
 pub mod Deviances
+pub mod Unpacking

@@ -13,5 +13,6 @@ pub mod recovery;
 pub mod refusals;
 pub mod shelf_rules;
 pub mod spectra;
+pub mod unpacking;
 pub mod usable;
 pub mod window_masses;
