@@ -1,18 +1,16 @@
 -- From what is read to what was written: where the reader goes on to accept a file, the bytes of the next number are the writer's. Assumes nothing.
-use Prim.Native.Nat.{ℕ, zero, suc, _+_, _*_, _/_, _%_, _-_, _^_, _≤_, _<_}
+use Prim.Native.Nat.{ℕ, suc, _+_, _*_, _/_, _%_, _^_, _≤_, _<_}
 use mathlib.Core.Path.{_≡_, refl, sym, ap, _∙_, subst}
-use mathlib.Core.List.{List, [], _∷_, _++_, append-assoc, append-nil}
+use mathlib.Core.List.{List, [], _∷_, _++_}
 use mathlib.Core.Logic.{_⊎_, inl, inr, ⊎-elim}
-use native.Mathlib.Nat.{add-zero}
 use native.Mathlib.Omega.{arith}
 use lib.ListN.{length}
-use lib.Seq.{append-snoc}
-use Rattle.meaning.specs.Reply.{Reply, broken, give}
-use Rattle.meaning.proofs.Replies.{same-answer, answer-not-broken}
+use Rattle.meaning.specs.Reply.{broken, give}
+use Rattle.meaning.proofs.Replies.{answer-not-broken}
 use Rattle.histogram.specs.declared.number.Taken.{Taken}
 use Rattle.histogram.specs.declared.number.Taken.the-variants.{More, Whole, Wrong}
-use Rattle.histogram.specs.Number.{Range, withGroup, takeOf, numberBytes, numbersBytes}
-use Rattle.histogram.specs.File.{Stage, rangeOf, nextOf, State, reading, stopped, goesOn, stepsOf, endsOf, endOf}
+use Rattle.histogram.specs.Number.{Range, withGroup, takeByteOf, numberBytes}
+use Rattle.histogram.specs.File.{Stage, rangeOf, nextOf, reading, goesOn, stepsOf, endsOf, endOf}
 use Rattle.histogram.specs.Claims.{Below, In}
 use Rattle.histogram.proofs.Tests.{below-or}
 use Rattle.histogram.proofs.Weights.{weight-suc}
@@ -40,9 +38,6 @@ grown b r h l p =
 grown-value : (value groups b r v : ℕ) → v ≡ withGroup value groups b → value + (b % 128 + 128 * r) * 128 ^ groups ≡ v + r * 128 ^ suc groups
 grown-value value groups b r v e = rw (weight-suc groups) (omega arith)
 
-small : (b : ℕ) → b < 128 → b % 128 ≡ b
-small b h = omega arith
-
 nonzero : (b : ℕ) → (b ≡ 0 → ⊥) → 0 < b
 nonzero b n = ⊎-elim (λ (h : 0 < b). h) (λ (h : b ≤ 0). absurd (n (omega arith))) (below-or 0 b)
 
@@ -51,12 +46,12 @@ pub front : (stage : Stage) (start : ℕ) → endsOf stage start ≡ broken star
     → Starts (rangeOf stage) value groups bytes ⊎ (endOf (stepsOf (reading stage start value groups) bytes) ≡ broken start)
 unfolding stepsOf
 front stage start short value groups [] b = inr short
-front stage start short value groups (x ∷ bytes) b = go (takeOf (rangeOf stage) value groups x) refl (λ (v : ℕ). front stage start short v (suc groups) bytes (b .1))
+front stage start short value groups (x ∷ bytes) b = go (takeByteOf (rangeOf stage) value groups x) refl (λ (v : ℕ). front stage start short v (suc groups) bytes (b .1))
   where
-    stepped : (t : Taken) → takeOf (rangeOf stage) value groups x ≡ t → endOf (stepsOf (reading stage start value groups) (x ∷ bytes)) ≡ endOf (stepsOf (goesOn stage start groups t) bytes)
+    stepped : (t : Taken) → takeByteOf (rangeOf stage) value groups x ≡ t → endOf (stepsOf (reading stage start value groups) (x ∷ bytes)) ≡ endOf (stepsOf (goesOn stage start groups t) bytes)
     stepped t q = ap endOf (one-step stage start value groups x bytes t q)
 
-    more : (v : ℕ) → takeOf (rangeOf stage) value groups x ≡ More v → Starts (rangeOf stage) v (suc groups) bytes → Starts (rangeOf stage) value groups (x ∷ bytes)
+    more : (v : ℕ) → takeByteOf (rangeOf stage) value groups x ≡ More v → Starts (rangeOf stage) v (suc groups) bytes → Starts (rangeOf stage) value groups (x ∷ bytes)
     more v q w =
         let t = takes.tells (rangeOf stage) value groups x (More v) q in
         let p : 0 < w .r = w .some (omega arith) in
@@ -68,10 +63,10 @@ front stage start short value groups (x ∷ bytes) b = go (takeOf (rangeOf stage
           inside = subst (In (rangeOf stage)) (sym (grown-value value groups x (w .r) v (t .sum))) (w .inside);
         }
 
-    whole : (n : ℕ) → takeOf (rangeOf stage) value groups x ≡ Whole n → Starts (rangeOf stage) value groups (x ∷ bytes)
+    whole : (n : ℕ) → takeByteOf (rangeOf stage) value groups x ≡ Whole n → Starts (rangeOf stage) value groups (x ∷ bytes)
     whole n q =
         let t = takes.tells (rangeOf stage) value groups x (Whole n) q in
-        let e : value + x * 128 ^ groups ≡ n = ap (λ (m : ℕ). value + m * 128 ^ groups) (sym (small x (t .last))) ∙ sym (t .sum) in
+        let e : value + x * 128 ^ groups ≡ n = ap (λ (m : ℕ). value + m * 128 ^ groups) (sym (takes.last-low x (t .last))) ∙ sym (t .sum) in
         record {
           r = x;
           rest = bytes;
@@ -80,7 +75,7 @@ front stage start short value groups (x ∷ bytes) b = go (takeOf (rangeOf stage
           inside = rw e (t .low, t .high);
         }
 
-    go : (t : Taken) → takeOf (rangeOf stage) value groups x ≡ t
+    go : (t : Taken) → takeByteOf (rangeOf stage) value groups x ≡ t
         → ((v : ℕ) → Starts (rangeOf stage) v (suc groups) bytes ⊎ (endOf (stepsOf (reading stage start v (suc groups)) bytes) ≡ broken start))
         → Starts (rangeOf stage) value groups (x ∷ bytes) ⊎ (endOf (stepsOf (reading stage start value groups) (x ∷ bytes)) ≡ broken start)
     go (More v) q ih = ⊎-elim (λ (w : Starts (rangeOf stage) v (suc groups) bytes). inl (more v q w)) (λ (e : endOf (stepsOf (reading stage start v (suc groups)) bytes) ≡ broken start). inr (stepped (More v) q ∙ e)) (ih v)

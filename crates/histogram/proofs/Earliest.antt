@@ -1,6 +1,6 @@
 -- The reader stops at the first byte after which no continuation could be accepted: where it has not stopped, some bytes more make a file that is accepted.
 -- Assumes nothing.
-use Prim.Native.Nat.{ℕ, zero, suc, _+_, _*_, _%_, _-_, _^_, _≤_, _<_, zero-le}
+use Prim.Native.Nat.{ℕ, zero, suc, _+_, _^_, _≤_, _<_}
 use mathlib.Core.Path.{_≡_, refl, sym, ap, _∙_, subst}
 use mathlib.Core.List.{List, [], _∷_, _++_, append-nil}
 use mathlib.Core.Logic.{_⊎_, inl, inr, ⊎-elim}
@@ -9,11 +9,11 @@ use lib.ListN.{length, replicate, length-replicate}
 use Rattle.meaning.specs.Reply.{broken, give}
 use Rattle.histogram.specs.declared.number.Taken.{Taken}
 use Rattle.histogram.specs.declared.number.Taken.the-variants.{More, Whole, Wrong}
-use Rattle.histogram.specs.Number.{Range, withGroup, takeOf, numberBytes, numbersBytes}
+use Rattle.histogram.specs.Number.{withGroup, takeByteOf, numbersBytes}
 use Rattle.histogram.specs.File.{mostBins, Stage, form, count, bins, rangeOf, nextOf, State, reading, stopped, goesOn, stepOf, stepsOf, endsOf, endOf, readOf}
 use Rattle.histogram.specs.Claims.{Below, Allowed, behind, Continues, Stops}
 use Rattle.histogram.proofs.Tests.{below-or}
-use Rattle.histogram.proofs.Weights.{weight-pos, weight-mono}
+use Rattle.histogram.proofs.Weights.{weight-mono}
 use Rattle.histogram.proofs.Takes as takes
 use Rattle.histogram.proofs.Steps.{one-step, steps-append, stays-stopped}
 use Rattle.histogram.proofs.Forth.{numbers-read}
@@ -27,9 +27,9 @@ Good (stopped place) = Unit {0}
 good-step : (state : State) (byte : ℕ) → Good state → Good (stepOf state byte)
 unfolding stepOf
 good-step (stopped place) byte g = tt
-good-step (reading stage start value groups) byte g = go (takeOf (rangeOf stage) value groups byte) refl
+good-step (reading stage start value groups) byte g = go (takeByteOf (rangeOf stage) value groups byte) refl
   where
-    go : (t : Taken) → takeOf (rangeOf stage) value groups byte ≡ t → Good (goesOn stage start groups t)
+    go : (t : Taken) → takeByteOf (rangeOf stage) value groups byte ≡ t → Good (goesOn stage start groups t)
     go (More v) q = ((λ (z : suc groups ≡ 0). absurd (omega arith)), (λ (_ : 0 < suc groups). takes.tells (rangeOf stage) value groups byte (More v) q .room))
     go (Whole n) q = ((λ _. refl), (λ (h : 0 < 0). absurd (omega arith)))
     go Wrong q = tt
@@ -92,7 +92,7 @@ ends-inside stage start value groups g h =
     let n = withGroup value groups 1 in
     let m : 128 ^ 1 ≤ 128 ^ groups = weight-mono {g = 1} g in
     let l = low-least stage in
-    let t : takeOf (rangeOf stage) value groups 1 ≡ Whole n = takes.ends (rangeOf stage) value groups 1 (omega arith) (λ z _. one-not-zero z) (omega arith) (omega arith) in
+    let t : takeByteOf (rangeOf stage) value groups 1 ≡ Whole n = takes.ends (rangeOf stage) value groups 1 (omega arith) (λ z _. one-not-zero z) (omega arith) (omega arith) in
     let w = ends-from (nextOf stage n) (start + suc groups) in
     record { bytes = 1 ∷ w .bytes; are = (omega arith, w .are); xs = w .xs; accepted = ap endOf (one-step stage start value groups 1 (w .bytes) (Whole n) t) ∙ w .accepted }
 

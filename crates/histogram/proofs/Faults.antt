@@ -1,14 +1,14 @@
 -- The kinds of fault, and the place of each: a number cut short, one that is too long, one outside its range, one that is missing, and bytes behind the last bin. Assumes nothing.
-use Prim.Native.Nat.{ℕ, zero, suc, _+_, _/_, _%_, _^_, _≤_, _<_}
+use Prim.Native.Nat.{ℕ, suc, _+_, _/_, _%_, _≤_, _<_}
 use mathlib.Core.Path.{_≡_, refl, sym, ap, _∙_, subst}
-use mathlib.Core.List.{List, [], _∷_, _++_, append-nil, append-assoc}
+use mathlib.Core.List.{List, [], _∷_, _++_, append-nil}
 use mathlib.Core.Logic.{⊎-elim}
 use native.Mathlib.Omega.{arith}
 use lib.ListN.{length, length-append}
 use Rattle.meaning.specs.Reply.{broken}
-use Rattle.histogram.specs.Number.{Range, numberBytes, numbersBytes}
+use Rattle.histogram.specs.Number.{numberBytes, numbersBytes}
 use Rattle.histogram.specs.File.{form, bins, rangeOf, readOf, writeOf}
-use Rattle.histogram.specs.Claims.{Below, Histogram, Continued, In, Allowed, behind, Complete, None, FirstFault}
+use Rattle.histogram.specs.Claims.{Below, Histogram, Continued, In, Allowed, behind, Complete, None}
 use Rattle.histogram.proofs.Tests.{below-or}
 use Rattle.histogram.proofs.Groups.{bytes-last, bytes-more, bytes-some, by-groups}
 use Rattle.histogram.proofs.Lists.{below-append, number-below, bytes-below, file-allowed, file-behind}

@@ -1,13 +1,13 @@
 -- From what is written to what is read: the bytes of a number of the range take the reader behind them with the number read, and so do those of several. Assumes nothing.
-use Prim.Native.Nat.{ℕ, zero, suc, _+_, _*_, _/_, _%_, _^_, _≤_, _<_}
-use mathlib.Core.Path.{_≡_, refl, sym, ap, _∙_, subst}
+use Prim.Native.Nat.{ℕ, suc, _+_, _*_, _/_, _%_, _^_, _≤_, _<_}
+use mathlib.Core.Path.{_≡_, sym, ap, _∙_, subst}
 use mathlib.Core.List.{List, [], _∷_, _++_, append-assoc}
 use native.Mathlib.Nat.{add-zero, mul-le-mul-right}
 use native.Mathlib.Omega.{arith}
 use lib.ListN.{length, length-append}
 use Rattle.histogram.specs.declared.number.Taken.the-variants.{More, Whole}
-use Rattle.histogram.specs.Number.{Range, withGroup, takeOf, numberBytes, numbersBytes}
-use Rattle.histogram.specs.File.{Stage, rangeOf, nextOf, State, reading, stepsOf}
+use Rattle.histogram.specs.Number.{withGroup, takeByteOf, numberBytes, numbersBytes}
+use Rattle.histogram.specs.File.{Stage, rangeOf, nextOf, reading, stepsOf}
 use Rattle.histogram.specs.Claims.{In, Allowed, behind}
 use Rattle.histogram.proofs.Weights.{weight-suc}
 use Rattle.histogram.proofs.Takes as takes
@@ -30,13 +30,10 @@ module _ (stage : Stage) (start : ℕ) where
 
   reads-last : (r : ℕ) → r < 128 → Reads r
   reads-last r l v g rest z i =
-      let e : withGroup v g r ≡ v + r * 128 ^ g = ap (λ (k : ℕ). v + k * 128 ^ g) (small r l) in
-      let t : takeOf (rangeOf stage) v g r ≡ Whole (withGroup v g r) = takes.ends (rangeOf stage) v g r l (λ (y : r ≡ 0) (h : 0 < g). zero-not y (z h)) (rw e (i .0)) (rw e (i .1)) in
+      let e : withGroup v g r ≡ v + r * 128 ^ g = ap (λ (k : ℕ). v + k * 128 ^ g) (takes.last-low r l) in
+      let t : takeByteOf (rangeOf stage) v g r ≡ Whole (withGroup v g r) = takes.ends (rangeOf stage) v g r l (λ (y : r ≡ 0) (h : 0 < g). zero-not y (z h)) (rw e (i .0)) (rw e (i .1)) in
       rw (bytes-last r l) (one-step stage start v g r rest (Whole (withGroup v g r)) t ∙ rw (e, one))
     where
-      small : (r : ℕ) → r < 128 → r % 128 ≡ r
-      small r h = omega arith
-
       zero-not : r ≡ 0 → 0 < r → ⊥
       zero-not y p = omega arith
 
@@ -49,9 +46,10 @@ module _ (stage : Stage) (start : ℕ) where
       let e : withGroup v g b ≡ v + r % 128 * 128 ^ g = ap (λ (k : ℕ). v + k * 128 ^ g) (low r) in
       let w : v + r * 128 ^ g ≡ withGroup v g b + r / 128 * 128 ^ suc g = low-group r v (128 ^ g) ∙ rw (weight-suc g, e) in
       let m : 1 * 128 ^ suc g ≤ r / 128 * 128 ^ suc g = mul-le-mul-right (128 ^ suc g) (some r h) in
-      let t : takeOf (rangeOf stage) v g b ≡ More (withGroup v g b) = takes.goes-on (rangeOf stage) v g b (omega arith) (omega (arith, i .1)) in
-      let k : stepsOf (reading stage start (withGroup v g b) (suc g)) (numberBytes (r / 128) ++ rest) ≡ stepsOf (reading (nextOf stage (v + r * 128 ^ g)) (start + suc g + length (numberBytes (r / 128))) 0 0) rest = rw w (ih (withGroup v g b) (suc g) rest (λ (_ : 0 < suc g). some r h) (subst (In (rangeOf stage)) w i)) in
-      rw (bytes-more r h) (one-step stage start v g b (numberBytes (r / 128) ++ rest) (More (withGroup v g b)) t ∙ k ∙ ap (λ (p : ℕ). stepsOf (reading (nextOf stage (v + r * 128 ^ g)) p 0 0) rest) (moved (length (numberBytes (r / 128)))))
+      let t : takeByteOf (rangeOf stage) v g b ≡ More (withGroup v g b) = takes.goes-on (rangeOf stage) v g b (omega arith) (omega (arith, i .1)) in
+      let s = one-step stage start v g b (numberBytes (r / 128) ++ rest) (More (withGroup v g b)) t in
+      let k = ih (withGroup v g b) (suc g) rest (λ (_ : 0 < suc g). some r h) (subst (In (rangeOf stage)) w i) in
+      rw (bytes-more r h, w) (s ∙ k ∙ ap (λ (p : ℕ). stepsOf (reading (nextOf stage (withGroup v g b + r / 128 * 128 ^ suc g)) p 0 0) rest) (moved (length (numberBytes (r / 128)))))
     where
       low : (r : ℕ) → (128 + r % 128) % 128 ≡ r % 128
       low r = omega arith

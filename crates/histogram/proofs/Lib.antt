@@ -1,3 +1,4 @@
+-- What the functions' proofs cite, on plain values; then the theorems, and what each rests on.
 pub mod Tests
 pub mod Weights
 pub mod Takes
@@ -7,13 +8,13 @@ pub mod Bins
 pub mod Overs
 pub mod Rooms
 pub mod Groups
-pub mod Puts
+pub mod Lists
 pub mod Sizes
+pub mod Puts
 pub mod Refusals
 pub mod Forth
-pub mod Lists
-pub mod RoundTrip
 pub mod Back
+pub mod RoundTrip
 pub mod Earliest
 pub mod Places
 pub mod Faults

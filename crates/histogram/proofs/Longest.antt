@@ -1,13 +1,13 @@
 -- The first bytes of a long file decide: one more than the longest accepted file has. Assumes nothing.
-use Prim.Native.Nat.{ℕ, zero, suc, _+_, _*_, _^_, _≤_, _<_}
-use mathlib.Core.Path.{_≡_, refl, sym, ap, _∙_, subst}
-use mathlib.Core.List.{List, [], _∷_, _++_, append-nil}
+use Prim.Native.Nat.{ℕ, _≤_, _<_}
+use mathlib.Core.Path.{_≡_, sym, ap, _∙_, subst}
+use mathlib.Core.List.{List, [], _++_, append-nil}
 use mathlib.Core.Logic.{⊎-elim}
 use native.Mathlib.Omega.{arith}
 use lib.ListN.{length, take, drop, length-append, take-append-drop}
 use lib.Seq.{take-all, length-take-le}
 use Rattle.meaning.specs.Reply.{give}
-use Rattle.histogram.specs.File.{mostBins, readOf, writeOf}
+use Rattle.histogram.specs.File.{readOf, writeOf}
 use Rattle.histogram.specs.Claims.{Below, Histogram, longestFile, Continues, Stops}
 use Rattle.histogram.proofs.Tests.{below-or}
 use Rattle.histogram.proofs.Sizes.{file-within}

@@ -1,18 +1,18 @@
 -- The place of a refusal is where the first number at fault starts, in both directions. Assumes nothing.
 use Prim.Native.Nat.{ℕ, zero, suc, _+_, _≤_, _<_}
 use mathlib.Core.Path.{_≡_, refl, sym, ap, _∙_, subst}
-use mathlib.Core.List.{List, [], _∷_, _++_, append-nil, append-assoc}
+use mathlib.Core.List.{List, [], _∷_, _++_, append-assoc}
 use mathlib.Core.Logic.{_⊎_, inl, inr, ⊎-elim}
 use native.Mathlib.Nat.{add-zero, zero-add, le-refl}
 use native.Mathlib.Omega.{arith}
 use lib.ListN.{length, length-append}
-use Rattle.meaning.specs.Reply.{broken, give}
+use Rattle.meaning.specs.Reply.{broken}
 use Rattle.meaning.proofs.Replies.{same-place, answer-not-broken}
 use Rattle.histogram.specs.declared.number.Taken.{Taken}
 use Rattle.histogram.specs.declared.number.Taken.the-variants.{More, Whole, Wrong}
-use Rattle.histogram.specs.Number.{takeOf, numberBytes, numbersBytes}
-use Rattle.histogram.specs.File.{Stage, form, count, bins, rangeOf, nextOf, reading, goesOn, stepsOf, endsOf, endOf, readOf}
-use Rattle.histogram.specs.Claims.{Below, In, Allowed, behind, Complete, None, FirstFault}
+use Rattle.histogram.specs.Number.{takeByteOf, numberBytes, numbersBytes}
+use Rattle.histogram.specs.File.{Stage, form, count, bins, rangeOf, nextOf, reading, stepsOf, endsOf, endOf, readOf}
+use Rattle.histogram.specs.Claims.{Below, Allowed, behind, Complete, None, FirstFault}
 use Rattle.histogram.proofs.Takes.{none-comes}
 use Rattle.histogram.proofs.Groups.{bytes-some}
 use Rattle.histogram.proofs.Steps.{one-step, stays-stopped}
@@ -81,9 +81,9 @@ forward : (stage : Stage) (start value groups place : ℕ) (bytes : List ℕ) �
 unfolding stepsOf
 forward stage start value groups place [] e = let s = ends-place stage start place e in omega arith
 forward stage start value groups place (b ∷ bytes) e =
-    go (takeOf (rangeOf stage) value groups b) refl (λ (v : ℕ). forward stage start v (suc groups) place bytes) (λ (n : ℕ). forward (nextOf stage n) (start + suc groups) 0 0 place bytes)
+    go (takeByteOf (rangeOf stage) value groups b) refl (λ (v : ℕ). forward stage start v (suc groups) place bytes) (λ (n : ℕ). forward (nextOf stage n) (start + suc groups) 0 0 place bytes)
   where
-    go : (t : Taken) → takeOf (rangeOf stage) value groups b ≡ t
+    go : (t : Taken) → takeByteOf (rangeOf stage) value groups b ≡ t
         → ((v : ℕ) → endOf (stepsOf (reading stage start v (suc groups)) bytes) ≡ broken place → start ≤ place)
         → ((n : ℕ) → endOf (stepsOf (reading (nextOf stage n) (start + suc groups) 0 0) bytes) ≡ broken place → start + suc groups ≤ place) → start ≤ place
     go (More v) q im iw = im v (sym (ap endOf (one-step stage start value groups b bytes (More v) q)) ∙ e)

@@ -1,9 +1,8 @@
 -- Bytes put one behind the other into the front of lent memory: what is written so far, and what is still to come, make up the whole.
 -- A turn puts one byte, or lends the rest of the memory to the writer of the next bytes. Assumes nothing.
-use Prim.Native.Nat.{ℕ, suc, _+_, _-_, _≤_, _<_}
+use Prim.Native.Nat.{ℕ, _+_, _-_, _≤_}
 use mathlib.Core.Path.{_≡_, refl, sym, ap, _∙_}
 use mathlib.Core.List.{List, [], _∷_, _++_, append-assoc, append-nil}
-use native.Mathlib.Numerals.{add-one}
 use native.Mathlib.Omega.{arith}
 use lib.ListN.{length, take, drop, set, length-append, length-drop, length-set, drop-of-length-le}
 use lib.Seq.{take-at, drop-at, take-all, drop-drop}

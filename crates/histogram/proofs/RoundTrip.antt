@@ -1,5 +1,5 @@
 -- Reading what was written gives the histogram back, and each accepted file is what the writer writes. Assumes nothing.
-use Prim.Native.Nat.{ℕ, zero, suc, _+_, _-_, _^_, _≤_}
+use Prim.Native.Nat.{ℕ, zero, suc, _+_, _^_}
 use mathlib.Core.Path.{_≡_, refl, sym, ap, _∙_, subst}
 use mathlib.Core.List.{List, [], _∷_, _++_, append-nil}
 use native.Mathlib.Omega.{arith}
@@ -10,7 +10,7 @@ use Rattle.meaning.proofs.Replies.{same-answer, answer-not-broken}
 use Rattle.histogram.specs.declared.number.Taken.the-variants.{Wrong}
 use Rattle.histogram.specs.Number.{numberBytes, numbersBytes}
 use Rattle.histogram.specs.File.{Stage, form, count, bins, rangeOf, nextOf, reading, stepsOf, endsOf, endOf, readOf, writeOf}
-use Rattle.histogram.specs.Claims.{Below, Histogram, behind}
+use Rattle.histogram.specs.Claims.{Below, Histogram}
 use Rattle.histogram.proofs.Forth.{numbers-read}
 use Rattle.histogram.proofs.Takes.{none-comes}
 use Rattle.histogram.proofs.Steps.{one-step, stays-stopped}

@@ -2,16 +2,16 @@
 use Prim.Native.Nat.{ℕ, zero, suc, _+_, _≤_, _<_}
 use mathlib.Core.Path.{_≡_, refl, sym, ap, _∙_, subst}
 use mathlib.Core.List.{List, [], _∷_, _++_}
-use native.Mathlib.Nat.{zero-add, add-zero, add-suc, add-assoc}
+use native.Mathlib.Nat.{add-zero}
 use native.Mathlib.Omega.{arith}
 use lib.ListN.{length, getD, drop, drop-of-length-le}
 use lib.Seq.{drop-drop, drop-cons}
-use Rattle.meaning.specs.Reply.{Reply, broken, give}
-use Rattle.meaning.proofs.Replies.{same-answer, same-place, answer-not-broken}
+use Rattle.meaning.specs.Reply.{refuse, broken, give}
+use Rattle.meaning.proofs.Replies.{same-answer, same-place, answer-not-refused, answer-not-broken, refused-not-broken}
 use Rattle.histogram.specs.declared.number.Taken.{Taken}
 use Rattle.histogram.specs.declared.number.Taken.the-variants.{More, Whole, Wrong}
-use Rattle.histogram.specs.Number.{Range, Found, takeOf, foundBy, numberFrom, numberAt}
-use Rattle.histogram.specs.File.{Stage, bins, rangeOf, nextOf, State, reading, stopped, goesOn, stepOf, stepsOf, endsOf, endOf, readFrom}
+use Rattle.histogram.specs.Number.{Found, takeByteOf, foundBy, numberFrom, numberAtOf}
+use Rattle.histogram.specs.File.{Stage, form, count, bins, rangeOf, nextOf, State, reading, stopped, goesOn, stepOf, stepsOf, endsOf, endOf, readFrom}
 use Rattle.histogram.proofs.Takes as takes
 
 -- ---- a part of a file after another
@@ -26,7 +26,7 @@ stays-stopped place [] = refl
 stays-stopped place (b ∷ bytes) = stays-stopped place bytes
 
 -- one byte, by what it makes of the number
-pub one-step : (stage : Stage) (start value groups b : ℕ) (bytes : List ℕ) (t : Taken) → takeOf (rangeOf stage) value groups b ≡ t → stepsOf (reading stage start value groups) (b ∷ bytes) ≡ stepsOf (goesOn stage start groups t) bytes
+pub one-step : (stage : Stage) (start value groups b : ℕ) (bytes : List ℕ) (t : Taken) → takeByteOf (rangeOf stage) value groups b ≡ t → stepsOf (reading stage start value groups) (b ∷ bytes) ≡ stepsOf (goesOn stage start groups t) bytes
 unfolding stepsOf stepOf
 one-step stage start value groups b bytes t q = ap (λ (u : Taken). stepsOf (goesOn stage start groups u) bytes) q
 
@@ -43,7 +43,7 @@ pub whole-number : (stage : Stage) (start value groups : ℕ) (bytes : List ℕ)
 unfolding numberFrom
 whole-number stage start value groups [] f e = absurd (answer-not-broken (sym e))
 whole-number stage start value groups (b ∷ bytes) f e =
-    go (takeOf (rangeOf stage) value groups b) refl (λ (v : ℕ). whole-number stage start v (suc groups) bytes f) e
+    go (takeByteOf (rangeOf stage) value groups b) refl (λ (v : ℕ). whole-number stage start v (suc groups) bytes f) e
   where
     moved : (k : ℕ) → start + suc groups + k ≡ start + groups + suc k
     moved k = omega arith
@@ -51,7 +51,7 @@ whole-number stage start value groups (b ∷ bytes) f e =
     one : start + suc groups ≡ start + groups + 1
     one = omega arith
 
-    go : (t : Taken) → takeOf (rangeOf stage) value groups b ≡ t
+    go : (t : Taken) → takeByteOf (rangeOf stage) value groups b ≡ t
         → ((v : ℕ) → numberFrom (rangeOf stage) start v (suc groups) bytes ≡ give f → Reads stage start v (suc groups) bytes f)
         → foundBy t start (start + suc groups) (λ v. numberFrom (rangeOf stage) start v (suc groups) bytes) ≡ give f → Reads stage start value groups (b ∷ bytes) f
     go (More v) q ih h =
@@ -75,15 +75,24 @@ pub number-at-fault : (stage : Stage) (start value groups place : ℕ) (bytes : 
 unfolding numberFrom stepsOf
 number-at-fault stage start value groups place [] short e = (sym (same-place e), short)
 number-at-fault stage start value groups place (b ∷ bytes) short e =
-    go (takeOf (rangeOf stage) value groups b) refl (λ (v : ℕ). number-at-fault stage start v (suc groups) place bytes short) e
+    go (takeByteOf (rangeOf stage) value groups b) refl (λ (v : ℕ). number-at-fault stage start v (suc groups) place bytes short) e
   where
-    go : (t : Taken) → takeOf (rangeOf stage) value groups b ≡ t
+    go : (t : Taken) → takeByteOf (rangeOf stage) value groups b ≡ t
         → ((v : ℕ) → numberFrom (rangeOf stage) start v (suc groups) bytes ≡ broken place → (place ≡ start) × (endOf (stepsOf (reading stage start v (suc groups)) bytes) ≡ broken start))
         → foundBy t start (start + suc groups) (λ v. numberFrom (rangeOf stage) start v (suc groups) bytes) ≡ broken place
         → (place ≡ start) × (endOf (stepsOf (reading stage start value groups) (b ∷ bytes)) ≡ broken start)
     go (More v) q ih h = let w = ih v h in (w .0, ap endOf (one-step stage start value groups b bytes (More v) q) ∙ w .1)
     go (Whole n) q ih h = absurd (answer-not-broken h)
     go Wrong q ih h = (sym (same-place h), ap endOf (one-step stage start value groups b bytes Wrong q ∙ stays-stopped start bytes))
+
+-- ---- a file is accepted or has a place: no other number comes back
+pub never-refused : (state : State) (n : ℕ) → endOf state ≡ refuse n → ⊥
+unfolding endsOf
+never-refused (stopped place) n e = refused-not-broken (sym e)
+never-refused (reading form start value groups) n e = refused-not-broken (sym e)
+never-refused (reading count start value groups) n e = refused-not-broken (sym e)
+never-refused (reading (bins zero done) start value groups) n e = answer-not-refused e
+never-refused (reading (bins (suc left) done) start value groups) n e = refused-not-broken (sym e)
 
 -- ---- the same by places of a file
 module _ (stage : Stage) (file : List ℕ) (at : ℕ) where
@@ -92,15 +101,15 @@ module _ (stage : Stage) (file : List ℕ) (at : ℕ) where
     pub high : f .value ≤ rangeOf stage .most
     pub on : readFrom stage file at ≡ readFrom (nextOf stage (f .value)) file (f .next)
 
-  pub goes : (f : Found) → numberAt (rangeOf stage) file at ≡ give f → Goes f
-  unfolding numberAt readFrom
+  pub goes : (f : Found) → numberAtOf (rangeOf stage) file at ≡ give f → Goes f
+  unfolding numberAtOf readFrom
   goes f e =
       let w = whole-number stage at 0 0 (drop at file) f e in
       let d : drop (w .k) (drop at file) ≡ drop (f .next) file = drop-drop (w .k) at file ∙ ap (λ (n : ℕ). drop n file) (sym (w .behind ∙ ap (λ (n : ℕ). n + w .k) (add-zero at))) in
       record { low = w .low; high = w .high; on = ap endOf (w .steps ∙ ap (stepsOf (reading (nextOf stage (f .value)) (f .next) 0 0)) d) }
 
-  pub breaks : (place : ℕ) → endsOf stage at ≡ broken at → numberAt (rangeOf stage) file at ≡ broken place → readFrom stage file at ≡ broken at
-  unfolding numberAt readFrom
+  pub breaks : (place : ℕ) → endsOf stage at ≡ broken at → numberAtOf (rangeOf stage) file at ≡ broken place → readFrom stage file at ≡ broken at
+  unfolding numberAtOf readFrom
   breaks place short e = number-at-fault stage at 0 0 place (drop at file) short e .1
 
 -- ---- the end

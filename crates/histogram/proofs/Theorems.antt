@@ -1,16 +1,19 @@
 -- THE HISTOGRAM FILE, claim by claim, to be read beside document 01. `readOf` and `writeOf` are what the reader's and the writer's calls promise; a file is a list of bytes, which is what
 -- `Below 256` says. Assumes nothing.
-use Prim.Native.Nat.{ℕ, _^_, _≤_, _<_}
+use Prim.Native.Nat.{ℕ, _≤_, _<_}
 use mathlib.Core.Path.{_≡_, sym, ap, _∙_}
-use mathlib.Core.List.{List, [], _∷_, _++_}
+use mathlib.Core.List.{List, _∷_, _++_}
 use mathlib.Core.Logic.{_⊎_}
 use lib.ListN.{length, take}
-use Rattle.meaning.specs.Reply.{broken, give}
+use Rattle.meaning.specs.Reply.{refuse, broken, give}
+use Rattle.meaning.proofs.Replies.{same-answer}
 use Rattle.histogram.specs.declared.reader.FileRead.{FileRead}
 use Rattle.histogram.specs.declared.reader.FileRead.the-variants.{Bins, Broken, Refused}
 use Rattle.histogram.specs.declared.writer.Written.{Written}
 use Rattle.histogram.specs.declared.writer.Written.the-variants as Written
-use Rattle.histogram.specs.Number.{numberBytes, numbersBytes}
+use Rattle.histogram.specs.declared.number.Number.{Number}
+use Rattle.histogram.specs.declared.number.Number.the-variants as Number
+use Rattle.histogram.specs.Number.{Found, numberSays, numberBytes, numbersBytes}
 use Rattle.histogram.specs.File.{State, form, rangeOf, reading, stopped, stepsOf, readOf, writeOf}
 use Rattle.histogram.specs.Read.{fileSays}
 use Rattle.histogram.specs.Write.{writtenSays}
@@ -44,6 +47,11 @@ refused-fault = places.refused-fault
 
 pub fault-refused : (file : List ℕ) (place : ℕ) → Below 256 file → FirstFault file place → readOf file ≡ broken place
 fault-refused = places.fault-refused
+
+-- a file is accepted or refused with a place: no other number comes back
+pub never-refused : (file : List ℕ) (n : ℕ) → readOf file ≡ refuse n → ⊥
+unfolding readOf
+never-refused file = steps.never-refused (stepsOf (reading form 0 0 0) file)
 
 -- ---- the kinds of fault, each behind numbers that may come: a number missing altogether, whose place is the file's length
 pub missing : (ns : List ℕ) → Allowed form ns → (Complete (behind form ns) → ⊥) → readOf (numbersBytes ns) ≡ broken (length (numbersBytes ns))
@@ -95,6 +103,18 @@ file-says-injective (Broken p) (Refused k) e = cc
 file-says-injective (Refused k) (Bins m) e = cc
 file-says-injective (Refused k) (Broken q) e = cc
 file-says-injective (Refused k) (Refused l) e = cc
+
+number-same : (n p m q : ℕ) → _≡_ {A = Found} (record { value = n; next = p }) (record { value = m; next = q }) → Number.Is n p ≡ Number.Is m q
+number-same n p m q e =
+    let v : n ≡ m = ap (λ (f : Found). f .value) e in
+    let w : p ≡ q = ap (λ (f : Found). f .next) e in
+    cc
+
+pub number-says-injective : (a b : Number) → numberSays a ≡ numberSays b → a ≡ b
+number-says-injective (Number.Is n p) (Number.Is m q) e = number-same n p m q (same-answer e)
+number-says-injective (Number.Is n p) (Number.Broken q) e = cc
+number-says-injective (Number.Broken p) (Number.Is m q) e = cc
+number-says-injective (Number.Broken p) (Number.Broken q) e = cc
 
 pub written-says-injective : (a b : Written) → writtenSays a ≡ writtenSays b → a ≡ b
 written-says-injective (Written.Items n) (Written.Items m) e = cc

@@ -1,6 +1,6 @@
--- What a group counts: 128 to the number of groups before it. Ten groups hold a `u64`, and of the tenth only 0 and 1. Assumes nothing.
+-- What a group counts: 128 to the number of groups before it. A `u64` has ten groups at most. Assumes nothing.
 use Prim.Native.Nat.{ℕ, suc, _*_, _^_, _≤_, _<_}
-use mathlib.Core.Path.{_≡_, ap}
+use mathlib.Core.Path.{_≡_}
 use mathlib.Core.Logic.{⊎-elim}
 use native.Mathlib.Nat.{one-le-pow, pow-succ', pow-le-pow-right, mul-le-mul-left}
 use native.Mathlib.Omega.{arith}
@@ -17,22 +17,16 @@ pub weight-mono : {g h : ℕ} → g ≤ h → 128 ^ g ≤ 128 ^ h
 weight-mono l = pow-le-pow-right (lit< tt) l
 
 -- an eleventh group counts more than a `u64` holds
-pub weight-deep : (g : ℕ) → 10 ≤ g → 2 ^ 64 ≤ 128 ^ g
+weight-deep : (g : ℕ) → 10 ≤ g → 2 ^ 64 ≤ 128 ^ g
 weight-deep g h = let m : 128 ^ 10 ≤ 128 ^ g = weight-mono h in omega arith
 
 -- a weight that fits a `u64` is that of one of ten groups
 pub ten-groups : (g : ℕ) → 128 ^ g < 2 ^ 64 → g ≤ 9
 ten-groups g h = ⊎-elim (λ (l : g < 10). omega arith) (λ (d : 10 ≤ g). let w = weight-deep g d in absurd (omega arith)) (below-or g 10)
 
--- a group of ten fits a `u64`, but for a tenth above 1
-pub group-fits : (low g : ℕ) → low < 128 → g ≤ 9 → (g ≡ 9 → low ≤ 1) → low * 128 ^ g < 2 ^ 64
-group-fits low g l h top = ⊎-elim small (λ (k : 9 ≤ g). last (omega arith)) (below-or g 9)
-  where
-    small : g < 9 → low * 128 ^ g < 2 ^ 64
-    small k =
-        let m : 128 ^ g ≤ 128 ^ 8 = weight-mono {h = 8} (omega arith) in
-        let p : low * 128 ^ g ≤ low * 128 ^ 8 = mul-le-mul-left low m in
-        omega arith
-
-    last : g ≡ 9 → low * 128 ^ g < 2 ^ 64
-    last e = let o = top e in let p : low * 128 ^ g ≡ low * 128 ^ 9 = ap (λ (k : ℕ). low * 128 ^ k) e in omega arith
+-- one of the first nine groups fits
+pub group-fits : (low g : ℕ) → low < 128 → g ≤ 8 → low * 128 ^ g < 2 ^ 64
+group-fits low g l h =
+    let m : 128 ^ g ≤ 128 ^ 8 = weight-mono {h = 8} h in
+    let p : low * 128 ^ g ≤ low * 128 ^ 8 = mul-le-mul-left low m in
+    omega arith

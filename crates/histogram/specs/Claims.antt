@@ -5,7 +5,7 @@ use mathlib.Core.List.{List, [], _∷_, _++_}
 use lib.ListN.{length}
 use Rattle.meaning.specs.Reply.{give}
 use Rattle.histogram.specs.Number.{Range, numberBytes, numbersBytes}
-use Rattle.histogram.specs.File.{mostBins, Stage, form, count, bins, rangeOf, nextOf, reading, stopped, stepsOf, readOf, writeOf}
+use Rattle.histogram.specs.File.{mostBins, Stage, form, count, bins, rangeOf, nextOf, reading, stopped, stepsOf, readOf}
 
 -- each number of a list is below m: a file is a list of bytes, `Below 256`
 abbrev pub Below : ℕ → List ℕ → Type 0

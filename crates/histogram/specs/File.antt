@@ -6,7 +6,7 @@ use lib.ListN.{length, drop}
 use Rattle.meaning.specs.Reply.{Reply, broken, give}
 use Rattle.histogram.specs.declared.number.Taken.{Taken}
 use Rattle.histogram.specs.declared.number.Taken.the-variants.{More, Whole, Wrong}
-use Rattle.histogram.specs.Number.{Range, between, takeOf, numbersBytes}
+use Rattle.histogram.specs.Number.{Range, between, takeByteOf, numbersBytes}
 
 -- the most bins that a file holds
 unfoldable pub mostBins : ℕ
@@ -45,7 +45,7 @@ goesOn stage start groups Wrong = stopped start
 
 -- one byte
 unfoldable pub stepOf : State → ℕ → State
-stepOf (reading stage start value groups) byte = goesOn stage start groups (takeOf (rangeOf stage) value groups byte)
+stepOf (reading stage start value groups) byte = goesOn stage start groups (takeByteOf (rangeOf stage) value groups byte)
 stepOf (stopped place) byte = stopped place
 
 -- the bytes of a part of a file, one after another

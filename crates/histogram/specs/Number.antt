@@ -1,7 +1,7 @@
 -- The numbers of a file, in groups of seven bits: low group first, the top bit set on all but the last, shortest form only.
 -- Reading takes a byte at a time, and gives a number up at the first byte after which none of its range can come. Definitions only. Assumes nothing.
 use Prim.Native.Nat.{ℕ, zero, suc, _+_, _*_, _/_, _%_, _^_}
-use mathlib.Core.Bool.{Bool, true, false, cond, _&&_, _||_}
+use mathlib.Core.Bool.{cond, _&&_, _||_}
 use mathlib.Core.List.{List, [], _∷_, _++_}
 use lib.Dec.{ltb, eqb}
 use lib.ListN.{drop}
@@ -44,8 +44,8 @@ withGroup value groups byte = value + byte % 128 * 128 ^ groups
 -- What a byte makes of a number: its value so far, with another group to come; the number; or nothing that its range allows.
 -- A last byte is wrong where it is a zero behind other groups, since a shorter form says the same, or where the number is outside its range.
 -- Any other byte is wrong where the least number that can still come, whose next group is its last and a 1, is above the range.
-unfoldable pub takeOf : Range → ℕ → ℕ → ℕ → Taken
-takeOf range value groups byte =
+unfoldable pub takeByteOf : Range → ℕ → ℕ → ℕ → Taken
+takeByteOf range value groups byte =
     let sum = withGroup value groups byte in
     cond (ltb byte 128)
     (cond (eqb byte 0 && ltb 0 groups || ltb sum (range .least) || ltb (range .most) sum) Wrong (Whole sum))
@@ -66,11 +66,11 @@ foundBy Wrong start next on = broken start
 -- the number that starts at the place start, from the byte behind its first groups on
 unfoldable pub numberFrom : Range → ℕ → ℕ → ℕ → List ℕ → Reply Found
 numberFrom range start value groups [] = broken start
-numberFrom range start value groups (byte ∷ rest) = foundBy (takeOf range value groups byte) start (start + suc groups) (λ v. numberFrom range start v (suc groups) rest)
+numberFrom range start value groups (byte ∷ rest) = foundBy (takeByteOf range value groups byte) start (start + suc groups) (λ v. numberFrom range start v (suc groups) rest)
 
 -- the number at a place of a file
-unfoldable pub numberAt : Range → List ℕ → ℕ → Reply Found
-numberAt range file start = numberFrom range start 0 0 (drop start file)
+unfoldable pub numberAtOf : Range → List ℕ → ℕ → Reply Found
+numberAtOf range file start = numberFrom range start 0 0 (drop start file)
 
 abbrev pub numberSays : Number → Reply Found
 numberSays (Number.Is n next) = give (record { value = n; next = next })

@@ -2,7 +2,7 @@
 ghost use mathlib.Core.Path.{_≡_};
 ghost use Prim.Native.Nat.{_≤_, _^_};
 ghost use lib.ListN.{length};
-ghost use Rattle.histogram.specs.Number.{numberBytes, between, takeOf, numberAt, numberSays};
+ghost use Rattle.histogram.specs.Number.{numberBytes, between, takeByteOf, numberAtOf, numberSays};
 
 // What a byte makes of a number: its value so far, with another group to come; the number; or nothing that its range allows.
 pub enum Taken {
@@ -28,7 +28,7 @@ const TOP: u64 = 9223372036854775808;
 
 fn tenth_byte(least: u64, most: u64, value: u64, byte: u8) -> Taken
     requires { ⌜ value ≤ most ⌝ }
-    ensures { λ r. ⌜ r ≡ takeOf (between least most) value 9 byte ⌝ }
+    ensures { λ r. ⌜ r ≡ takeByteOf (between least most) value 9 byte ⌝ }
 {
     if most < TOP {
         return Taken::Wrong;
@@ -48,7 +48,7 @@ fn tenth_byte(least: u64, most: u64, value: u64, byte: u8) -> Taken
 // One byte more of a number from `least` to `most`, behind groups that add up to `value`; its own group counts `weight`.
 fn take_byte(least: u64, most: u64, value: u64, groups: usize, weight: u64, byte: u8) -> Taken
     requires { ⌜ (weight ≡ 128 ^ groups) × (value ≤ most) ⌝ }
-    ensures { λ r. ⌜ r ≡ takeOf (between least most) value groups byte ⌝ }
+    ensures { λ r. ⌜ r ≡ takeByteOf (between least most) value groups byte ⌝ }
 {
     if groups > 8 {
         return tenth_byte(least, most, value, byte);
@@ -78,7 +78,7 @@ fn take_byte(least: u64, most: u64, value: u64, groups: usize, weight: u64, byte
 
 // The number from `least` to `most` at a place of a file.
 pub fn number_at(file: &[u8], start: usize, least: u64, most: u64) -> Number
-    ensures { λ r. ⌜ numberSays r ≡ numberAt (between least most) (now (file .entry)) start ⌝ }
+    ensures { λ r. ⌜ numberSays r ≡ numberAtOf (between least most) (now (file .entry)) start ⌝ }
 {
     let mut value: u64 = 0;
     let mut weight: u64 = 1;

@@ -1,9 +1,9 @@
 // Reading the histogram file into lent bins: all of it is read and checked before the first bin is written.
 ghost use mathlib.Core.Path.{_≡_};
 ghost use mathlib.Core.List.{List, []};
-ghost use Prim.Native.Nat.{ℕ, _≤_};
+ghost use Prim.Native.Nat.{ℕ, _-_, _^_, _≤_};
 ghost use lib.ListN.{length, take};
-ghost use Rattle.histogram.specs.Number.{between, numberAt, numberSays};
+ghost use Rattle.histogram.specs.Number.{between, numberAtOf, numberSays};
 ghost use Rattle.histogram.specs.File.{mostBins, bins as Bins, readFrom};
 ghost use Rattle.histogram.specs.Lent.{over, laid, counted};
 ghost use Rattle.histogram.specs.Read.{fitsIn, readHistogramOf, fileSays, heldSays, keptOf};
@@ -13,6 +13,12 @@ use crate::number::number_at;
 // The most bins that a file holds.
 pub const MAX_FILE_BINS: usize = 2047;
 
+// No accepted file is longer: a byte for the form, two for the bin count and five for each bin.
+pub const LONGEST_FILE: usize = 3 + 5 * MAX_FILE_BINS;
+
+// The largest bin.
+const MAX_BIN: u64 = 4294967295;
+
 // How many bins were read, or the place of the file's first fault (number 3), or another number.
 pub enum FileRead {
     Bins(usize),
@@ -20,23 +26,17 @@ pub enum FileRead {
     Refused(u8),
 }
 
-fn wide(byte: u8) -> u64
-    ensures { λ r. ⌜ r ≡ byte ⌝ }
-{
-    byte as u64
-}
-
 // The bin at a place. Most are a single group.
 fn bin_at(file: &[u8], at: usize) -> Number
-    ensures { λ r. ⌜ numberSays r ≡ numberAt (between 0 4294967295) (now (file .entry)) at ⌝ }
+    ensures { λ r. ⌜ numberSays r ≡ numberAtOf (between 0 (2 ^ 32 - 1)) (now (file .entry)) at ⌝ }
 {
     if at < file.len() {
         let byte = file[at];
         if byte < 128 {
-            return Number::Is(wide(byte), at + 1);
+            return Number::Is(byte as u64, at + 1);
         }
     }
-    number_at(file, at, 0, 4294967295)
+    number_at(file, at, 0, MAX_BIN)
 }
 
 // n bins from the place `first` on, and the end of the file behind them.

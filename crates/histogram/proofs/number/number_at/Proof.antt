@@ -1,15 +1,14 @@
 -- `histogram::number::number_at` meets its contract: at each turn what is left to read of the number is what the whole is. Assumes nothing.
 use Prim.Native.Nat.{ℕ, suc, _+_, _*_, _-_, _^_, _≤_}
-use mathlib.Core.Path.{_≡_, refl, sym, _∙_, ap}
+use mathlib.Core.Path.{_≡_, sym, _∙_}
 use native.Mathlib.Nat.{sub-self}
 use native.Mathlib.Numerals.{add-one}
 use native.Mathlib.Omega.{arith}
 use lib.ListN.{length, getD, drop}
 use borrow.Author.Needs.{needs}
-use Rattle.meaning.specs.Reply.{give, broken}
 use Rattle.histogram.specs.declared.number.Taken.{Taken}
 use Rattle.histogram.specs.declared.number.Taken.the-variants as Taken
-use Rattle.histogram.specs.Number.{between, takeOf, foundBy, numberFrom, numberAt}
+use Rattle.histogram.specs.Number.{between, foundBy, numberFrom, numberAtOf}
 use Rattle.histogram.proofs.Weights.{weight-suc}
 use Rattle.histogram.proofs.Takes.{tells}
 use Rattle.histogram.proofs.Numbers.{byte-more, no-more}
@@ -18,7 +17,7 @@ use Rattle.histogram.proofs.number.number_at.Tie as tie
 
 abbrev Inv-loop : tie.InvT-loop
 Inv-loop file start least most value₀ weight₀ at₀ value weight at =
-    (start ≤ at) × ((weight ≡ 128 ^ (at - start)) × (value ≤ most)) × (numberAt (between least most) file start ≡ numberFrom (between least most) start value (at - start) (drop at file))
+    (start ≤ at) × ((weight ≡ 128 ^ (at - start)) × (value ≤ most)) × (numberAtOf (between least most) file start ≡ numberFrom (between least most) start value (at - start) (drop at file))
 
 abbrev μ-loop : tie.MeasureT-loop
 μ-loop file start least most value₀ weight₀ at₀ value weight at = length file - at
@@ -28,7 +27,7 @@ turn : (k : tie.After-take-byte Inv-loop μ-loop) (t : Taken) → k .take-byte .
     (let l = k .before .before .before in
     let a = l .before .before .args in
     let g = l .loop .at - a .start in
-    numberAt (between (a .least) (a .most)) (a .file .now) (a .start) ≡ foundBy t (a .start) (a .start + suc g) (λ v. numberFrom (between (a .least) (a .most)) (a .start) v (suc g) (drop (suc (l .loop .at)) (a .file .now))))
+    numberAtOf (between (a .least) (a .most)) (a .file .now) (a .start) ≡ foundBy t (a .start) (a .start + suc g) (λ v. numberFrom (between (a .least) (a .most)) (a .start) v (suc g) (drop (suc (l .loop .at)) (a .file .now))))
 turn k t e =
     let l = k .before .before .before in
     let a = l .before .before .args in
@@ -48,7 +47,7 @@ next k v e =
     (omega arith, omega arith)
 
 loop-holds : tie.Need-loop-holds Inv-loop μ-loop
-unfolding numberAt
+unfolding numberAtOf
 loop-holds c = (search needs, (rw sub-self, omega arith), rw sub-self)
 
 sub-take-byte : tie.Need-sub-take-byte Inv-loop μ-loop

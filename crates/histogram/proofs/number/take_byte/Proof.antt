@@ -1,20 +1,18 @@
--- `histogram::number::take_byte` meets its contract: each return is a case of `takeOf`. Assumes nothing.
+-- `histogram::number::take_byte` meets its contract: each return is a case of `takeByteOf`. Assumes nothing.
 use Prim.Native.Nat.{ℕ, suc, _+_, _*_, _%_, _^_, _≤_, _<_}
 use mathlib.Core.Path.{_≡_, sym, _∙_, ap}
-use mathlib.Core.Logic.{⊎-elim}
 use native.Mathlib.Omega.{arith}
 use borrow.Author.Needs.{needs}
 use Rattle.histogram.specs.declared.number.Taken.{Taken}
 use Rattle.histogram.specs.declared.number.Taken.the-variants as Taken
-use Rattle.histogram.specs.Number.{between, withGroup, takeOf}
-use Rattle.histogram.proofs.Tests.{below-or}
+use Rattle.histogram.specs.Number.{between, withGroup, takeByteOf}
 use Rattle.histogram.proofs.Weights.{weight-suc, weight-mono, ten-groups, group-fits}
 use Rattle.histogram.proofs.Takes as takes
 use Rattle.histogram.proofs.number.take_byte.Statement.{statement}
 use Rattle.histogram.proofs.number.take_byte.Tie as tie
 
 abbrev taken : tie.Start → Taken
-taken s = takeOf (between (s .args .least) (s .args .most)) (s .args .value) (s .args .groups) (s .args .byte)
+taken s = takeByteOf (between (s .args .least) (s .args .most)) (s .args .value) (s .args .groups) (s .args .byte)
 
 abbrev total : tie.Start → ℕ
 total s = withGroup (s .args .value) (s .args .groups) (s .args .byte)
@@ -33,7 +31,7 @@ returns : tie.Need-returns
 returns c =
     let s = c .before .before in
     let e : 9 ≡ s .args .groups = let f = few s in omega arith in
-    c .tenth-byte .ensures ∙ ap (λ (g : ℕ). takeOf (between (s .args .least) (s .args .most)) (s .args .value) g (s .args .byte)) e
+    c .tenth-byte .ensures ∙ ap (λ (g : ℕ). takeByteOf (between (s .args .least) (s .args .most)) (s .args .value) g (s .args .byte)) e
 
 wide-requires : tie.Need-wide-requires
 wide-requires c κs = search needs
@@ -49,7 +47,7 @@ mul-put : tie.Need-mul-put
 mul-put c =
     let s = c .before .before in
     let p = put c in
-    let f : s .args .byte % 128 * 128 ^ s .args .groups < 2 ^ 64 = group-fits (s .args .byte % 128) (s .args .groups) (omega arith) (few s) (λ (e : s .args .groups ≡ 9). absurd (omega arith)) in
+    let f : s .args .byte % 128 * 128 ^ s .args .groups < 2 ^ 64 = group-fits (s .args .byte % 128) (s .args .groups) (omega arith) (c .before .if1 .left) in
     omega arith
 
 sub-if2 : tie.Need-sub-if2

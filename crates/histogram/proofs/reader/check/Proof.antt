@@ -1,13 +1,12 @@
 -- `histogram::reader::check` meets its contract. Assumes nothing.
-use Prim.Native.Nat.{ℕ, _≤_, zero-le}
-use mathlib.Core.Path.{_≡_, refl, sym, _∙_, ap}
-use mathlib.Core.List.{List}
+use Prim.Native.Nat.{_≤_, zero-le}
+use mathlib.Core.Path.{_≡_, sym, _∙_, ap}
 use native.Mathlib.Omega.{arith}
 use lib.ListN.{length}
 use borrow.Author.Needs.{needs}
 use Rattle.histogram.specs.declared.number.Number.{Number}
 use Rattle.histogram.specs.declared.number.Number.the-variants as Number
-use Rattle.histogram.specs.Number.{between, numberAt, numberSays}
+use Rattle.histogram.specs.Number.{between, numberAtOf, numberSays}
 use Rattle.histogram.specs.File.{mostBins, count, readFrom, readOf}
 use Rattle.histogram.specs.Read.{fitsIn, readHistogramOf, keptOf}
 use Rattle.histogram.proofs.Bins.{form-read, form-broken, count-fits, count-read, count-broken}
@@ -59,7 +58,7 @@ returns-2 c =
 number : (m : tie.After-known-told2) →
     (let a = m .before .before .before .before .before .before .before .before .before .before .args in
     let g = m .before .count .given in
-    numberAt (between 2 mostBins) (a .file .now) (m .before .before .before .before .before .form .given .0 .1 .0) ≡ numberSays (Number.Is (g .0 .0) (g .0 .1 .0)))
+    numberAtOf (between 2 mostBins) (a .file .now) (m .before .before .before .before .before .form .given .0 .1 .0) ≡ numberSays (Number.Is (g .0 .0) (g .0 .1 .0)))
 unfolding mostBins
 number m = sym (m .before .before .before .number-at2 .ensures) ∙ ap numberSays (m .before .count .given .1)
 

@@ -1,7 +1,7 @@
 -- `histogram::reader::read_bins` meets its contract: at each turn the file from here on, with the bins held, means what it meant from the first bin on. Assumes nothing.
-use Prim.Native.Nat.{ℕ, suc, _+_, _-_, _≤_, _<_}
+use Prim.Native.Nat.{ℕ, _+_, _-_, _≤_}
 use mathlib.Core.Path.{_≡_, refl, sym, _∙_, ap}
-use mathlib.Core.List.{List, [], _∷_, _++_}
+use mathlib.Core.List.{List, []}
 use native.Mathlib.Nat.{sub-zero}
 use native.Mathlib.Numerals.{add-one}
 use native.Mathlib.Omega.{arith}
@@ -10,7 +10,7 @@ use lib.Seq.{take-suc-set}
 use borrow.Author.Needs.{needs}
 use Rattle.histogram.specs.declared.number.Number.{Number}
 use Rattle.histogram.specs.declared.number.Number.the-variants as Number
-use Rattle.histogram.specs.Number.{between, numberAt, numberSays}
+use Rattle.histogram.specs.Number.{between, numberAtOf, numberSays}
 use Rattle.histogram.specs.File.{bins, readFrom}
 use Rattle.histogram.proofs.Steps.{all-read, trailing}
 use Rattle.histogram.proofs.Bins.{bin-fits, bin-read, bin-broken}
@@ -27,7 +27,7 @@ abbrev at-loop : tie.After-bin-at Inv-loop μ-loop → tie.At-loop Inv-loop μ-l
 at-loop c = c .before .before
 
 -- what the number at the loop's place is
-number : (c : tie.After-bin-at Inv-loop μ-loop) (r : Number) → c .bin-at .result ≡ r → numberAt (between 0 4294967295) (at-loop c .before .before .before .args .file .now) (at-loop c .loop .at) ≡ numberSays r
+number : (c : tie.After-bin-at Inv-loop μ-loop) (r : Number) → c .bin-at .result ≡ r → numberAtOf (between 0 4294967295) (at-loop c .before .before .before .args .file .now) (at-loop c .loop .at) ≡ numberSays r
 number c r e = sym (c .bin-at .ensures) ∙ ap numberSays e
 
 -- the last bin is read

@@ -1,6 +1,6 @@
 -- `histogram::reader::read_histogram` meets its contract: what is checked is held, and what is kept of it is copied. Assumes nothing.
 use Prim.Native.Nat.{ℕ, _≤_}
-use mathlib.Core.Path.{_≡_, refl, sym, _∙_, ap, subst}
+use mathlib.Core.Path.{_∙_, ap}
 use mathlib.Core.List.{List}
 use native.Mathlib.Nat.{le-refl}
 use native.Mathlib.Omega.{arith}
@@ -8,7 +8,7 @@ use lib.ListN.{length, take}
 use borrow.Author.Needs.{needs}
 use Rattle.histogram.specs.File.{mostBins, readOf}
 use Rattle.histogram.specs.Lent.{over, laid, counted}
-use Rattle.histogram.specs.Read.{readHistogramOf, heldSays, keptOf}
+use Rattle.histogram.specs.Read.{readHistogramOf, keptOf}
 use Rattle.histogram.proofs.Rooms.{kept-fits, says-counted, kept-laid}
 use Rattle.histogram.proofs.reader.read_histogram.Statement.{statement}
 use Rattle.histogram.proofs.reader.read_histogram.Tie as tie

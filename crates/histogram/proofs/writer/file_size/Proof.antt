@@ -1,7 +1,6 @@
 -- `histogram::writer::file_size` meets its contract: what is counted, and what is left to count, make up the whole. Assumes nothing.
 use Prim.Native.Nat.{ℕ, suc, _+_, _*_, _-_, _^_, _≤_, _<_}
-use mathlib.Core.Path.{_≡_, refl, sym, _∙_, ap}
-use mathlib.Core.List.{List, [], _∷_, _++_}
+use mathlib.Core.Path.{_≡_, _∙_, ap}
 use native.Mathlib.Numerals.{add-one}
 use native.Mathlib.Omega.{arith}
 use lib.ListN.{length, getD, drop, length-append}
@@ -72,8 +71,9 @@ loop-again c =
     let l = c .before .before .before .before in
     let xs = l .before .before .before .args .bins .now in
     let s = size c in
-    let h : l .loop .k < length xs = omega arith in
-    let e : length (numbersBytes (drop (l .loop .k) xs)) ≡ length (numberBytes (getD xs (l .loop .k) 0)) + length (numbersBytes (drop (suc (l .loop .k)) xs)) = ap length (bytes-from xs (l .loop .k) h) ∙ length-append (numberBytes (getD xs (l .loop .k) 0)) (numbersBytes (drop (suc (l .loop .k)) xs)) in
+    let k = l .loop .k in
+    let h : k < length xs = omega arith in
+    let e = ap length (bytes-from xs k h) ∙ length-append (numberBytes (getD xs k 0)) (numbersBytes (drop (suc k) xs)) in
     (omega arith, omega arith, rw (add-one (l .loop .k)) (omega arith))
 
 returns : tie.Need-returns Inv-loop μ-loop

@@ -1,7 +1,7 @@
 -- `histogram::writer::put_bins` meets its contract: at each turn the bytes still to come are those of the bins left. Assumes nothing.
-use Prim.Native.Nat.{ℕ, suc, _+_, _-_, _≤_, _<_}
-use mathlib.Core.Path.{_≡_, refl, sym, _∙_, ap, subst}
-use mathlib.Core.List.{List, [], _∷_, _++_}
+use Prim.Native.Nat.{ℕ, suc, _+_, _-_, _≤_}
+use mathlib.Core.Path.{_≡_, _∙_, ap, subst}
+use mathlib.Core.List.{List, _++_}
 use native.Mathlib.Numerals.{add-one}
 use native.Mathlib.Omega.{arith}
 use lib.ListN.{length, getD, take, drop}
@@ -25,17 +25,27 @@ xs l = l .before .before .before .args .bins .now
 abbrev bin : tie.At-loop Inv-loop μ-loop → ℕ
 bin l = getD (xs l) (l .loop .k) 0
 
+abbrev b : tie.At-loop Inv-loop μ-loop → List ℕ
+b l = l .before .before .before .args .out .now
+
+abbrev rest : tie.At-loop Inv-loop μ-loop → List ℕ
+rest l = numbersBytes (drop (suc (l .loop .k)) (xs l))
+
+-- what is lent to the writer of the next bin
+abbrev lent : tie.At-loop Inv-loop μ-loop → List ℕ
+lent l = take (length (l .loop .out) - l .loop .at) (drop (l .loop .at) (l .loop .out))
+
 -- the bin at the loop's place is next
 next : (c : tie.In-loop Inv-loop μ-loop) →
-    (let l = c .before in Putting (numbersBytes (xs l)) (l .before .before .before .args .out .now) (l .loop .out) (numberBytes (bin l) ++ numbersBytes (drop (suc (l .loop .k)) (xs l))) (l .loop .at))
+    (let l = c .before in Putting (numbersBytes (xs l)) (b l) (l .loop .out) (numberBytes (bin l) ++ rest l) (l .loop .at))
 next c =
     let l = c .before in
-    subst (λ (rest : List ℕ). Putting (numbersBytes (xs l)) (l .before .before .before .args .out .now) (l .loop .out) rest (l .loop .at)) (bytes-from (xs l) (l .loop .k) (c .loop-test .taken)) (l .loop .inv .1)
+    subst (λ (r : List ℕ). Putting (numbersBytes (xs l)) (b l) (l .loop .out) r (l .loop .at)) (bytes-from (xs l) (l .loop .k) (c .loop-test .taken)) (l .loop .inv .1)
 
 inside : (c : tie.In-loop Inv-loop μ-loop) → c .before .loop .at + length (numberBytes (bin (c .before))) ≤ length (c .before .loop .out)
 inside c =
     let l = c .before in
-    fits (numbersBytes (xs l)) (l .before .before .before .args .out .now) (l .loop .out) (l .loop .at) (numberBytes (bin l)) (numbersBytes (drop (suc (l .loop .k)) (xs l))) (next c) (l .before .before .before .pre)
+    fits (numbersBytes (xs l)) (b l) (l .loop .out) (l .loop .at) (numberBytes (bin l)) (rest l) (next c) (l .before .before .before .pre)
 
 -- the number of bytes that the call put
 size : (w : tie.After-put-number Inv-loop μ-loop) → w .put-number .result ≡ length (numberBytes (bin (w .before .before .before .before .before)))
@@ -66,7 +76,7 @@ put-number-requires : tie.Need-put-number-requires Inv-loop μ-loop
 put-number-requires c κs =
     let t = c .before .before .before in
     let l = t .before in
-    rw (c .wide .ensures) (room (numbersBytes (xs l)) (l .before .before .before .args .out .now) (l .loop .out) (l .loop .at) (numberBytes (bin l)) (numbersBytes (drop (suc (l .loop .k)) (xs l))) (next t) (l .before .before .before .pre))
+    rw (c .wide .ensures) (room (numbersBytes (xs l)) (b l) (l .loop .out) (l .loop .at) (numberBytes (bin l)) (rest l) (next t) (l .before .before .before .pre))
 
 add-at : tie.Need-add-at Inv-loop μ-loop
 add-at c = let w = c .before .before in omega (arith, inside (w .before .before .before .before), size w, w .before .before .before .before .before .loop .inv .1 .same)
@@ -82,8 +92,9 @@ loop-again c =
     let w = c .before .before in
     let t = w .before .before .before .before in
     let l = t .before in
-    let e : w .put-number .last .0 ≡ over (numberBytes (bin l)) (take (length (l .loop .out) - l .loop .at) (drop (l .loop .at) (l .loop .out))) = w .put-number .ensures .1 ∙ ap (λ (n : ℕ). over (numberBytes n) (take (length (l .loop .out) - l .loop .at) (drop (l .loop .at) (l .loop .out)))) (w .before .wide .ensures) in
-    (omega arith, rw (add-one (l .loop .k)) (puts-all (numbersBytes (xs l)) (l .before .before .before .args .out .now) (l .loop .out) (l .loop .at) (numberBytes (bin l)) (numbersBytes (drop (suc (l .loop .k)) (xs l))) (next t) (l .before .before .before .pre) (w .put-number .last .0) (w .put-number .result) (size w) e))
+    let e : w .put-number .last .0 ≡ over (numberBytes (bin l)) (lent l) = w .put-number .ensures .1 ∙ ap (λ (n : ℕ). over (numberBytes n) (lent l)) (w .before .wide .ensures) in
+    let p = puts-all (numbersBytes (xs l)) (b l) (l .loop .out) (l .loop .at) (numberBytes (bin l)) (rest l) (next t) (l .before .before .before .pre) (w .put-number .last .0) (w .put-number .result) (size w) e in
+    (omega arith, rw (add-one (l .loop .k)) p)
 
 same-length : tie.Need-same-length Inv-loop μ-loop
 same-length c = c .before .loop .inv .1 .same
@@ -91,7 +102,8 @@ same-length c = c .before .loop .inv .1 .same
 returns : tie.Need-returns Inv-loop μ-loop
 returns c =
     let l = c .before in
-    ends (numbersBytes (xs l)) (l .before .before .before .args .out .now) (l .loop .out) (l .loop .at) (subst (λ (rest : List ℕ). Putting (numbersBytes (xs l)) (l .before .before .before .args .out .now) (l .loop .out) rest (l .loop .at)) (no-bytes-left (xs l) (l .loop .k) (c .loop-test .left)) (l .loop .inv .1))
+    let p = subst (λ (r : List ℕ). Putting (numbersBytes (xs l)) (b l) (l .loop .out) r (l .loop .at)) (no-bytes-left (xs l) (l .loop .k) (c .loop-test .left)) (l .loop .inv .1) in
+    ends (numbersBytes (xs l)) (b l) (l .loop .out) (l .loop .at) p
 
 pub put-bins-spec : {M : Type 1} → statement M
 put-bins-spec =

@@ -1,10 +1,9 @@
 -- `histogram::writer::put_number` meets its contract: at each turn the bytes still to come are those of what is left. Assumes nothing.
 use Prim.Native.Nat.{ℕ, _+_, _/_, _%_, _≤_}
-use mathlib.Core.Path.{_≡_, refl, sym, _∙_, ap, subst}
+use mathlib.Core.Path.{subst}
 use mathlib.Core.List.{List, [], _∷_}
 use native.Mathlib.Omega.{arith}
 use lib.ListN.{length, set}
-use borrow.Author.Needs.{needs}
 use Rattle.histogram.specs.Number.{numberBytes}
 use Rattle.histogram.proofs.Groups.{bytes-last, bytes-more}
 use Rattle.histogram.proofs.Puts.{Putting, begins, fits, puts, ends}

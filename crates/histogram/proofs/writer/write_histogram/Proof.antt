@@ -1,5 +1,5 @@
 -- `histogram::writer::write_histogram` meets its contract. Assumes nothing.
-use Prim.Native.Nat.{ℕ, _+_, _*_, _^_, _≤_, _<_}
+use Prim.Native.Nat.{ℕ, _^_, _≤_, _<_}
 use mathlib.Core.Path.{refl, ap}
 use mathlib.Core.Logic.{⊎-elim}
 use native.Mathlib.Omega.{arith}
@@ -7,7 +7,6 @@ use lib.ListN.{length}
 use borrow.Author.Needs.{needs}
 use Rattle.meaning.specs.Reply.{give}
 use Rattle.histogram.specs.File.{mostBins, writeOf}
-use Rattle.histogram.specs.Write.{writeHistogramOf}
 use Rattle.histogram.proofs.Lists.{below-each}
 use Rattle.histogram.proofs.Sizes.{file-within}
 use Rattle.histogram.proofs.Refusals.{too-few, too-many, too-short, writes}
