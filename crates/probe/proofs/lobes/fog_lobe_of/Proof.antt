@@ -1,0 +1,13 @@
+-- `probe::lobes::fog_lobe_of` meets its contract. Assumes nothing.
+use borrow.Author.Needs.{needs}
+use Rattle.probe.proofs.lobes.fog_lobe_of.Statement.{statement}
+use Rattle.probe.proofs.lobes.fog_lobe_of.Tie as tie
+
+lobe-of-requires : tie.Need-lobe-of-requires
+lobe-of-requires c κs = search needs
+
+returns : tie.Need-returns
+returns c = rw (c .lobe-of .ensures)
+
+pub fog-lobe-of-spec : {M : Type 1} → statement M
+fog-lobe-of-spec = tie.close (tie.spec lobe-of-requires returns)

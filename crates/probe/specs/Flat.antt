@@ -1,0 +1,30 @@
+-- How C has a row of a table, three logs and a lobe. Definitions only. Assumes nothing.
+use Prim.Native.Nat.{ℕ}
+use mathlib.Core.List.{List}
+use lib.ListN.{getD}
+use lib.Ieee.{Float}
+use Rattle.routines.specs.Exp as exp
+use Rattle.routines.specs.declared.tables.Power.{Power}
+use Rattle.helpers.specs.declared.lobes.Lobe.{Lobe}
+use Rattle.helpers.specs.declared.log_sums.Logs3.{Logs3}
+use Rattle.probe.specs.declared.lobes.FlatLobe.{FlatLobe}
+use Rattle.probe.specs.declared.log_sums.FlatLogs3.{FlatLogs3}
+use Rattle.probe.specs.declared.tables.FlatPair.{FlatPair}
+
+abbrev pub pairOf : Float × Float → FlatPair
+pairOf (a, b) = record { first = a; second = b }
+
+abbrev pub ofPower : Power → FlatPair
+ofPower p = record { first = p .value; second = p .rest }
+
+abbrev pub entryOr0 : List Float → ℕ → Float
+entryOr0 xs i = getD xs i exp.zero
+
+abbrev pub ofLogs3 : Logs3 → FlatLogs3
+ofLogs3 l = record { first = l .first; second = l .second; third = l .third }
+
+abbrev pub ofLobe : Lobe → FlatLobe
+ofLobe l = record { poisson = l .poisson; mean = l .mean; rate = l .rate; size = l .size; gamma = l .gamma; start = l .start; slope = l .slope }
+
+abbrev pub toLobe : FlatLobe → Lobe
+toLobe l = record { poisson = l .poisson; mean = l .mean; rate = l .rate; size = l .size; gamma = l .gamma; start = l .start; slope = l .slope }

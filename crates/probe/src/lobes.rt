@@ -1,0 +1,63 @@
+// The Poisson, and a lobe as a value.
+ghost use mathlib.Core.Path.{_≡_};
+ghost use Rattle.helpers.specs.Lobes.{lnDpoisOf, lobeOf, densityOf};
+ghost use Rattle.probe.specs.Flat.{ofLobe, toLobe};
+use helpers::lobes::Lobe;
+use helpers::lobes::density;
+use helpers::lobes::ln_dpois;
+use helpers::lobes::lobe_of;
+
+#[repr(C)]
+pub struct FlatLobe {
+    pub poisson: bool,
+    pub mean: f64,
+    pub rate: f64,
+    pub size: f64,
+    pub gamma: f64,
+    pub start: f64,
+    pub slope: f64,
+}
+
+fn to_lobe(lobe: FlatLobe) -> Lobe
+    ensures { λ r. ⌜ r ≡ toLobe lobe ⌝ }
+{
+    Lobe {
+        poisson: lobe.poisson,
+        mean: lobe.mean,
+        rate: lobe.rate,
+        size: lobe.size,
+        gamma: lobe.gamma,
+        start: lobe.start,
+        slope: lobe.slope,
+    }
+}
+
+#[no_mangle]
+pub extern "C" fn fog_ln_dpois(x: f64, lambda: f64) -> f64
+    ensures { λ r. ⌜ r ≡ lnDpoisOf x lambda ⌝ }
+{
+    ln_dpois(x, lambda)
+}
+
+#[no_mangle]
+pub extern "C" fn fog_lobe_of(mean: f64, dispersion: f64) -> FlatLobe
+    ensures { λ r. ⌜ r ≡ ofLobe (lobeOf mean dispersion) ⌝ }
+{
+    let lobe = lobe_of(mean, dispersion);
+    FlatLobe {
+        poisson: lobe.poisson,
+        mean: lobe.mean,
+        rate: lobe.rate,
+        size: lobe.size,
+        gamma: lobe.gamma,
+        start: lobe.start,
+        slope: lobe.slope,
+    }
+}
+
+#[no_mangle]
+pub extern "C" fn fog_density(lobe: FlatLobe, x: f64) -> f64
+    ensures { λ r. ⌜ r ≡ densityOf (toLobe lobe) x ⌝ }
+{
+    density(to_lobe(lobe), x)
+}

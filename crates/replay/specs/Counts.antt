@@ -1,0 +1,9 @@
+-- A number of entries at the front of a list. The second part follows from the first; both are what lending that part asks. Definitions only. Assumes nothing.
+use Prim.Native.Nat.{ℕ, _≤_}
+use mathlib.Core.Path.{_≡_}
+use mathlib.Core.List.{List}
+use lib.Ieee.{Float}
+use lib.ListN.{length, take}
+
+abbrev pub Counts : ℕ → List Float → Type 0
+Counts n xs = (n ≤ length xs) × (n ≡ length (take n xs))

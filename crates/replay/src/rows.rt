@@ -1,0 +1,131 @@
+// A row is a line of hexadecimal words with a space between: the call's number, its arguments, its answer. A line that starts
+// with # is a comment.
+use crate::layer1;
+use crate::layer2;
+use crate::words::digit;
+use crate::words::word;
+
+// Where the replay stands: the word of the row that is being read, whether the row is a comment or has a byte that no row has, the
+// rows and the differences so far, and whether there may be more to read.
+pub struct Replay {
+    pub place: usize,
+    pub comment: bool,
+    pub broken: bool,
+    pub rows: u64,
+    pub differences: u64,
+    pub open: bool,
+}
+
+pub fn begin() -> Replay {
+    Replay {
+        place: 0,
+        comment: false,
+        broken: false,
+        rows: 0,
+        differences: 0,
+        open: true,
+    }
+}
+
+// Whether the port gives the row's answer.
+fn holds(row: &[u64]) -> bool {
+    let call = word(row, 0);
+    if call < 32 {
+        layer1::holds(call, row)
+    } else {
+        layer2::holds(call, row)
+    }
+}
+
+// The same of the words up to the one at `place`.
+fn holds_to(words: &[u64], place: usize) -> bool {
+    if place < words.len() {
+        let end = place + 1;
+        return holds(&words[..end]);
+    }
+    false
+}
+
+// One more, up to the largest.
+fn next(n: u64) -> u64 {
+    if n < u64::MAX { n + 1 } else { n }
+}
+
+fn end_row(words: &mut [u64], r: Replay) -> Replay {
+    let place = r.place;
+    let mut rows = r.rows;
+    let mut differences = r.differences;
+    if !r.comment {
+        rows = next(rows);
+        if r.broken || !holds_to(words, place) {
+            differences = next(differences);
+        }
+    }
+    start_word(words, 0);
+    Replay {
+        place: 0,
+        comment: false,
+        broken: false,
+        rows,
+        differences,
+        open: true,
+    }
+}
+
+fn start_word(words: &mut [u64], place: usize) {
+    if place < words.len() {
+        words[place] = 0;
+    }
+}
+
+fn end_word(words: &mut [u64], r: Replay) -> Replay {
+    let mut next = r;
+    if r.place < words.len() {
+        next.place = r.place + 1;
+    }
+    start_word(words, next.place);
+    next
+}
+
+fn take_digit(words: &mut [u64], r: Replay, d: u64) -> Replay {
+    let mut next = r;
+    let place = r.place;
+    if d < 16 {
+        if place < words.len() {
+            words[place] = words[place] % 0x1000_0000_0000_0000 * 16 + d;
+        }
+    } else {
+        next.broken = true;
+    }
+    next
+}
+
+fn take(words: &mut [u64], r: Replay, b: u8) -> Replay {
+    if b == b'\n' {
+        return end_row(words, r);
+    }
+    if r.comment {
+        return r;
+    }
+    if b == b'#' {
+        let mut next = r;
+        next.comment = true;
+        return next;
+    }
+    if b == b' ' {
+        return end_word(words, r);
+    }
+    take_digit(words, r, digit(b))
+}
+
+// Each byte in turn. No byte at all is the end.
+pub fn take_all(words: &mut [u64], start: Replay, bytes: &[u8]) -> Replay {
+    let mut r = start;
+    r.open = bytes.len() > 0;
+    let mut i = 0;
+    while i < bytes.len() {
+        r = take(words, r, bytes[i]);
+        i += 1;
+    }
+    r
+}

@@ -1,0 +1,40 @@
+/* A few answers of the library, as a C program sees them. */
+#include "fogatise.h"
+#include <stdio.h>
+
+static void show(const char *call, fog_number answer) {
+    if (answer.number)
+        printf("%-46s refused, number %u\n", call, answer.number);
+    else
+        printf("%-46s %.17g\n", call, answer.value);
+}
+
+int main(void) {
+    double table[64];
+    const fog_shelf shelf = {0.1, 2.0, 3.0};
+    const fog_shelf none = {0.0, 0.0, 0.0};
+
+    printf("%-46s %.17g\n", "exp(1)", fog_exp(1.0));
+    printf("%-46s %.17g\n", "ln(2)", fog_ln(2.0));
+    printf("%-46s %.17g\n", "expm1(1e-9)", fog_expm1(1e-9));
+    printf("%-46s %.17g\n", "lgamma(10.5)", fog_lgamma(10.5));
+    printf("%-46s %.17g\n", "ln_dnbinom(20, 25, 2)", fog_ln_dnbinom(20.0, 25.0, 2.0));
+    printf("%-46s %.17g\n", "ln_dbetabinom(3, 25, 2, 3)", fog_ln_dbetabinom(3.0, 25.0, 2.0, 3.0));
+    printf("%-46s %.17g\n", "ln_single_copy(20, 25, 2), no shelf", fog_ln_single_copy(20.0, 25.0, 2.0, 0, none));
+    printf("%-46s %.17g\n", "ln_single_copy(20, 25, 2), a shelf", fog_ln_single_copy(20.0, 25.0, 2.0, 1, shelf));
+    printf("%-46s %llu\n", "discrete_nb_mode(25, 2)", (unsigned long long)fog_discrete_nb_mode(25.0, 2.0));
+    printf("%-46s %.17g\n", "shelf_trials(24.5)", fog_shelf_trials(24.5));
+
+    fog_written written = fog_shelf_log_table(25.0, shelf, 60, table, 64);
+    printf("%-46s %u, %zu entries, the last %.17g\n", "shelf_log_table(25, to 60), room 64", written.number, written.items,
+           table[written.items - 1]);
+    printf("%-46s %.17g\n", "mix_single_copy(-3, 20)", fog_mix_single_copy(-3.0, 20.0, 1, shelf, table, written.items));
+    show("single_copy_log_mass(25, 2, a shelf, to 60)",
+         fog_single_copy_log_mass(25.0, 2.0, 1, shelf, table, written.items, 60));
+    show("log_nb_mass(25, 2, to 60)", fog_log_nb_mass(25.0, 2.0, 60));
+    show("log_nb_mass(25, 2, to 0)", fog_log_nb_mass(25.0, 2.0, 0));
+    show("log_nb_mass(25, 2, to 65536)", fog_log_nb_mass(25.0, 2.0, 65536));
+    written = fog_shelf_log_table(25.0, shelf, 60, table, 25);
+    printf("%-46s refused, number %u\n", "shelf_log_table(25, to 60), room 25", written.number);
+    return 0;
+}

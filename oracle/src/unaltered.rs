@@ -1,0 +1,8 @@
+//! The Rust as it is: std's exp, ln and exp_m1, and libm's lgamma.
+
+#[allow(dead_code)]
+#[path = "../../target/oracle/unaltered/math_helpers.rs"]
+pub mod math_helpers;
+#[allow(dead_code)]
+#[path = "../../target/oracle/unaltered/models.rs"]
+pub mod models;
