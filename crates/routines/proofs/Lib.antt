@@ -24,3 +24,4 @@ pub mod Compared
 pub mod RunningSum
 pub mod Sums
 pub mod Levels
+pub mod Zeros

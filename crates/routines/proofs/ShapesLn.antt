@@ -9,7 +9,7 @@ use borrow.Author.Tests.{ltb-true, ltb-false, le-ltb, lt-ltb}
 use lib.IntN.{ℤ, pos}
 use lib.Dec.{T, ltb, eqb, eqb→eq, lit≤}
 use lib.Ieee.{Float, nan, inf, fin, binary64, up, down, ofBits, mul, lt, le, eq, fits}
-use lib.Ieee.Fits.{add-fits, down-pos, up-pos, and-l}
+use lib.Ieee.Fits.{add-fits, cond-fits, inf-fits, nan-fits, down-pos, up-pos, and-l}
 use Rattle.routines.specs.Exp.{one}
 use Rattle.routines.specs.Exp.{zero as nought}
 use Rattle.routines.specs.Signs.{signClear}
@@ -39,6 +39,9 @@ beside-by x v P f g = go (lt v (mul binary64 v x)) refl
     go : (t : Bool) → lt v (mul binary64 v x) ≡ t → P (cond t v nought)
     go true e = f e
     go false e = g
+
+pub ln-fits : (x : Float) → T (fits binary64 x) → T (fits binary64 (lnOf x))
+ln-fits x F = ln-by x (λ (r : Float). T (fits binary64 r)) (λ l. F) (λ v G. beside-by x v (λ (r : Float). T (fits binary64 r)) (λ r. G) (unfold fits ofBits in tt)) (λ l. cond-fits binary64 (eq x nought) (inf true) nan (inf-fits binary64 true) (nan-fits binary64))
 
 -- what is at most 1 is not above the largest
 not-large : (x : Float) → le x one ≡ true → lt LARGEST x ≡ true → ⊥
