@@ -44,3 +44,30 @@ module _ {A : Type 0} (r : Reply A) where
   chain-passed (test true (suc m) ∷ ts) p e = let z : 0 ≡ suc m = e in absurd (omega arith)
   chain-passed (test false zero ∷ ts) p e = absurd (true≢false (sym p))
   chain-passed (test false (suc m) ∷ ts) p e = chain-passed ts p e
+
+-- ---- a chain that let through: none of its tests holds
+-- the test at place i, from 0 on; none stands behind the last
+abbrev pub holdsAt : List Test → ℕ → Bool
+holdsAt [] i = false
+holdsAt (test b n ∷ ts) zero = b
+holdsAt (test b n ∷ ts) (suc i) = holdsAt ts i
+
+pub none-holds : (ts : List Test) → numbered ts ≡ true → 0 ≡ firstOf ts → (i : ℕ) → holdsAt ts i ≡ false
+none-holds [] p e i = refl
+none-holds (test true zero ∷ ts) p e i = absurd (true≢false (sym p))
+none-holds (test true (suc m) ∷ ts) p e i = let z : 0 ≡ suc m = e in absurd (omega arith)
+none-holds (test false zero ∷ ts) p e i = absurd (true≢false (sym p))
+none-holds (test false (suc m) ∷ ts) p e zero = refl
+none-holds (test false (suc m) ∷ ts) p e (suc i) = none-holds ts p e i
+
+module _ {A : Type 0} (a b : A) where
+  pub gave-none : (ts : List Test) → chain ts (give a) ≡ give b → (i : ℕ) → holdsAt ts i ≡ false
+  gave-none [] e i = refl
+  gave-none (test true n ∷ ts) e i = absurd (answer-not-refused (sym e))
+  gave-none (test false n ∷ ts) e zero = refl
+  gave-none (test false n ∷ ts) e (suc i) = gave-none ts e i
+
+  pub gave-answer : (ts : List Test) → chain ts (give a) ≡ give b → a ≡ b
+  gave-answer [] e = same-answer e
+  gave-answer (test true n ∷ ts) e = absurd (answer-not-refused (sym e))
+  gave-answer (test false n ∷ ts) e = gave-answer ts e

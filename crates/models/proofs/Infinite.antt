@@ -46,10 +46,10 @@ not-nan (fin s m k) h = refl
 
 module _ (bins : List ℕ) (scale : Float) (end : ℕ) (p : Params) where
   -- the cost by its four tests
-  abbrev costed : Bool → Bool → Bool → Bool → Float
+  abbrev pub costed : Bool → Bool → Bool → Bool → Float
   costed a b c d = cond (a && b) (cond (c && d) (neg (totalAt bins scale end p)) (inf false)) (inf false)
 
-  cost-is : costAt bins scale end p ≡ costed (paramsUsable p) (modeHeld p) (massesUsable (massesAt end p)) (likelihoodUsable (totalAt bins scale end p))
+  pub cost-is : costAt bins scale end p ≡ costed (paramsUsable p) (modeHeld p) (massesUsable (massesAt end p)) (likelihoodUsable (totalAt bins scale end p))
   unfolding costAt started evaluatedOf
   cost-is = refl
 

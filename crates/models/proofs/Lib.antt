@@ -7,3 +7,4 @@ pub mod Costed
 pub mod Passed
 pub mod Infinite
 pub mod Unpacked
+pub mod Zeros

@@ -9,7 +9,7 @@ use lib.Dec.{ltb, eqb}
 use lib.ListN.{length}
 use lib.Ieee.{Float}
 use Rattle.meaning.specs.Reply.{Reply, refuse, give, chain, firstOf}
-use Rattle.meaning.proofs.Replies.{chain-refused, chain-passed}
+use Rattle.meaning.proofs.Replies.{chain-refused, chain-passed, none-holds}
 use Rattle.routines.specs.Ops.{ofCount}
 use Rattle.helpers.specs.declared.shelves.ShelfPart.{ShelfPart}
 use Rattle.models.specs.Costs.{roomy, costAt, tableAt, costOf, costTable}
@@ -23,10 +23,6 @@ use Rattle.models.specs.declared.families.GenomeModel.{GenomeModel}
 use Rattle.models.specs.declared.families.GenomeModel.the-variants.{NegativeBinomial, ShelfNegativeBinomial}
 use Rattle.models.specs.declared.params.Params.{Params}
 
-first-none : (b : Bool) (n x : ℕ) → 0 ≡ cond b (suc n) x → (b ≡ false) × (0 ≡ x)
-first-none true n x e = absurd (omega arith)
-first-none false n x e = (refl, e)
-
 pub record Passed (peak end : ℕ) (genome : GenomeModel) (room : ℕ) : Type 0 where
   pub peak-few : peak ≤ 65535
   pub end-few : end ≤ 65535
@@ -36,18 +32,8 @@ pub record Passed (peak end : ℕ) (genome : GenomeModel) (room : ℕ) : Type 0 
 pub passed : (bins : List ℕ) (scale : Float) (end peak : ℕ) (error : ErrorModel) (genome : GenomeModel) (listed room : ℕ) → 0 ≡ firstOf (fitTests bins scale end peak error genome listed room) → Passed peak end genome room
 unfolding fitTests
 passed bins scale end peak error genome listed room z =
-    let s1 = first-none (ltb peak 2) 0 _ z in
-    let s2 = first-none (ltb (length bins) 2) 0 _ (s1 .1) in
-    let s3 = first-none (ltb 65535 (length bins)) 1 _ (s2 .1) in
-    let s4 = first-none (ltb 65535 peak) 1 _ (s3 .1) in
-    let s5 = first-none (ltb 65535 end) 1 _ (s4 .1) in
-    let s6 = first-none (allZeroOf bins) 3 _ (s5 .1) in
-    let s7 = first-none (eqb end 0) 4 _ (s6 .1) in
-    let s8 = first-none (ltb (length bins) end) 4 _ (s7 .1) in
-    let s9 = first-none (noneRecoveredOf bins scale end) 5 _ (s8 .1) in
-    let s10 = first-none (not (eqb listed (listLengthOf error genome))) 6 _ (s9 .1) in
-    let s11 = first-none (ltb room (tableDemand genome end)) 9 _ (s10 .1) in
-    record { peak-few = ltb-false 65535 peak (s4 .0); end-few = ltb-false 65535 end (s5 .0); end-some = some end (eqb-false end 0 (s7 .0)); roomed = ltb-false room (tableDemand genome end) (s11 .0) }
+    let none = none-holds (fitTests bins scale end peak error genome listed room) refl z in
+    record { peak-few = ltb-false 65535 peak (none 3); end-few = ltb-false 65535 end (none 4); end-some = some end (eqb-false end 0 (none 6)); roomed = ltb-false room (tableDemand genome end) (none 10) }
   where
     some : (n : ℕ) → (n ≡ 0 → ⊥) → 1 ≤ n
     some n h = omega (arith, h)
