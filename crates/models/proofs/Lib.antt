@@ -8,3 +8,6 @@ pub mod Passed
 pub mod Infinite
 pub mod Unpacked
 pub mod Zeros
+pub mod Ranks
+pub mod Highest
+pub mod Corners
