@@ -11,3 +11,4 @@ pub mod Zeros
 pub mod Ranks
 pub mod Highest
 pub mod Corners
+pub mod Says

@@ -1,19 +1,21 @@
--- A turn of the likelihood's loop, with the lobes' constant parts worked out before it, is the step of its definition. Assumes nothing.
-use Prim.Native.Nat.{ℕ, _+_}
+-- A point of the likelihood, with what does not change worked out before the loop, is the point of its definition. Assumes nothing.
 use mathlib.Core.Path.{_≡_}
 use mathlib.Core.List.{List}
 use lib.Ieee.{Float}
-use Rattle.routines.specs.Ops.{_⊗_, ofCount}
-use Rattle.helpers.specs.Lobes.{densityOf, lobeOf}
-use Rattle.helpers.specs.declared.lobes.Lobe.{Lobe}
-use Rattle.helpers.proofs.Densities.{density-is}
-use Rattle.models.specs.Likelihoods.{pointWith, pointTerm}
-use Rattle.models.specs.Spectra.{recoveredAt, seenTerm, observedStep}
+use Rattle.routines.specs.Ops.{_⊕_, _⊖_}
+use Rattle.helpers.specs.Lobes.{densityOf}
+use Rattle.helpers.specs.LogSums.{lse3Of}
+use Rattle.helpers.specs.Shelves.{mixEntryOf}
+use Rattle.helpers.proofs.Densities.{density-is, mix-entry-is}
+use Rattle.models.specs.Errors.{logProbabilityOf}
+use Rattle.models.specs.Likelihoods.{steadyOf, pointWith, pointOf}
+use Rattle.models.specs.declared.likelihoods.Steady.{Steady}
 use Rattle.models.specs.declared.params.Params.{Params}
 use Rattle.models.specs.declared.window_masses.WindowMasses.{WindowMasses}
 
-pub point-step : (bins : List ℕ) (scale : Float) (p : Params) (m : WindowMasses) (table : List Float) (i n : ℕ) (total : Float) (lobe second : Lobe) (y : Float) → n ≡ recoveredAt bins scale i
-    → lobe ≡ lobeOf (p .mean) (p .dispersion) → second ≡ lobeOf (p .«repeat_ratio» ⊗ p .mean) (p .dispersion)
-    → y ≡ seenTerm n total (ofCount n ⊗ pointWith p m (densityOf lobe (ofCount (i + 1))) (densityOf second (ofCount (i + 1))) (ofCount (i + 1)) table)
-    → y ≡ observedStep bins scale (pointTerm p m table) i total
-point-step bins scale p m table i n total lobe second y e l s h = rw (h, e, l, s, density-is, density-is)
+pub steady-point : (p : Params) (m : WindowMasses) (steady : Steady) (count : Float) (table : List Float) → steady ≡ steadyOf p
+    → lse3Of (p .«ln_error» ⊕ logProbabilityOf (p .«error_params») count ⊖ m .error) (p .«ln_single» ⊕ mixEntryOf (densityOf (steady .lobe) count) count (p .shelf) (steady .logs) table ⊖ m .single)
+    (p .«ln_repeat» ⊕ densityOf (steady .second) count ⊖ m .repeat)
+    ≡ pointOf p m table count
+unfolding pointWith
+steady-point p m steady count table s = rw (s, density-is, density-is, mix-entry-is)

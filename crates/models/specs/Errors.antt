@@ -20,12 +20,15 @@ factorOf (Present beta) offset = let value = beta ⊗ offset in cond (eq value z
 unfoldable pub survivalOf : ErrorParams → Float → Float
 survivalOf p count = let offset = lnOf (count ⊖ one) in neg (p .«tail_exponent») ⊗ offset ⊗ factorOf (p .«weibull_shape») offset
 
+abbrev pub lnTailOf : ErrorParams → Float
+lnTailOf p = lnOf (one ⊖ p .«singleton_probability»)
+
 unfoldable pub logProbabilityOf : ErrorParams → Float → Float
 logProbabilityOf p count =
-    cond (eq count one) (lnOf (p .«singleton_probability»)) (lnOf (one ⊖ p .«singleton_probability») ⊕ lnSubExpOf (survivalOf p count) (survivalOf p (count ⊕ one)))
+    cond (eq count one) (lnOf (p .«singleton_probability»)) (lnTailOf p ⊕ lnSubExpOf (survivalOf p count) (survivalOf p (count ⊕ one)))
 
 unfoldable pub logWindowMassTo : ErrorParams → ℕ → Float
-logWindowMassTo p top = lnOf (neg (expm1Of (lnOf (one ⊖ p .«singleton_probability») ⊕ survivalOf p (ofCount top ⊕ one))))
+logWindowMassTo p top = lnOf (neg (expm1Of (lnTailOf p ⊕ survivalOf p (ofCount top ⊕ one))))
 
 unfoldable pub logWindowMassOf : ErrorParams → ℕ → Reply Float
 logWindowMassOf p top = inWindow top (logWindowMassTo p top)

@@ -1,7 +1,7 @@
 // The error component. Ported from src/preprocessing/models.rs of bacpop/sparrowhawk-asm, f1f8af1232, Apache-2.0; ported and changed.
 ghost use mathlib.Core.Path.{_≡_};
 ghost use Rattle.helpers.specs.Answers.{numberSays};
-ghost use Rattle.models.specs.Errors.{factorOf, survivalOf, logProbabilityOf, logWindowMassTo, logWindowMassOf};
+ghost use Rattle.models.specs.Errors.{factorOf, survivalOf, lnTailOf, logProbabilityOf, logWindowMassTo, logWindowMassOf};
 use helpers::answers::Number;
 use helpers::log_sums::ln_sub_exp;
 use routines::expm1::expm1;
@@ -45,26 +45,40 @@ impl ErrorParams {
         -self.tail_exponent * log_offset * factor(shape, log_offset)
     }
 
-    // ln of the probability of `count`.
-    pub fn log_probability(self, count: f64) -> f64
+    // ln of the probability of count 2 or more.
+    pub(crate) fn ln_tail(self) -> f64
+        ensures { λ r. ⌜ r ≡ lnTailOf self ⌝ }
+    {
+        ln(1.0 - self.singleton_probability)
+    }
+
+    // ln of the probability of `count`, with the tail's log at hand: it does not change with the count.
+    pub(crate) fn log_probability_with(self, ln_tail: f64, count: f64) -> f64
+        requires { ⌜ «ln_tail» ≡ lnTailOf self ⌝ }
         ensures { λ r. ⌜ r ≡ logProbabilityOf self count ⌝ }
     {
         if count == 1.0 {
             return ln(self.singleton_probability);
         }
-        ln(1.0 - self.singleton_probability)
+        ln_tail
             + ln_sub_exp(
                 self.log_survival_from_two(count),
                 self.log_survival_from_two(count + 1.0),
             )
     }
 
+    // ln of the probability of `count`.
+    pub fn log_probability(self, count: f64) -> f64
+        ensures { λ r. ⌜ r ≡ logProbabilityOf self count ⌝ }
+    {
+        self.log_probability_with(self.ln_tail(), count)
+    }
+
     // ln of the mass on 1 to `top`, for any top that a u16 holds.
     pub fn log_window_mass_to(self, top: u16) -> f64
         ensures { λ r. ⌜ r ≡ logWindowMassTo self top ⌝ }
     {
-        let log_beyond = ln(1.0 - self.singleton_probability)
-            + self.log_survival_from_two((top as f64) + 1.0);
+        let log_beyond = self.ln_tail() + self.log_survival_from_two((top as f64) + 1.0);
         ln(-expm1(log_beyond))
     }
 

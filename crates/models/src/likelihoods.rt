@@ -1,9 +1,8 @@
 // The log-likelihood of the window. Ported from src/preprocessing/models.rs of bacpop/sparrowhawk-asm, f1f8af1232, Apache-2.0; ported and changed.
 ghost use mathlib.Core.Path.{_≡_};
-ghost use Rattle.models.specs.Likelihoods.{pointWith, pointTerm, likelihoodOf};
+ghost use Rattle.models.specs.Likelihoods.{steadyOf, pointOf, likelihoodOf};
 ghost use Rattle.models.specs.Spectra.{seenTerm};
 ghost use Rattle.routines.specs.Ops.{ofCount, _⊗_};
-ghost use Rattle.helpers.specs.Lobes.{densityOf};
 use crate::params::Params;
 use crate::spectra::recovered_at;
 use crate::window_masses::WindowMasses;
@@ -11,17 +10,45 @@ use helpers::lobes::Lobe;
 use helpers::lobes::density;
 use helpers::lobes::lobe_of;
 use helpers::log_sums::lse3;
-use helpers::shelves::mix_single_copy;
+use helpers::shelves::ShelfLogs;
+use helpers::shelves::mix_entry;
+use helpers::shelves::shelf_logs;
 
-// The mixture's log density at a count, from the densities of its two lobes.
-fn point(p: Params, m: WindowMasses, lobe: f64, second: f64, count: f64, table: &[f64]) -> f64
-    ensures { λ r. ⌜ r ≡ pointWith p m lobe second count (now (table .entry)) ⌝ }
+// What does not change with the count.
+struct Steady {
+    lobe: Lobe,
+    second: Lobe,
+    ln_tail: f64,
+    logs: ShelfLogs,
+}
+
+fn steady_of(p: Params) -> Steady
+    ensures { λ r. ⌜ r ≡ steadyOf p ⌝ }
 {
     let shelf = p.shelf;
-    let error = p.ln_error + p.error_params.log_probability(count) - m.error;
-    let single = p.ln_single + mix_single_copy(lobe, count, shelf, table) - m.single;
-    let repeat = p.ln_repeat + second - m.repeat;
-    lse3(error, single, repeat)
+    Steady {
+        lobe: lobe_of(p.mean, p.dispersion),
+        second: lobe_of(p.repeat_ratio * p.mean, p.dispersion),
+        ln_tail: p.error_params.ln_tail(),
+        logs: shelf_logs(shelf),
+    }
+}
+
+// The mixture's log density at a count.
+fn point(p: Params, m: WindowMasses, steady: Steady, count: f64, table: &[f64]) -> f64
+    requires { ⌜ steady ≡ steadyOf p ⌝ }
+    ensures { λ r. ⌜ r ≡ pointOf p m (now (table .entry)) count ⌝ }
+{
+    let shelf = p.shelf;
+    let lobe = density(steady.lobe, count);
+    let second = density(steady.second, count);
+    let tail = p.error_params.log_probability_with(steady.ln_tail, count);
+    let single = mix_entry(lobe, count, shelf, steady.logs, table);
+    lse3(
+        p.ln_error + tail - m.error,
+        p.ln_single + single - m.single,
+        p.ln_repeat + second - m.repeat,
+    )
 }
 
 // Nothing is worked out for an empty bin.
@@ -30,21 +57,19 @@ fn add_point(
     n: u32,
     p: Params,
     m: WindowMasses,
-    lobe: Lobe,
-    second: Lobe,
+    steady: Steady,
     count: u32,
     table: &[f64],
 ) -> f64
-    ensures { λ r. ⌜ r ≡ seenTerm n total (ofCount n ⊗ pointWith p m (densityOf lobe (ofCount count)) (densityOf second (ofCount count)) (ofCount count) (now (table .entry))) ⌝ }
+    requires { ⌜ steady ≡ steadyOf p ⌝ }
+    ensures { λ r. ⌜ r ≡ seenTerm n total (ofCount n ⊗ pointOf p m (now (table .entry)) (ofCount count)) ⌝ }
 {
     if n == 0 {
         return total;
     }
-    let x = count as f64;
-    total + (n as f64) * point(p, m, density(lobe, x), density(second, x), x, table)
+    total + (n as f64) * point(p, m, steady, count as f64, table)
 }
 
-// What does not change with the count is worked out before the loop.
 pub fn likelihood(
     bins: &[u32],
     scale: f64,
@@ -55,13 +80,12 @@ pub fn likelihood(
 ) -> f64
     ensures { λ r. ⌜ r ≡ likelihoodOf (now (bins .entry)) scale top p m (now (table .entry)) ⌝ }
 {
-    let lobe = lobe_of(p.mean, p.dispersion);
-    let second = lobe_of(p.repeat_ratio * p.mean, p.dispersion);
+    let steady = steady_of(p);
     let mut total = -0.0;
     let mut i: u16 = 0;
     while i < top {
         let n = recovered_at(bins, scale, i as usize);
-        total = add_point(total, n, p, m, lobe, second, (i as u32) + 1, table);
+        total = add_point(total, n, p, m, steady, (i as u32) + 1, table);
         i += 1;
     }
     total

@@ -2,6 +2,7 @@
 // a window end is refused by number, and so is a NaN among the heights compared.
 ghost use mathlib.Core.Path.{_≡_};
 ghost use Rattle.helpers.specs.Answers.{countSays};
+ghost use Rattle.models.specs.Errors.{lnTailOf};
 ghost use Rattle.models.specs.Modes.{laterWins, withNan, higherOf, highestOf, errorModeOf};
 use crate::errors::ErrorParams;
 use crate::fit::SpectrumFit;
@@ -33,10 +34,11 @@ fn with_nan(nan: bool, here: f64) -> bool
     here != here
 }
 
-fn higher(p: ErrorParams, best: Standing, count: u32) -> Standing
+fn higher(p: ErrorParams, ln_tail: f64, best: Standing, count: u32) -> Standing
+    requires { ⌜ «ln_tail» ≡ lnTailOf p ⌝ }
     ensures { λ r. ⌜ r ≡ higherOf p count best ⌝ }
 {
-    let here = p.log_probability(count as f64);
+    let here = p.log_probability_with(ln_tail, count as f64);
     let nan = with_nan(best.nan, here);
     if later_wins(best.log, here) {
         return Standing {
@@ -60,9 +62,10 @@ fn highest(p: ErrorParams, top: u16) -> Standing
         log: -1.0 / 0.0,
         nan: false,
     };
+    let ln_tail = p.ln_tail();
     let mut count: u32 = 1;
     while count <= (top as u32) {
-        best = higher(p, best, count);
+        best = higher(p, ln_tail, best, count);
         count += 1;
     }
     best

@@ -9,33 +9,19 @@ returns : tie.Need-returns
 unfolding seenTerm
 returns c = simp (eq-eqb _ _ (c .if1 .taken))
 
-int-to-float-x : tie.Need-int-to-float-x
-int-to-float-x c = search needs
-
 int-to-float-result : tie.Need-int-to-float-result
 int-to-float-result c = search needs
 
-density-requires : tie.Need-density-requires
-density-requires c κs = search needs
-
-density-requires-2 : tie.Need-density-requires-2
-density-requires-2 c κs = search needs
+int-to-float-point : tie.Need-int-to-float-point
+int-to-float-point c = search needs
 
 point-requires : tie.Need-point-requires
 point-requires c κs = search needs
 
 returns-2 : tie.Need-returns-2
 unfolding seenTerm
-returns-2 c = simp (ne-eqb _ _ (c .before .before .before .before .before .if1 .left)) (rw (c .point .ensures, c .before .density2 .ensures, c .before .before .density .ensures))
+returns-2 c = simp (ne-eqb _ _ (c .before .before .before .if1 .left)) (rw (c .point .ensures))
 
 pub add-point-spec : {M : Type 1} → statement M
 add-point-spec =
-    tie.close
-    (tie.spec
-    returns
-    int-to-float-x
-    int-to-float-result
-    density-requires
-    density-requires-2
-    point-requires
-    returns-2)
+    tie.close (tie.spec returns int-to-float-result int-to-float-point point-requires returns-2)

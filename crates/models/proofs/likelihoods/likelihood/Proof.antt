@@ -1,35 +1,28 @@
 -- `models::likelihoods::likelihood` meets its contract. Assumes nothing.
 use borrow.Author.Needs.{needs}
-use mathlib.Core.Path.{_≡_}
+use mathlib.Core.Path.{_≡_, sym}
 use Prim.Native.Nat.{_-_}
 use native.Mathlib.Omega.{arith}
 use lib.Ieee.{neg, ofBits}
 use Rattle.routines.specs.Exp.{zero}
-use Rattle.routines.specs.Ops.{_⊗_}
-use Rattle.helpers.specs.Lobes.{lobeOf}
 use Rattle.models.proofs.Loops.{Folded, begins, goes-on, ends}
-use Rattle.models.proofs.Points.{point-step}
 use Rattle.models.specs.Spectra.{observedStep, overObserved}
-use Rattle.models.specs.Likelihoods.{pointTerm, likelihoodOf}
+use Rattle.models.specs.Likelihoods.{steadyOf, pointTerm, likelihoodOf}
 use Rattle.models.proofs.likelihoods.likelihood.Statement.{statement}
 use Rattle.models.proofs.likelihoods.likelihood.Tie as tie
 
 abbrev Inv-loop : tie.InvT-loop
-Inv-loop bins scale top p m table lobe second total₀ i₀ total i =
-    (lobe ≡ lobeOf (p .mean) (p .dispersion)) × (second ≡ lobeOf (p .«repeat_ratio» ⊗ p .mean) (p .dispersion)) × Folded (observedStep bins scale (pointTerm p m table)) (neg zero) top total i
+Inv-loop bins scale top p m table steady total₀ i₀ total i = (steady ≡ steadyOf p) × Folded (observedStep bins scale (pointTerm p m table)) (neg zero) top total i
 
 abbrev μ-loop : tie.MeasureT-loop
-μ-loop bins scale top p m table lobe second total₀ i₀ total i = top - i
+μ-loop bins scale top p m table steady total₀ i₀ total i = top - i
 
-lobe-of-requires : tie.Need-lobe-of-requires Inv-loop μ-loop
-lobe-of-requires c κs = search needs
-
-lobe-of-requires-2 : tie.Need-lobe-of-requires-2 Inv-loop μ-loop
-lobe-of-requires-2 c κs = search needs
+steady-of-requires : tie.Need-steady-of-requires Inv-loop μ-loop
+steady-of-requires c κs = search needs
 
 loop-holds : tie.Need-loop-holds Inv-loop μ-loop
 unfolding neg ofBits
-loop-holds c = (c .before .before .lobe-of .ensures, c .lobe-of2 .ensures, begins _ _ _)
+loop-holds c = (c .steady-of .ensures, begins _ _ _)
 
 cast-recovered-at : tie.Need-cast-recovered-at Inv-loop μ-loop
 cast-recovered-at c = search needs
@@ -55,11 +48,11 @@ loop-less c = omega arith
 loop-again : tie.Need-loop-again Inv-loop μ-loop
 loop-again c =
     let inv = c .before .before .before .loop .inv in
-    (inv .0, inv .1, goes-on _ _ _ (inv .2) _ (omega arith) (point-step _ _ _ _ _ _ _ _ _ _ _ (c .before .recovered-at .ensures) (inv .0) (inv .1) (c .add-point .ensures)))
+    (inv .0, goes-on _ _ _ (inv .1) _ (omega arith) (rw (sym (c .before .recovered-at .ensures)) (c .add-point .ensures)))
 
 returns : tie.Need-returns Inv-loop μ-loop
 unfolding likelihoodOf overObserved
-returns c = ends _ _ _ (c .before .loop .inv .2) (omega arith)
+returns c = ends _ _ _ (c .before .loop .inv .1) (omega arith)
 
 pub likelihood-spec : {M : Type 1} → statement M
 likelihood-spec =
@@ -67,8 +60,7 @@ likelihood-spec =
     (tie.spec
     Inv-loop
     μ-loop
-    lobe-of-requires
-    lobe-of-requires-2
+    steady-of-requires
     loop-holds
     cast-recovered-at
     recovered-at-requires

@@ -1,22 +1,40 @@
 -- `models::likelihoods::point` meets its contract. Assumes nothing.
-use Rattle.models.specs.Likelihoods.{pointWith}
+use mathlib.Core.Path.{ap}
+use Rattle.models.specs.declared.likelihoods.Steady.{Steady}
+use Rattle.models.proofs.Points.{steady-point}
 use borrow.Author.Needs.{needs}
 use Rattle.models.proofs.likelihoods.point.Statement.{statement}
 use Rattle.models.proofs.likelihoods.point.Tie as tie
 
-log-probability-requires : tie.Need-log-probability-requires
-log-probability-requires c κs = search needs
+density-requires : tie.Need-density-requires
+density-requires c κs = search needs
 
-mix-single-copy-requires : tie.Need-mix-single-copy-requires
-mix-single-copy-requires c κs = search needs
+density-requires-2 : tie.Need-density-requires-2
+density-requires-2 c κs = search needs
+
+log-probability-with-requires : tie.Need-log-probability-with-requires
+log-probability-with-requires c κs = ap (λ (s : Steady). s .«ln_tail») (c .before .before .before .pre)
+
+mix-entry-requires : tie.Need-mix-entry-requires
+mix-entry-requires c κs = search needs
 
 lse3-requires : tie.Need-lse3-requires
 lse3-requires c κs = search needs
 
 returns : tie.Need-returns
-unfolding pointWith
-returns c = rw (c .lse3 .ensures, c .before .before .before .before .before .mix-single-copy .ensures, c .before .before .before .before .before .before .before .before .log-probability .ensures)
+returns c =
+    let mixed = c .before .before .before .before .before .before .before in
+    let second = mixed .before .before in
+    rw (c .lse3 .ensures, mixed .mix-entry .ensures, mixed .before .log-probability-with .ensures, second .density2 .ensures, second .before .density .ensures)
+    (steady-point _ _ _ _ _ (second .before .before .before .pre))
 
 pub point-spec : {M : Type 1} → statement M
 point-spec =
-    tie.close (tie.spec log-probability-requires mix-single-copy-requires lse3-requires returns)
+    tie.close
+    (tie.spec
+    density-requires
+    density-requires-2
+    log-probability-with-requires
+    mix-entry-requires
+    lse3-requires
+    returns)

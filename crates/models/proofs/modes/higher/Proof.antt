@@ -12,11 +12,11 @@ use borrow.Author.Needs.{needs}
 use Rattle.models.proofs.modes.higher.Statement.{statement}
 use Rattle.models.proofs.modes.higher.Tie as tie
 
-int-to-float-log-probability : tie.Need-int-to-float-log-probability
-int-to-float-log-probability c = search needs
+int-to-float-log-probability-with : tie.Need-int-to-float-log-probability-with
+int-to-float-log-probability-with c = search needs
 
-log-probability-requires : tie.Need-log-probability-requires
-log-probability-requires c κs = search needs
+log-probability-with-requires : tie.Need-log-probability-with-requires
+log-probability-with-requires c κs = search needs
 
 with-nan-requires : tie.Need-with-nan-requires
 with-nan-requires c κs = search needs
@@ -34,17 +34,17 @@ module _ (p : ErrorParams) (count : ℕ) (best : Standing) (here : Float) (nan :
   stays w = rw (n) (rw (e) (simp (sym (ap (laterWins (best .log)) e) ∙ w)))
 
 returns : tie.Need-returns
-returns c = wins _ _ _ _ _ (c .before .before .before .log-probability .ensures) (c .before .before .with-nan .ensures) (sym (c .before .later-wins .ensures) ∙ c .if1 .taken)
+returns c = wins _ _ _ _ _ (c .before .before .before .log-probability-with .ensures) (c .before .before .with-nan .ensures) (sym (c .before .later-wins .ensures) ∙ c .if1 .taken)
 
 returns-2 : tie.Need-returns-2
-returns-2 c = stays _ _ _ _ _ (c .before .before .before .log-probability .ensures) (c .before .before .with-nan .ensures) (sym (c .before .later-wins .ensures) ∙ c .if1 .left)
+returns-2 c = stays _ _ _ _ _ (c .before .before .before .log-probability-with .ensures) (c .before .before .with-nan .ensures) (sym (c .before .later-wins .ensures) ∙ c .if1 .left)
 
 pub higher-spec : {M : Type 1} → statement M
 higher-spec =
     tie.close
     (tie.spec
-    int-to-float-log-probability
-    log-probability-requires
+    int-to-float-log-probability-with
+    log-probability-with-requires
     with-nan-requires
     later-wins-requires
     returns

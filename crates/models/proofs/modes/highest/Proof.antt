@@ -7,6 +7,7 @@ use native.Mathlib.Omega.{arith}
 use lib.Ieee.{inf, div, neg, ofBits}
 use Rattle.meaning.specs.Fold.{fold}
 use Rattle.meaning.proofs.Folds.{fold-none, fold-more}
+use Rattle.models.specs.Errors.{lnTailOf}
 use Rattle.models.specs.declared.errors.ErrorParams.{ErrorParams}
 use Rattle.models.specs.declared.modes.Standing.{Standing}
 use Rattle.models.specs.Modes.{stands, higherOf, highestOf}
@@ -14,16 +15,19 @@ use Rattle.models.proofs.modes.highest.Statement.{statement}
 use Rattle.models.proofs.modes.highest.Tie as tie
 
 abbrev Inv-loop : tie.InvT-loop
-Inv-loop p top best₀ count₀ best count = (1 ≤ count) × (count ≤ top + 1) × (best ≡ fold (higherOf p) 1 count (stands 1 (inf true) false))
+Inv-loop p top best₀ ln-tail count₀ best count = (ln-tail ≡ lnTailOf p) × (1 ≤ count) × (count ≤ top + 1) × (best ≡ fold (higherOf p) 1 count (stands 1 (inf true) false))
 
 abbrev μ-loop : tie.MeasureT-loop
-μ-loop p top best₀ count₀ best count = top + 1 - count
+μ-loop p top best₀ ln-tail count₀ best count = top + 1 - count
+
+ln-tail-requires : tie.Need-ln-tail-requires Inv-loop μ-loop
+ln-tail-requires c κs = search needs
 
 loop-holds : tie.Need-loop-holds Inv-loop μ-loop
-loop-holds c = (omega arith, omega arith, unfold div neg ofBits in sym (fold-none (higherOf _) 1 1 _ (omega arith)))
+loop-holds c = (c .ln-tail .ensures, omega arith, omega arith, unfold div neg ofBits in sym (fold-none (higherOf _) 1 1 _ (omega arith)))
 
 higher-requires : tie.Need-higher-requires Inv-loop μ-loop
-higher-requires c κs = search needs
+higher-requires c κs = c .before .loop .inv .0
 
 add-count : tie.Need-add-count Inv-loop μ-loop
 add-count c = omega arith
@@ -34,7 +38,7 @@ loop-less c = omega arith
 loop-again : tie.Need-loop-again Inv-loop μ-loop
 loop-again c =
     let inv = c .before .before .loop .inv in
-    (omega arith, omega arith, c .higher .ensures ∙ ap (higherOf _ _) (inv .2) ∙ sym (fold-more (higherOf _) 1 _ _ (inv .0)))
+    (inv .0, omega arith, omega arith, c .higher .ensures ∙ ap (higherOf _ _) (inv .3) ∙ sym (fold-more (higherOf _) 1 _ _ (inv .1)))
 
 ends : (p : ErrorParams) (top count : ℕ) (best : Standing) → count ≤ top + 1 → top < count → best ≡ fold (higherOf p) 1 count (stands 1 (inf true) false) → best ≡ highestOf p top
 unfolding highestOf
@@ -43,9 +47,9 @@ ends p top count best h k e =
     e ∙ ap (λ (n : ℕ). fold (higherOf p) 1 n (stands 1 (inf true) false)) reached
 
 returns : tie.Need-returns Inv-loop μ-loop
-returns c = let inv = c .before .loop .inv in ends _ _ _ _ (inv .1) (omega arith) (inv .2)
+returns c = let inv = c .before .loop .inv in ends _ _ _ _ (inv .2) (omega arith) (inv .3)
 
 pub highest-spec : {M : Type 1} → statement M
 highest-spec =
     tie.close
-    (tie.spec Inv-loop μ-loop loop-holds higher-requires add-count loop-less loop-again returns)
+    (tie.spec Inv-loop μ-loop ln-tail-requires loop-holds higher-requires add-count loop-less loop-again returns)

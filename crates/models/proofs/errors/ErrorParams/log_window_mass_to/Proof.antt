@@ -4,8 +4,8 @@ use borrow.Author.Needs.{needs}
 use Rattle.models.proofs.errors.ErrorParams.log_window_mass_to.Statement.{statement}
 use Rattle.models.proofs.errors.ErrorParams.log_window_mass_to.Tie as tie
 
-ln-requires : tie.Need-ln-requires
-ln-requires c κs = search needs
+ln-tail-requires : tie.Need-ln-tail-requires
+ln-tail-requires c κs = search needs
 
 int-to-float-log-survival-from-two : tie.Need-int-to-float-log-survival-from-two
 int-to-float-log-survival-from-two c = search needs
@@ -16,20 +16,20 @@ log-survival-from-two-requires c κs = search needs
 expm1-requires : tie.Need-expm1-requires
 expm1-requires c κs = search needs
 
-ln-requires-2 : tie.Need-ln-requires-2
-ln-requires-2 c κs = search needs
+ln-requires : tie.Need-ln-requires
+ln-requires c κs = search needs
 
 returns : tie.Need-returns
 unfolding logWindowMassTo
-returns c = rw (c .ln2 .ensures, c .before .expm1 .ensures, c .before .before .log-survival-from-two .ensures, c .before .before .before .before .ln .ensures)
+returns c = rw (c .ln .ensures, c .before .expm1 .ensures, c .before .before .log-survival-from-two .ensures, c .before .before .before .before .ln-tail .ensures)
 
 pub log-window-mass-to-spec : {M : Type 1} → statement M
 log-window-mass-to-spec =
     tie.close
     (tie.spec
-    ln-requires
+    ln-tail-requires
     int-to-float-log-survival-from-two
     log-survival-from-two-requires
     expm1-requires
-    ln-requires-2
+    ln-requires
     returns)
