@@ -35,7 +35,7 @@ fn add_deviance(total: f64, n: u32, fit: SpectrumFit, count: u32, scale: f64) ->
 }
 
 // 2 times the sum of observed ln(observed / expected) over the window, in the sample's units.
-pub fn conditional_deviance(bins: &[u32], scale: f64, top: u16, fit: SpectrumFit) -> f64
+pub(crate) fn conditional_deviance(bins: &[u32], scale: f64, top: u16, fit: SpectrumFit) -> f64
     ensures { λ r. ⌜ r ≡ devianceOf (now (bins .entry)) scale top fit ⌝ }
 {
     let mut total = -0.0;

@@ -75,7 +75,7 @@ impl ErrorParams {
     }
 
     // ln of the mass on 1 to `top`, for any top that a u16 holds.
-    pub fn log_window_mass_to(self, top: u16) -> f64
+    pub(crate) fn log_window_mass_to(self, top: u16) -> f64
         ensures { λ r. ⌜ r ≡ logWindowMassTo self top ⌝ }
     {
         let log_beyond = self.ln_tail() + self.log_survival_from_two((top as f64) + 1.0);

@@ -51,7 +51,7 @@ fn abs(x: f64) -> f64
 }
 
 // How far the mode that the mean gives back lies from the mode the fit was at.
-pub fn roundtrip(mean: f64, dispersion: f64, mode: f64) -> f64
+pub(crate) fn roundtrip(mean: f64, dispersion: f64, mode: f64) -> f64
     ensures { λ r. ⌜ r ≡ roundtripOf mean dispersion mode ⌝ }
 {
     abs(mean - (dispersion - 1.0) - mode)

@@ -25,7 +25,7 @@ fn height(observed: f64, weight: f64, log: f64, mass: f64) -> f64
 }
 
 // At any count, a mode of 2^64 included.
-pub fn heights_at(fit: SpectrumFit, count: f64) -> Heights
+pub(crate) fn heights_at(fit: SpectrumFit, count: f64) -> Heights
     ensures { λ r. ⌜ r ≡ heightsAt fit count ⌝ }
 {
     let masses = fit.component_log_window_masses;

@@ -70,7 +70,7 @@ fn add_point(
     total + (n as f64) * point(p, m, steady, count as f64, table)
 }
 
-pub fn likelihood(
+pub(crate) fn likelihood(
     bins: &[u32],
     scale: f64,
     top: u16,

@@ -105,7 +105,7 @@ fn shelf_part_at(family: GenomeModel, share: f64, kept: f64, narrow: f64) -> She
 }
 
 // The list decoded: softmax weights with the error's logit at 0, and sigmoid or exponential maps into each range.
-pub fn decode(error: ErrorModel, genome: GenomeModel, peak: f64, theta: &[f64]) -> Params
+pub(crate) fn decode(error: ErrorModel, genome: GenomeModel, peak: f64, theta: &[f64]) -> Params
     ensures { λ r. ⌜ r ≡ paramsOf error genome peak (now (theta .entry)) ⌝ }
 {
     let base = error.parameter_count();

@@ -21,7 +21,7 @@ fn table_demand(genome: GenomeModel, window_end: usize) -> usize
 }
 
 // The first number of 1, 2, 4, 5, 6, 7, 10 that applies, and 0 for none. `scale` is one that used_scale gave.
-pub fn fit_refusal(
+pub(crate) fn fit_refusal(
     bins: &[u32],
     scale: f64,
     window_end: usize,

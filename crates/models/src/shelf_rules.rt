@@ -44,7 +44,7 @@ pub fn shelf_concentration_bounds(retained: f64) -> Bounds
 }
 
 // From the fit's own coordinates: a = retained * a+b, b = (1 - retained) * a+b.
-pub fn from_retained(share: f64, retained: f64, concentration: f64) -> Shelf
+pub(crate) fn from_retained(share: f64, retained: f64, concentration: f64) -> Shelf
     ensures { λ r. ⌜ r ≡ shelfOf share retained concentration ⌝ }
 {
     Shelf {

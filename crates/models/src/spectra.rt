@@ -14,7 +14,7 @@ fn bin_at(bins: &[u32], i: usize) -> u32
 }
 
 // Bin i over the scale.
-pub fn recovered_at(bins: &[u32], scale: f64, i: usize) -> u32
+pub(crate) fn recovered_at(bins: &[u32], scale: f64, i: usize) -> u32
     ensures { λ r. ⌜ r ≡ recoveredAt (now (bins .entry)) scale i ⌝ }
 {
     rounded_quotient(bin_at(bins, i), scale)
@@ -31,7 +31,7 @@ fn add_seen(total: f64, n: u32) -> f64
 }
 
 // The recovered k-mers at counts 1 to `top`.
-pub fn observed_total(bins: &[u32], scale: f64, top: u16) -> f64
+pub(crate) fn observed_total(bins: &[u32], scale: f64, top: u16) -> f64
     ensures { λ r. ⌜ r ≡ observedTotalOf (now (bins .entry)) scale top ⌝ }
 {
     let mut total = -0.0;
@@ -44,7 +44,7 @@ pub fn observed_total(bins: &[u32], scale: f64, top: u16) -> f64
 }
 
 // The k-mers of all bins, as they are.
-pub fn full_total(bins: &[u32]) -> f64
+pub(crate) fn full_total(bins: &[u32]) -> f64
     ensures { λ r. ⌜ r ≡ fullTotalOf (now (bins .entry)) ⌝ }
 {
     let mut total = -0.0;
@@ -56,7 +56,7 @@ pub fn full_total(bins: &[u32]) -> f64
     total
 }
 
-pub fn all_zero(bins: &[u32]) -> bool
+pub(crate) fn all_zero(bins: &[u32]) -> bool
     ensures { λ r. ⌜ r ≡ allZeroOf (now (bins .entry)) ⌝ }
 {
     let mut i: usize = 0;
@@ -70,7 +70,7 @@ pub fn all_zero(bins: &[u32]) -> bool
 }
 
 // Whether every recovered bin at counts 1 to `top` is zero.
-pub fn none_recovered(bins: &[u32], scale: f64, top: u16) -> bool
+pub(crate) fn none_recovered(bins: &[u32], scale: f64, top: u16) -> bool
     ensures { λ r. ⌜ r ≡ noneRecoveredOf (now (bins .entry)) scale top ⌝ }
 {
     let mut i: u16 = 0;

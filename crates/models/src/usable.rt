@@ -45,7 +45,7 @@ fn shelf_usable(shelf: ShelfPart) -> bool
     }
 }
 
-pub fn params_usable(p: Params) -> bool
+pub(crate) fn params_usable(p: Params) -> bool
     ensures { λ r. ⌜ r ≡ paramsUsable p ⌝ }
 {
     let shelf = p.shelf;

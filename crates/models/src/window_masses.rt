@@ -9,14 +9,14 @@ use routines::pick::is_finite;
 // A log mass may pass 0 by this much: rounding.
 pub const WINDOW_LOG_MASS_TOLERANCE: f64 = 1e-12;
 
-pub struct WindowMasses {
+pub(crate) struct WindowMasses {
     pub error: f64,
     pub single: f64,
     pub repeat: f64,
 }
 
 // `table` holds the shelf's entries and nothing else.
-pub fn masses_of(p: Params, table: &[f64], top: u16) -> WindowMasses
+pub(crate) fn masses_of(p: Params, table: &[f64], top: u16) -> WindowMasses
     ensures { λ r. ⌜ r ≡ windowMassesOf p (now (table .entry)) top ⌝ }
 {
     let shelf = p.shelf;
@@ -39,7 +39,7 @@ fn mass_usable(mass: f64) -> bool
     !(mass > WINDOW_LOG_MASS_TOLERANCE)
 }
 
-pub fn masses_usable(m: WindowMasses) -> bool
+pub(crate) fn masses_usable(m: WindowMasses) -> bool
     ensures { λ r. ⌜ r ≡ massesUsable m ⌝ }
 {
     if mass_usable(m.error) {} else {
