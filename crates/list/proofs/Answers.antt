@@ -1,5 +1,5 @@
 -- From the answer of the reader's call to the file's listing. Assumes nothing.
-use Prim.Native.Nat.{ℕ, _+_, _^_, _≤_, _<_}
+use Prim.Native.Nat.{ℕ, _^_, _≤_, _<_}
 use mathlib.Core.Path.{_≡_, refl, sym, ap, _∙_}
 use mathlib.Core.Bool.{Bool, true, false}
 use mathlib.Core.List.{List}
@@ -20,11 +20,10 @@ use Rattle.histogram.specs.Read.{fitsIn, readHistogramOf}
 use Rattle.histogram.specs.Write.{writtenSays}
 use Rattle.histogram.proofs.Overs.{length-over}
 use Rattle.histogram.proofs.Theorems.{accepted-holds, never-refused}
-use Rattle.listing.specs.Listing.{listedOf, listOf, listingOf, refusalOf, listHistogramOf, listRefusalOf}
-use Rattle.listing.proofs.Decimals.{digits-few, twenty}
-use Rattle.listing.proofs.Lines.{listing-length, refusal-length, rows-within}
+use Rattle.listing.specs.Listing.{listedOf, listOf, listingOf, refusalOf, listHistogramOf, listRefusalOf, longestListing}
+use Rattle.listing.proofs.Longest.{listing-fits, refusal-fits}
 use Rattle.listing.proofs.Refusals.{lists, line-written}
-use Rattle.list.specs.Longest.{longestText, itemsOf}
+use Rattle.list.specs.Items.{itemsOf}
 
 -- ---- what the reader's answer tells of the file
 -- n bins
@@ -98,21 +97,8 @@ module _ (answer : List ℕ) (b out : List ℕ) (w : Written) (fit : length answ
       let h : r ≤ length out = omega arith in
       ((h, sym (length-take-le r out h)), ap (take r) held ∙ take-at answer (drop (length answer) b) r (sym l))
 
--- ---- there is room for every listing
-pub listing-fits : (xs : List ℕ) → Histogram xs → length (listingOf xs) ≤ longestText
-unfolding mostBins
-listing-fits xs h =
-    let l = listing-length xs in
-    let d = digits-few 3 (length xs) (omega (arith, h .most)) in
-    let r = rows-within 3 1 xs (omega (arith, h .most)) (h .fit) in
-    omega (arith, h .most)
-
-pub refusal-fits : (place : ℕ) → place < 2 ^ 64 → length (refusalOf place) ≤ longestText
-unfolding mostBins
-refusal-fits place h = let l = refusal-length place in let d = twenty place h in omega arith
-
 -- ---- from what the two calls answer to what the program writes
-module _ (file b out : List ℕ) (w : Written) (long : longestText ≤ length b) (r : ℕ) (e : r ≡ itemsOf w) where
+module _ (file b out : List ℕ) (w : Written) (long : longestListing ≤ length b) (r : ℕ) (e : r ≡ itemsOf w) where
   pub lists-bins : (part xs : List ℕ) → part ≡ xs → readOf file ≡ give xs → Histogram xs
       → writtenSays w ≡ counted (listHistogramOf part (length b)) → out ≡ laid (listHistogramOf part (length b)) b → Counts r out × (take r out ≡ listOf file)
   unfolding mostBins

@@ -4,8 +4,8 @@ ghost use Prim.Native.Nat.{_+_, _≤_};
 ghost use lib.ListN.{length, take};
 ghost use Rattle.io.specs.Counts.{Counts};
 ghost use Rattle.histogram.specs.Claims.{longestFile};
-ghost use Rattle.listing.specs.Listing.{listOf};
-ghost use Rattle.list.specs.Longest.{longestText, itemsOf};
+ghost use Rattle.listing.specs.Listing.{listOf, longestListing};
+ghost use Rattle.list.specs.Items.{itemsOf};
 use histogram::reader::FileRead;
 use histogram::reader::LONGEST_FILE;
 use histogram::reader::MAX_FILE_BINS;
@@ -13,14 +13,12 @@ use histogram::reader::read_histogram;
 use histogram::writer::Written;
 use libc::STDIN_FILENO;
 use libc::STDOUT_FILENO;
+use listing::text::LONGEST_LISTING;
 use listing::text::list_histogram;
 use listing::text::list_refusal;
 
 // One byte more than the longest accepted file has.
 const ENOUGH: usize = LONGEST_FILE + 1;
-
-// No listing is longer: ten bytes for the first line, and for each bin four digits, ten digits, a space and the end of the line.
-const LONGEST_TEXT: usize = 10 + 16 * MAX_FILE_BINS;
 
 fn items(written: Written) -> usize
     ensures { λ r. ⌜ r ≡ itemsOf written ⌝ }
@@ -40,7 +38,7 @@ fn first_bytes() -> [u8; ENOUGH]
 
 // What is to be written for a file, to the front of the lent bytes, and how many bytes that is.
 fn list(file: &[u8], text: &mut [u8]) -> usize
-    requires { ⌜ longestText ≤ length (now text) ⌝ }
+    requires { ⌜ longestListing ≤ length (now text) ⌝ }
     ensures { λ r. ⌜ Counts r (now (text .exit)) ⌝ }
     ensures { λ r. ⌜ take r (now (text .exit)) ≡ listOf (now (file .entry)) ⌝ }
 {
@@ -56,7 +54,7 @@ fn list(file: &[u8], text: &mut [u8]) -> usize
 fn main() {
     let mut file = first_bytes();
     let n = io::read_full(STDIN_FILENO, &mut file);
-    let mut text = [0u8; LONGEST_TEXT];
+    let mut text = [0u8; LONGEST_LISTING];
     let size = list(&file[..n], &mut text);
     io::write_all(STDOUT_FILENO, &text[..size]);
 }

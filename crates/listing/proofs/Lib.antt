@@ -4,4 +4,5 @@ pub mod Joins
 pub mod Decimals
 pub mod Lines
 pub mod Refusals
+pub mod Longest
 pub mod Theorems

@@ -1,6 +1,6 @@
 -- The listing of document 01: `bins` and the bin count, then a line for each count with its bin. For a file that is refused there is one line, with the place.
 -- Definitions only. Assumes nothing.
-use Prim.Native.Nat.{ℕ, suc}
+use Prim.Native.Nat.{ℕ, suc, _+_, _*_}
 use Prim.Native.Char.{code}
 use Prim.Native.String.{String, [] as none, _∷_ as _then_}
 use mathlib.Core.List.{List, [], _∷_, _++_}
@@ -8,7 +8,7 @@ use lib.Dec.{ltb}
 use lib.ListN.{length}
 use Rattle.meaning.specs.Reply.{Reply, refuse, broken, give, chain, test}
 use Rattle.listing.specs.Decimal.{decimalOf}
-use Rattle.histogram.specs.File.{readOf}
+use Rattle.histogram.specs.File.{mostBins, readOf}
 
 -- the codes of a text
 abbrev pub ascii : String → List ℕ
@@ -43,6 +43,10 @@ listedOf (give xs) = listingOf xs
 -- what the listing program writes for a file
 abbrev pub listOf : List ℕ → List ℕ
 listOf file = listedOf (readOf file)
+
+-- no file's listing is longer: ten bytes for the first line, and for each bin four digits, ten digits, a space and the end of the line
+abbrev pub longestListing : ℕ
+longestListing = 10 + 16 * mostBins
 
 -- ---- the calls: 1 for fewer than 2 bins, 2 for more than 65,535, 10 where the bytes are too few
 unfoldable pub listHistogramOf : List ℕ → ℕ → Reply (List ℕ)

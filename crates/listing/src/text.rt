@@ -6,7 +6,11 @@ ghost use Rattle.listing.specs.Decimal.{decimalOf};
 ghost use Rattle.histogram.specs.Lent.{over, laid, counted};
 ghost use Rattle.listing.specs.Listing.{lineOf, rowOf, rowsOf, listHistogramOf, listRefusalOf};
 ghost use Rattle.histogram.specs.Write.{writtenSays};
+use histogram::reader::MAX_FILE_BINS;
 use histogram::writer::Written;
+
+// No file's listing is longer: ten bytes for the first line, and for each bin four digits, ten digits, a space and the end of the line.
+pub const LONGEST_LISTING: usize = 10 + 16 * MAX_FILE_BINS;
 
 // The most bins that a call takes.
 const MAX_BINS: usize = 65535;

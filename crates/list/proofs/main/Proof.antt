@@ -2,7 +2,7 @@
 use native.Mathlib.Nat.{le-refl}
 use borrow.Author.Needs.{needs}
 use Rattle.histogram.specs.File.{mostBins}
-use Rattle.list.specs.Longest.{longestText}
+use Rattle.listing.specs.Listing.{longestListing}
 use Rattle.list.proofs.main.Statement.{statement}
 use Rattle.list.proofs.main.Tie as tie
 
@@ -27,7 +27,7 @@ slice-aggregate-list-2 c = search needs
 
 list-requires : tie.Need-list-requires
 unfolding mostBins
-list-requires c κs = le-refl longestText
+list-requires c κs = le-refl longestListing
 
 array-share-prefix-text : tie.Need-array-share-prefix-text
 array-share-prefix-text c = search needs
