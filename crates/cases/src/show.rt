@@ -1,4 +1,6 @@
 // A line for a case: the call's name, its arguments and its answer, floats as 16 hexadecimal digits of their bits.
+use histogram::reader::FileRead;
+use histogram::writer::Written;
 use libc::STDOUT_FILENO;
 
 pub fn bits(x: f64) {
@@ -44,4 +46,77 @@ pub fn cast(name: &[u8], x: f64, answer: u64) {
     space();
     io::print_decimal(STDOUT_FILENO, answer);
     end();
+}
+
+fn name(text: &[u8]) {
+    io::write_all(STDOUT_FILENO, text);
+    space();
+}
+
+pub fn number(text: &[u8], n: u64) {
+    name(text);
+    io::print_decimal(STDOUT_FILENO, n);
+    end();
+}
+
+pub fn answered(text: &[u8]) {
+    name(text);
+    io::write_all(STDOUT_FILENO, b"answered");
+    end();
+}
+
+pub fn refused(n: u8) {
+    number(b"refused", n as u64);
+}
+
+pub fn number_refused(text: &[u8], n: u8) {
+    name(text);
+    refused(n);
+}
+
+fn byte(b: u8) {
+    space();
+    io::print_hex(STDOUT_FILENO, b as u64, 2);
+}
+
+pub fn bytes(text: &[u8], bytes: &[u8]) {
+    io::write_all(STDOUT_FILENO, text);
+    let mut k = 0;
+    while k < bytes.len() {
+        byte(bytes[k]);
+        k += 1;
+    }
+    end();
+}
+
+// The first n bytes of a text; of a long one, how many there are.
+pub fn text(text: &[u8], n: usize) {
+    if n >= 64 {
+        number(b"listed in bytes", n as u64);
+        return;
+    }
+    if n < text.len() {
+        io::write_all(STDOUT_FILENO, &text[..n]);
+    }
+}
+
+pub fn written(text: &[u8], n: u64, answer: Written) {
+    name(text);
+    io::print_decimal(STDOUT_FILENO, n);
+    space();
+    match answer {
+        Written::Items(size) => number(b"bytes", size as u64),
+        Written::Refused(k) => refused(k),
+    }
+}
+
+pub fn read(text: &[u8], n: u64, answer: FileRead) {
+    name(text);
+    io::print_decimal(STDOUT_FILENO, n);
+    space();
+    match answer {
+        FileRead::Bins(size) => number(b"bins", size as u64),
+        FileRead::Broken(place) => number(b"refused 3 at", place as u64),
+        FileRead::Refused(k) => refused(k),
+    }
 }

@@ -1,0 +1,58 @@
+-- `list::main` meets its contract. Assumes nothing.
+use native.Mathlib.Nat.{le-refl}
+use borrow.Author.Needs.{needs}
+use Rattle.histogram.specs.File.{mostBins}
+use Rattle.listing.specs.Listing.{longestListing}
+use Rattle.list.proofs.main.Statement.{statement}
+use Rattle.list.proofs.main.Tie as tie
+
+first-bytes-requires : tie.Need-first-bytes-requires
+first-bytes-requires c κs = search needs
+
+slice-aggregate-read-full : tie.Need-slice-aggregate-read-full
+unfolding mostBins
+slice-aggregate-read-full c = search needs
+
+read-full-requires : tie.Need-read-full-requires
+read-full-requires c κs = search needs
+
+array-share-prefix-file : tie.Need-array-share-prefix-file
+array-share-prefix-file c = search needs
+
+slice-aggregate-list : tie.Need-slice-aggregate-list
+slice-aggregate-list c = search needs
+
+slice-aggregate-list-2 : tie.Need-slice-aggregate-list-2
+slice-aggregate-list-2 c = search needs
+
+list-requires : tie.Need-list-requires
+unfolding mostBins
+list-requires c κs = le-refl longestListing
+
+array-share-prefix-text : tie.Need-array-share-prefix-text
+array-share-prefix-text c = search needs
+
+slice-aggregate-write-all : tie.Need-slice-aggregate-write-all
+slice-aggregate-write-all c = search needs
+
+write-all-requires : tie.Need-write-all-requires
+write-all-requires c κs = search needs
+
+returns : tie.Need-returns
+returns c = search needs
+
+pub main-spec : {M : Type 1} → statement M
+main-spec =
+    tie.close
+    (tie.spec
+    first-bytes-requires
+    slice-aggregate-read-full
+    read-full-requires
+    array-share-prefix-file
+    slice-aggregate-list
+    slice-aggregate-list-2
+    list-requires
+    array-share-prefix-text
+    slice-aggregate-write-all
+    write-all-requires
+    returns)
