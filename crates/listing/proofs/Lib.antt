@@ -5,4 +5,6 @@ pub mod Decimals
 pub mod Lines
 pub mod Refusals
 pub mod Longest
+pub mod Values
+pub mod Tells
 pub mod Theorems

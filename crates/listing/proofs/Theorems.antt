@@ -1,14 +1,16 @@
 -- THE LISTING, to be read beside document 01. Assumes nothing.
-use Prim.Native.Nat.{ℕ, _+_, _*_, _-_, _/_, _%_, _≤_, _<_}
-use mathlib.Core.Path.{_≡_, refl}
-use mathlib.Core.List.{List, [], _∷_, _++_}
-use native.Mathlib.Omega.{arith}
-use lib.ListN.{getD, List·getD-append}
+use Prim.Native.Nat.{ℕ, _≤_}
+use mathlib.Core.Path.{_≡_, refl, sym, ap}
+use mathlib.Core.List.{List, [], _∷_}
+use lib.ListN.{getD}
+use Rattle.meaning.specs.Reply.{Reply, refuse, broken, give}
 use Rattle.histogram.specs.Number.{takeByteOf}
 use Rattle.histogram.specs.File.{mostBins, rangeOf, nextOf, stepOf, stepsOf, endsOf, readOf}
-use Rattle.listing.specs.Decimal.{digitOf, digitsOf, decimalOf, valueOf, Digits}
-use Rattle.listing.specs.Listing.{ascii, lineOf, rowOf, rowsOf, listingOf, refusalOf, listOf}
-use Rattle.listing.proofs.Decimals.{digits-one, digits-more, digits-some, by-digits}
+use Rattle.histogram.proofs.Theorems.{never-refused}
+use Rattle.listing.specs.Decimal.{digitsOf, decimalOf, valueOf, Digits}
+use Rattle.listing.specs.Listing.{ascii, lineOf, rowOf, rowsOf, listingOf, refusalOf, listedOf, listOf}
+use Rattle.listing.proofs.Values as values
+use Rattle.listing.proofs.Tells as tells
 
 -- ---- document 01's example, byte for byte
 pub example : listOf (0x01 ∷ 0x03 ∷ 0xAC ∷ 0x02 ∷ 0x00 ∷ 0x05 ∷ []) ≡ ascii "bins 3\n1 300\n2 0\n3 5\n"
@@ -20,44 +22,30 @@ pub refused-example : listOf (0x01 ∷ 0x02 ∷ 0x05 ∷ 0x80 ∷ 0x00 ∷ []) �
 unfolding mostBins takeByteOf rangeOf nextOf stepOf stepsOf endsOf readOf digitsOf decimalOf lineOf refusalOf
 refused-example = refl
 
--- ---- reading a number's digits gives the number back
-value-more : (v : ℕ) (ds : List ℕ) (d : ℕ) → valueOf v (ds ++ (d ∷ [])) ≡ valueOf v ds * 10 + (d - 48)
-value-more v [] d = refl
-value-more v (x ∷ ds) d = value-more (v * 10 + (x - 48)) ds d
+-- ---- a number's digits are digits, and reading them gives the number back
+pub are-digits : (n : ℕ) → Digits (decimalOf n)
+are-digits = values.are-digits
 
 pub value-back : (n : ℕ) → valueOf 0 (decimalOf n) ≡ n
-value-back = by-digits (λ (n : ℕ). valueOf 0 (decimalOf n) ≡ n) one more
-  where
-    one : (n : ℕ) → n < 10 → valueOf 0 (decimalOf n) ≡ n
-    one n h = rw (digits-one n h) (omega arith)
+value-back = values.value-back
 
-    more : (n : ℕ) → 10 ≤ n → valueOf 0 (decimalOf (n / 10)) ≡ n / 10 → valueOf 0 (decimalOf n) ≡ n
-    more n h e = rw (digits-more n h, value-more 0 (decimalOf (n / 10)) (digitOf (n % 10)), e) (omega arith)
-
--- ---- and they are digits
-digits-then : (ds : List ℕ) (d : ℕ) → Digits ds → d < 10 → Digits (ds ++ (digitOf d ∷ []))
-digits-then [] d a h = (omega arith, omega arith, tt)
-digits-then (x ∷ ds) d a h = (a .0, a .1, digits-then ds d (a .2) h)
-
-pub are-digits : (n : ℕ) → Digits (decimalOf n)
-are-digits = by-digits (λ (n : ℕ). Digits (decimalOf n)) one more
-  where
-    one : (n : ℕ) → n < 10 → Digits (decimalOf n)
-    one n h = rw (digits-one n h) (digits-then [] n tt h)
-
-    more : (n : ℕ) → 10 ≤ n → Digits (decimalOf (n / 10)) → Digits (decimalOf n)
-    more n h a = rw (digits-more n h) (digits-then (decimalOf (n / 10)) (n % 10) a (omega arith))
-
--- ---- no zero leads, but that of 0 itself
+-- no zero leads, but that of 0 itself
 pub no-zero-leads : (n : ℕ) → 1 ≤ n → 49 ≤ getD (decimalOf n) 0 0
-no-zero-leads = by-digits (λ (n : ℕ). 1 ≤ n → 49 ≤ getD (decimalOf n) 0 0) one more
-  where
-    one : (n : ℕ) → n < 10 → 1 ≤ n → 49 ≤ getD (decimalOf n) 0 0
-    one n h l = rw (digits-one n h) (omega arith)
-
-    more : (n : ℕ) → 10 ≤ n → (1 ≤ n / 10 → 49 ≤ getD (decimalOf (n / 10)) 0 0) → 1 ≤ n → 49 ≤ getD (decimalOf n) 0 0
-    more n h f l = let g = f (omega arith) in rw (digits-more n h, List·getD-append (decimalOf (n / 10)) (digitOf (n % 10) ∷ []) 0 0 (digits-some (n / 10))) g
+no-zero-leads = values.no-zero-leads
 
 pub zero-alone : decimalOf 0 ≡ ascii "0"
 unfolding decimalOf digitsOf
 zero-alone = refl
+
+-- ---- a listing tells what was read: the bins, or the place
+pub listing-tells : (file other : List ℕ) → listOf file ≡ listOf other → readOf file ≡ readOf other
+listing-tells file other e = told (readOf file) (readOf other) refl refl e
+  where
+    told : (x y : Reply (List ℕ)) → readOf file ≡ x → readOf other ≡ y → listedOf x ≡ listedOf y → x ≡ y
+    told (refuse n) y p q h = absurd (never-refused file n p)
+    told (broken place) (refuse n) p q h = absurd (never-refused other n q)
+    told (broken place) (broken behind) p q h = ap broken (tells.place-tells place behind h)
+    told (broken place) (give ys) p q h = absurd (tells.no-bins ys place (sym h))
+    told (give xs) (refuse n) p q h = absurd (never-refused other n q)
+    told (give xs) (broken place) p q h = absurd (tells.no-bins xs place h)
+    told (give xs) (give ys) p q h = ap give (tells.bins-tell xs ys h)
