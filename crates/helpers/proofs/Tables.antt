@@ -18,7 +18,7 @@ use Rattle.meaning.specs.Over.{over}
 use Rattle.meaning.specs.Fold.{fold}
 use Rattle.meaning.specs.Reply.{refuse, give}
 use Rattle.meaning.proofs.Folds.{fold-more, fold-none}
-use Rattle.meaning.proofs.Overs.{over-more, over-length, over-none}
+use Rattle.meaning.proofs.Overs.{over-next, over-length, over-none}
 use Rattle.routines.specs.Ops.{_⊕_, ofCount}
 use Rattle.routines.specs.Pick.{minOf}
 use Rattle.helpers.specs.Shelves.{tableStart, tableStep, tableOf, entryOf, nextEntry, lastOf, shelfTrialsOf, shelfLogTableOf, tableAfter}
@@ -46,8 +46,7 @@ pub table-more : (n a b : Float) (k : ℕ) (held now : List Float) (v : Float) �
 unfolding tableOf
 table-more n a b k held now v p h e =
     ap (λ (x : List Float). set x k v) p
-    ∙ ap (λ (i : ℕ). set (over (tableOf n a b k) held) i v) (sym (table-length n a b k))
-    ∙ over-more (tableOf n a b k) held v nan (subst (λ (i : ℕ). i < length held) (sym (table-length n a b k)) h)
+    ∙ over-next (tableOf n a b k) held k v (table-length n a b k) h
     ∙ ap (λ (x : Float). over (tableOf n a b k ++ (x ∷ [])) held) e
     ∙ ap (λ (i : ℕ). over (tableOf n a b i) held) (sym (add-one k))
 

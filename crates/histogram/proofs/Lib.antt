@@ -5,7 +5,6 @@ pub mod Takes
 pub mod Numbers
 pub mod Steps
 pub mod Bins
-pub mod Overs
 pub mod Rooms
 pub mod Groups
 pub mod Lists

@@ -6,8 +6,8 @@ use mathlib.Core.List.{List, [], _∷_, _++_, append-assoc, append-nil}
 use native.Mathlib.Omega.{arith}
 use lib.ListN.{length, take, drop, set, length-append, length-drop, length-set, drop-of-length-le}
 use lib.Seq.{take-at, drop-at, take-all, drop-drop}
-use Rattle.histogram.specs.Lent.{over}
-use Rattle.histogram.proofs.Overs.{over-none, over-next, length-over}
+use Rattle.meaning.specs.Over.{over}
+use Rattle.meaning.proofs.Overs.{over-none, over-next, over-length}
 
 -- out, which held b, has the first of the bytes, up to the place at; the rest is to come
 pub record Putting (bytes b out rest : List ℕ) (at : ℕ) : Type 0 where
@@ -19,7 +19,7 @@ pub record Putting (bytes b out rest : List ℕ) (at : ℕ) : Type 0 where
 
 module _ (bytes b : List ℕ) where
   pub begins : Putting bytes b b bytes 0
-  begins = record { done = []; behind = refl; whole = refl; same = refl; held = over-none b }
+  begins = record { done = []; behind = refl; whole = refl; same = refl; held = sym (over-none b) }
 
   module _ (out : List ℕ) (at : ℕ) where
     pub ends : Putting bytes b out [] at → (at ≡ length bytes) × (out ≡ over bytes b)
@@ -77,6 +77,6 @@ module _ (bytes b : List ℕ) where
             done = p .done ++ xs;
             behind = l;
             whole = p .whole ∙ sym (append-assoc (p .done) xs rest);
-            same = ap length (turn ys ey) ∙ length-over (p .done ++ xs) b (omega (arith, p .same));
+            same = ap length (turn ys ey) ∙ over-length (p .done ++ xs) b (omega (arith, p .same));
             held = turn ys ey;
           }

@@ -11,9 +11,10 @@ use Rattle.meaning.specs.Reply.{Reply, refuse, broken, give, unless}
 use Rattle.meaning.proofs.Replies.{same-answer, answer-not-refused, answer-not-broken}
 use Rattle.histogram.specs.declared.reader.FileRead.{FileRead}
 use Rattle.histogram.specs.declared.reader.FileRead.the-variants.{Bins, Broken, Refused}
-use Rattle.histogram.specs.Lent.{over, laid, counted}
+use Rattle.meaning.specs.Over.{over}
+use Rattle.histogram.specs.Lent.{laid, counted}
 use Rattle.histogram.specs.Read.{fitsIn, fileSays, heldSays, keptOf}
-use Rattle.histogram.proofs.Overs.{over-none}
+use Rattle.meaning.proofs.Overs.{over-none}
 
 module _ (room n : ℕ) (held : List ℕ) (h : n ≤ length held) where
   pub no-room : room < n → fitsIn room (give (take n held)) ≡ refuse 10
@@ -45,5 +46,5 @@ says-counted (Refused n) held h = refl
 
 pub kept-laid : (r : FileRead) (held bins : List ℕ) → over (take (keptOf r) held) bins ≡ laid (heldSays r held) bins
 kept-laid (Bins n) held bins = refl
-kept-laid (Broken place) held bins = sym (over-none bins)
-kept-laid (Refused n) held bins = sym (over-none bins)
+kept-laid (Broken place) held bins = over-none bins
+kept-laid (Refused n) held bins = over-none bins

@@ -1,12 +1,9 @@
 -- What stands in lent memory after a call that writes a list to its front, or refuses. Definitions only. Assumes nothing.
 use Prim.Native.Nat.{ℕ}
-use mathlib.Core.List.{List, _++_}
-use lib.ListN.{length, drop}
+use mathlib.Core.List.{List}
+use lib.ListN.{length}
+use Rattle.meaning.specs.Over.{over}
 use Rattle.meaning.specs.Reply.{Reply, refuse, broken, give}
-
--- the list laid over the front of what was there: what lies past it is as it was
-unfoldable pub over : {A : Type 0} → List A → List A → List A
-over xs held = xs ++ drop (length xs) held
 
 -- a refusal changes nothing
 abbrev pub laid : {A : Type 0} → Reply (List A) → List A → List A

@@ -15,10 +15,11 @@ use Rattle.histogram.specs.declared.writer.Written.{Written}
 use Rattle.histogram.specs.declared.writer.Written.the-variants.{Items, Refused}
 use Rattle.histogram.specs.Claims.{Below, Histogram}
 use Rattle.histogram.specs.File.{mostBins, readOf}
-use Rattle.histogram.specs.Lent.{over, laid, counted}
+use Rattle.meaning.specs.Over.{over}
+use Rattle.histogram.specs.Lent.{laid, counted}
 use Rattle.histogram.specs.Read.{fitsIn, readHistogramOf}
 use Rattle.histogram.specs.Write.{writtenSays}
-use Rattle.histogram.proofs.Overs.{length-over}
+use Rattle.meaning.proofs.Overs.{over-length}
 use Rattle.histogram.proofs.Theorems.{accepted-holds, never-refused}
 use Rattle.listing.specs.Listing.{listedOf, listOf, listingOf, refusalOf, listHistogramOf, listRefusalOf, longestListing}
 use Rattle.listing.proofs.Longest.{listing-fits, refusal-fits}
@@ -77,7 +78,7 @@ pub front : (file b out : List ℕ) (room n : ℕ) (x : Read (readOf file) room 
 unfolding readHistogramOf over
 front file b out room n x h e =
     let o : out ≡ over (x .xs) b = e ∙ ap (λ (y : Reply (List ℕ)). laid y b) (x .fitted) in
-    let l : length out ≡ length b = ap length o ∙ length-over (x .xs) b h in
+    let l : length out ≡ length b = ap length o ∙ over-length (x .xs) b h in
     (omega (arith, x .many), ap (take n) o ∙ take-at (x .xs) (drop (length (x .xs)) b) n (x .many))
 
 -- ---- what is written
@@ -93,7 +94,7 @@ module _ (answer : List ℕ) (b out : List ℕ) (w : Written) (fit : length answ
   unfolding over
   written r e =
       let l : r ≡ length answer = e ∙ many in
-      let s : length out ≡ length b = ap length held ∙ length-over answer b fit in
+      let s : length out ≡ length b = ap length held ∙ over-length answer b fit in
       let h : r ≤ length out = omega arith in
       ((h, sym (length-take-le r out h)), ap (take r) held ∙ take-at answer (drop (length answer) b) r (sym l))
 

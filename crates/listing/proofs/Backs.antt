@@ -5,7 +5,7 @@ use mathlib.Core.List.{List, [], _∷_, _++_, append-nil}
 use native.Mathlib.Omega.{arith}
 use lib.ListN.{length, getD, take, drop, set, length-append, length-drop, take-append-drop}
 use lib.Seq.{take-suc, length-take-le, append-snoc, set-at}
-use Rattle.histogram.specs.Lent.{over}
+use Rattle.meaning.specs.Over.{over}
 
 -- out, which held b, has the last of the bytes, from the place at on; those in front are to come
 pub record Backing (bytes b out front : List ℕ) (at : ℕ) : Type 0 where

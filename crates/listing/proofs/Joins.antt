@@ -4,8 +4,8 @@ use mathlib.Core.Path.{_≡_, refl, sym, ap, _∙_, subst}
 use mathlib.Core.List.{List, [], _++_, append-nil}
 use native.Mathlib.Omega.{arith}
 use lib.ListN.{length, take, drop, length-append}
-use Rattle.histogram.specs.Lent.{over}
-use Rattle.histogram.proofs.Overs.{length-over}
+use Rattle.meaning.specs.Over.{over}
+use Rattle.meaning.proofs.Overs.{over-length}
 use Rattle.histogram.proofs.Puts as Puts
 use Rattle.histogram.proofs.Puts.{Putting}
 
@@ -16,7 +16,7 @@ module _ (xs rest b : List ℕ) (h : length (xs ++ rest) ≤ length b) where
   -- the first bytes are put
   module _ (out : List ℕ) (k : ℕ) (many : k ≡ length xs) (held : out ≡ over xs b) where
     pub starts : Putting (xs ++ rest) b out rest k
-    starts = record { done = xs; behind = sym many; whole = refl; same = ap length held ∙ length-over xs b first-fits; held = held }
+    starts = record { done = xs; behind = sym many; whole = refl; same = ap length held ∙ over-length xs b first-fits; held = held }
 
     -- the rest is put by a writer that is lent the rest of the memory
     to-come : Putting (xs ++ rest) b out (rest ++ []) k

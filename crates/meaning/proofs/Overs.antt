@@ -1,12 +1,12 @@
 -- Writing into the front of a buffer, one element behind the other. Assumes nothing.
 use mathlib.Core.Path.{_≡_, refl, sym, ap, _∙_}
-use mathlib.Core.List.{List, [], _∷_, _++_, append-assoc}
+use mathlib.Core.List.{List, [], _∷_, _++_}
 use Prim.Native.Nat.{ℕ, zero, suc, _+_, _≤_, _<_}
 use native.Mathlib.Nat.{not-suc-le-zero, le-of-suc-le-suc}
 use native.Mathlib.Omega.{arith}
 use native.Mathlib.Numerals.{add-one}
 use lib.ListN.{length, drop, set, getD, length-append, length-drop}
-use lib.Seq.{drop-cons, set-append-seam}
+use lib.Seq.{drop-cons, set-at, append-snoc}
 use Rattle.meaning.specs.Over.{over}
 
 module _ {A : Type 0} where
@@ -18,13 +18,14 @@ module _ {A : Type 0} where
   unfolding over
   over-none b = refl
 
-  -- v is stored behind what is written
-  pub over-more : (xs b : List A) (v d : A) → length xs < length b → set (over xs b) (length xs) v ≡ over (xs ++ (v ∷ [])) b
+  -- a store behind what is written so far
+  pub over-next : (xs b : List A) (i : ℕ) (v : A) → length xs ≡ i → i < length b → set (over xs b) i v ≡ over (xs ++ (v ∷ [])) b
   unfolding over
-  over-more xs b v d h =
-      rw (drop-cons b (length xs) d h)
-      (set-append-seam xs (getD b (length xs) d) (drop (suc (length xs)) b) v
-      ∙ sym (append-assoc xs (v ∷ []) (drop (length (xs ++ (v ∷ []))) b) ∙ ap (λ (n : ℕ). xs ++ (v ∷ drop n b)) (length-append xs (v ∷ []) ∙ add-one (length xs))))
+  over-next xs b i v e h =
+      ap (λ (r : List A). set (xs ++ r) i v) (drop-cons b (length xs) v (rw e h))
+      ∙ set-at xs (getD b (length xs) v) (drop (suc (length xs)) b) v i e
+      ∙ sym (append-snoc xs v (drop (suc (length xs)) b))
+      ∙ ap (λ (n : ℕ). xs ++ (v ∷ []) ++ drop n b) (sym (length-append xs (v ∷ []) ∙ add-one (length xs)))
 
 -- an element that is there does not turn on what stands past the end
 pub getD-any : {A : Type 0} (l : List A) (i : ℕ) (d e : A) → i < length l → getD l i d ≡ getD l i e

@@ -7,8 +7,8 @@ use native.Mathlib.Omega.{arith}
 use lib.ListN.{length, take, getD, set, length-set}
 use lib.Seq.{take-suc, length-take-le}
 use borrow.Author.Needs.{needs}
-use Rattle.histogram.specs.Lent.{over}
-use Rattle.histogram.proofs.Overs.{over-none, over-next}
+use Rattle.meaning.specs.Over.{over}
+use Rattle.meaning.proofs.Overs.{over-none, over-next}
 use Rattle.histogram.proofs.reader.copy_bins.Statement.{statement}
 use Rattle.histogram.proofs.reader.copy_bins.Tie as tie
 
@@ -19,7 +19,7 @@ abbrev μ-loop : tie.MeasureT-loop
 μ-loop held n bins₀ k₀ bins k = n - k
 
 loop-holds : tie.Need-loop-holds Inv-loop μ-loop
-loop-holds c = (search needs, refl, over-none (c .args .bins .now))
+loop-holds c = (search needs, refl, sym (over-none (c .args .bins .now)))
 
 mul-bins : tie.Need-mul-bins Inv-loop μ-loop
 mul-bins c = omega arith

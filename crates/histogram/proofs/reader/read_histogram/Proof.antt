@@ -7,7 +7,8 @@ use native.Mathlib.Omega.{arith}
 use lib.ListN.{length, take}
 use borrow.Author.Needs.{needs}
 use Rattle.histogram.specs.File.{mostBins, readOf}
-use Rattle.histogram.specs.Lent.{over, laid, counted}
+use Rattle.meaning.specs.Over.{over}
+use Rattle.histogram.specs.Lent.{laid, counted}
 use Rattle.histogram.specs.Read.{readHistogramOf, keptOf}
 use Rattle.histogram.proofs.Rooms.{kept-fits, says-counted, kept-laid}
 use Rattle.histogram.proofs.reader.read_histogram.Statement.{statement}

@@ -7,7 +7,7 @@ use native.Mathlib.Omega.{arith}
 use lib.ListN.{length, getD, take, drop}
 use borrow.Author.Needs.{needs}
 use Rattle.histogram.specs.Number.{numberBytes, numbersBytes}
-use Rattle.histogram.specs.Lent.{over}
+use Rattle.meaning.specs.Over.{over}
 use Rattle.histogram.proofs.Puts.{Putting, begins, fits, room, puts-all, ends}
 use Rattle.histogram.proofs.Sizes.{bytes-from, no-bytes-left}
 use Rattle.histogram.proofs.writer.put_bins.Statement.{statement}

@@ -7,7 +7,7 @@ use lib.ListN.{length, take, drop, set}
 use borrow.Author.Needs.{needs}
 use Rattle.histogram.specs.Number.{numberBytes, numbersBytes}
 use Rattle.histogram.specs.File.{writeOf}
-use Rattle.histogram.specs.Lent.{over}
+use Rattle.meaning.specs.Over.{over}
 use Rattle.histogram.proofs.Puts.{Putting, begins, fits, puts, room, puts-all, ends}
 use Rattle.histogram.proofs.Sizes.{file-bytes}
 use Rattle.histogram.proofs.writer.put_file.Statement.{statement}

@@ -6,7 +6,7 @@ use native.Mathlib.Numerals.{add-one}
 use native.Mathlib.Omega.{arith}
 use lib.ListN.{length, getD, take, drop}
 use borrow.Author.Needs.{needs}
-use Rattle.histogram.specs.Lent.{over}
+use Rattle.meaning.specs.Over.{over}
 use Rattle.histogram.proofs.Puts.{Putting, begins, fits, room, puts-all, ends}
 use Rattle.listing.specs.Listing.{rowOf, rowsOf}
 use Rattle.listing.proofs.Lines.{rows-from, no-rows-left}
