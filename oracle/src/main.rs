@@ -18,9 +18,9 @@ use call::Call;
 use std::time::Instant;
 use tally::Tally;
 
-/// How many rows of each stratum the replay holds, and how many words the longest may have.
-const ROWS: usize = 8;
-const LONGEST: usize = 128;
+/// How many rows of each stratum the replay holds, and how many words the longest may have: in layers 1 and 2, and in layer 3.
+const ROWS: [usize; 2] = [8, 2];
+const LONGEST: [usize; 2] = [64, 128];
 
 /// What the command line asks for: one layer, one call, the replay's rows.
 #[derive(Default)]
@@ -81,8 +81,10 @@ fn main() {
     let asked = asked();
     let calls = asked.calls();
     if asked.sample {
-        let rows: String = calls.iter().map(|call| call.sample(ROWS, LONGEST)).collect();
-        print!("{rows}");
+        for call in &calls {
+            let upper = usize::from(call.number >= 64);
+            print!("{}", call.sample(ROWS[upper], LONGEST[upper]));
+        }
     } else if !compare(&calls) {
         std::process::exit(1);
     }

@@ -1,7 +1,7 @@
 // A line for a case: the call's name, its arguments and its answer, floats as 16 hexadecimal digits of their bits.
 use libc::STDOUT_FILENO;
 
-pub fn bits(x: f64) {
+pub(crate) fn bits(x: f64) {
     if x != x {
         io::write_all(STDOUT_FILENO, b"nan");
     } else {
@@ -17,7 +17,7 @@ fn end() {
     io::write_all(STDOUT_FILENO, b"\n");
 }
 
-pub fn one(name: &[u8], x: f64, answer: f64) {
+pub(crate) fn one(name: &[u8], x: f64, answer: f64) {
     io::write_all(STDOUT_FILENO, name);
     space();
     bits(x);
@@ -26,7 +26,7 @@ pub fn one(name: &[u8], x: f64, answer: f64) {
     end();
 }
 
-pub fn two(name: &[u8], a: f64, b: f64, answer: f64) {
+pub(crate) fn two(name: &[u8], a: f64, b: f64, answer: f64) {
     io::write_all(STDOUT_FILENO, name);
     space();
     bits(a);
@@ -37,7 +37,7 @@ pub fn two(name: &[u8], a: f64, b: f64, answer: f64) {
     end();
 }
 
-pub fn cast(name: &[u8], x: f64, answer: u64) {
+pub(crate) fn cast(name: &[u8], x: f64, answer: u64) {
     io::write_all(STDOUT_FILENO, name);
     space();
     bits(x);
