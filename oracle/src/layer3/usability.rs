@@ -1,5 +1,6 @@
-//! How often a cost is +infinity: the port, the Rust with the port's routines, and the Rust as it is.
+//! How often a cost is +infinity: the port, the Rust with the port's routines, and the Rust as it is; and why.
 
+use super::costs::{stop, Stop};
 use super::rust::{linked, unaltered};
 use super::Problem;
 use crate::argmin::CostFunction;
@@ -40,11 +41,11 @@ fn percent(n: usize) -> f64 {
 
 /// The table; and a line for each dispersion at which two of the three are a percent or more apart.
 pub fn table() -> (String, Vec<String>) {
-    let mut text = String::from("| dispersion | problems | the port | the Rust, linked | the Rust, unaltered |\n|---|---|---|---|---|\n");
+    let mut text = String::from("| dispersion | problems | the port | the Rust, linked | the Rust, unaltered | by a window mass |\n|---|---|---|---|---|---|\n");
     let mut faults = Vec::new();
     for (name, log) in DISPERSIONS {
         let mut d = Draw::named(&format!("usability, {name}"));
-        let mut infinite = [0; 3];
+        let mut infinite = [0; 4];
         for _ in 0..EACH {
             let p = problem(&mut d, log);
             let mut table = p.table.clone();
@@ -55,9 +56,10 @@ pub fn table() -> (String, Vec<String>) {
             for (n, cost) in infinite.iter_mut().zip([answer.value, theirs, plain]) {
                 *n += usize::from(cost == f64::INFINITY);
             }
+            infinite[3] += usize::from(stop(&p) == Stop::Masses);
         }
-        let [ours, theirs, plain] = infinite.map(percent);
-        text += &format!("| {name} | {EACH} | {ours:.2} % | {theirs:.2} % | {plain:.2} % |\n");
+        let [ours, theirs, plain, masses] = infinite.map(percent);
+        text += &format!("| {name} | {EACH} | {ours:.2} % | {theirs:.2} % | {plain:.2} % | {masses:.2} % |\n");
         if (ours - theirs).abs() >= 1.0 || (ours - plain).abs() >= 1.0 {
             faults.push(format!("usability at {name}: {ours} %, {theirs} % and {plain} % are infinite"));
         }
