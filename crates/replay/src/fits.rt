@@ -180,21 +180,32 @@ fn heights_at_hold(fit: SpectrumFit, w: &[u64]) -> bool {
     same(h.error, word(w, 1)) && same(h.single, word(w, 2)) && same(h.repeat, word(w, 3))
 }
 
+fn number_read(call: u64, f: SpectrumFit) -> f64 {
+    if call == 66 {
+        return component_total_ratio(f);
+    }
+    mode_roundtrip_error(f)
+}
+
+fn mode_read(call: u64, f: SpectrumFit) -> u64 {
+    if call == 68 {
+        return primary_mode(f);
+    }
+    repeat_mode(f)
+}
+
 // A fit, and behind it a count for two of the calls, and the answer.
 pub(crate) fn holds(call: u64, row: &[u64]) -> bool {
-    let f = fit(tables::behind(row, 1));
+    let w = tables::behind(row, 1);
     let rest = tables::behind(row, 34);
     match call {
-        66 => same(component_total_ratio(f), word(rest, 0)),
-        67 => same(mode_roundtrip_error(f), word(rest, 0)),
-        68 => primary_mode(f) == word(rest, 0),
-        69 => repeat_mode(f) == word(rest, 0),
-        70 => mode_holds(error_mode(f), word(rest, 0), word(rest, 1)),
+        66 | 67 => same(number_read(call, fit(w)), word(rest, 0)),
+        68 | 69 => mode_read(call, fit(w)) == word(rest, 0),
+        70 => mode_holds(error_mode(fit(w)), word(rest, 0), word(rest, 1)),
         71 => heights_hold(
-            component_heights(f, word(rest, 0) as usize),
+            component_heights(fit(w), word(rest, 0) as usize),
             tables::behind(rest, 1),
         ),
-        72 => heights_at_hold(f, rest),
-        _ => false,
+        _ => heights_at_hold(fit(w), rest),
     }
 }

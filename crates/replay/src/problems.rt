@@ -88,20 +88,36 @@ fn params_hold(p: Params, w: &[u64]) -> bool {
         && same(p.repeat_ratio, word(w, 14))
 }
 
-fn list_answers(call: u64, row: &[u64], theta: &[f64], answer: &[u64]) -> bool {
+fn decode_answers(row: &[u64], theta: &[f64], answer: &[u64]) -> bool {
     let error = fits::error_of(word(row, 2));
     let genome = fits::genome_of(word(row, 3));
-    if call == 91 {
-        return params_hold(
-            decode(error, genome, number(row, 1), theta),
-            behind(answer, 1),
-        );
-    }
-    let from = params_from(error, genome, word(row, 1) as usize, theta);
+    params_hold(
+        decode(error, genome, number(row, 1), theta),
+        behind(answer, 1),
+    )
+}
+
+fn params_answer(from: ParamsAnswer, answer: &[u64]) -> bool {
     match from {
         ParamsAnswer::At(p) => word(answer, 0) == 0 && params_hold(p, behind(answer, 1)),
         ParamsAnswer::Refused(n) => word(answer, 0) == n as u64,
     }
+}
+
+fn from_answers(row: &[u64], theta: &[f64], answer: &[u64]) -> bool {
+    let error = fits::error_of(word(row, 2));
+    let genome = fits::genome_of(word(row, 3));
+    params_answer(
+        params_from(error, genome, word(row, 1) as usize, theta),
+        answer,
+    )
+}
+
+fn list_answers(call: u64, row: &[u64], theta: &[f64], answer: &[u64]) -> bool {
+    if call == 91 {
+        return decode_answers(row, theta, answer);
+    }
+    from_answers(row, theta, answer)
 }
 
 pub(crate) fn list_holds(call: u64, row: &[u64]) -> bool {
