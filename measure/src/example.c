@@ -9,6 +9,38 @@ static void show(const char *call, fog_number answer) {
         printf("%-46s %.17g\n", call, answer.value);
 }
 
+/* A spectrum with an error tail, a peak at 25 and a small one at 50. */
+static void spectrum(uint32_t *bins, size_t length) {
+    for (size_t i = 0; i < length; i++) {
+        const double count = (double)(i + 1);
+        const double lobes = fog_exp(fog_ln_dnbinom(count, 25.0, 2.0)) + 0.1 * fog_exp(fog_ln_dnbinom(count, 50.0, 2.0));
+        bins[i] = (uint32_t)(200000.0 / (count * count * count) + 50000.0 * lobes);
+    }
+}
+
+/* The cost of a list with a shelf, and the fit that it is. */
+static void fit(void) {
+    uint32_t bins[80];
+    double table[71];
+    const double theta[11] = {-1.0, -3.0, 0.0, 0.0, 0.7, 1.5, -0.7, 0.5, -2.0, 0.0, 0.0};
+    const size_t length = fog_list_length(FOG_FREE_SINGLETON_WEIBULL, FOG_SHELF_NEGATIVE_BINOMIAL);
+
+    spectrum(bins, 80);
+    const fog_number cost = fog_cost(bins, 80, 1.0, 70, 25, FOG_FREE_SINGLETON_WEIBULL, FOG_SHELF_NEGATIVE_BINOMIAL, theta, length, table, 71);
+    show("cost, Weibull with shelf, window end 70", cost);
+    show("cost, a list one short",
+         fog_cost(bins, 80, 1.0, 70, 25, FOG_FREE_SINGLETON_WEIBULL, FOG_SHELF_NEGATIVE_BINOMIAL, theta, length - 1, table, 71));
+
+    const fog_fit_answer answer = fog_unpack(bins, 80, 1.0, 70, 25, FOG_FREE_SINGLETON_WEIBULL, FOG_SHELF_NEGATIVE_BINOMIAL, theta, length,
+                                             cost.value, 120, table, 71);
+    const fog_heights heights = fog_component_heights(answer.fit, 20);
+    printf("%-46s %u, mean %.17g, BIC %.17g, deviance %.17g\n", "unpack", answer.number, answer.fit.mean, answer.fit.bic,
+           answer.fit.deviance);
+    printf("%-46s %llu, %llu and %llu\n", "modes: error, single-copy, repeat", (unsigned long long)fog_error_mode(answer.fit).count,
+           (unsigned long long)fog_primary_mode(answer.fit), (unsigned long long)fog_repeat_mode(answer.fit));
+    printf("%-46s %.17g, %.17g and %.17g\n", "heights at 20", heights.error, heights.single, heights.repeat);
+}
+
 int main(void) {
     double table[64];
     const fog_shelf shelf = {0.1, 2.0, 3.0};
@@ -36,5 +68,6 @@ int main(void) {
     show("log_nb_mass(25, 2, to 65536)", fog_log_nb_mass(25.0, 2.0, 65536));
     written = fog_shelf_log_table(25.0, shelf, 60, table, 25);
     printf("%-46s refused, number %u\n", "shelf_log_table(25, to 60), room 25", written.number);
+    fit();
     return 0;
 }

@@ -24,8 +24,13 @@ pub enum Answer {
     Floats,
     /// A flag, then floats.
     Flagged,
-    /// A refusal's number or 0, then a float.
+    /// A refusal's number or 0, then floats.
     Number,
+    /// A refusal's number or 0, so many whole numbers, so many floats, and what stands behind them.
+    Given {
+        whole: usize,
+        floats: usize,
+    },
     /// A refusal's number or 0, how many entries were written, and the lent slice.
     Table,
 }
@@ -37,9 +42,20 @@ impl Answer {
             Answer::Floats => words,
             Answer::Flagged => &words[1..],
             Answer::Number if words[0] == 0 => &words[1..],
+            Answer::Given { whole, floats } if words[0] == 0 => &words[1 + whole..][..floats],
             Answer::Table if words[0] == 0 => &words[2..][..words[1] as usize],
             _ => &[],
         }
+    }
+
+    pub fn has_floats(self) -> bool {
+        !matches!(self, Answer::Whole | Answer::Given { floats: 0, .. })
+    }
+
+    /// The number that came back, if one did.
+    pub fn refusal(self, words: &[u64]) -> Option<u64> {
+        let refuses = matches!(self, Answer::Number | Answer::Table | Answer::Given { .. });
+        Some(words[0]).filter(|&number| refuses && number != 0)
     }
 }
 
@@ -61,36 +77,42 @@ pub struct Call {
     pub open: fn(&[u64]) -> bool,
 }
 
-/// A stratum that only this call has.
-pub struct Own {
-    name: &'static str,
-    wanted: u64,
-    ordinary: bool,
-    draw: fn(&mut Draw) -> Vec<u64>,
-    meets: fn(&[u64]) -> bool,
-}
-
-pub fn own(name: &'static str, wanted: u64, draw: fn(&mut Draw) -> Vec<u64>, meets: fn(&[u64]) -> bool) -> Own {
-    Own { name, wanted, ordinary: false, draw, meets }
-}
-
-/// The same, of ordinary parameters: the distances are taken here too.
-pub fn ordinary_own(name: &'static str, wanted: u64, draw: fn(&mut Draw) -> Vec<u64>, meets: fn(&[u64]) -> bool) -> Own {
-    Own { name, wanted, ordinary: true, draw, meets }
-}
-
+/// A stratum: how many inputs it is to have, how they are drawn, and the test that each must pass.
 pub struct Stratum<'a> {
     pub name: String,
     wanted: u64,
+    /// Of ordinary parameters: the distances are taken here too.
     pub ordinary: bool,
+    /// No row of it is short enough to be replayed.
+    long: bool,
     draw: Box<dyn Fn(&mut Draw) -> Vec<u64> + 'a>,
     meets: Box<dyn Fn(&[u64]) -> bool + 'a>,
 }
 
+/// A stratum that only this call has.
+pub type Own = Stratum<'static>;
+
 impl<'a> Stratum<'a> {
     fn new(name: &str, wanted: u64, draw: impl Fn(&mut Draw) -> Vec<u64> + 'a, meets: impl Fn(&[u64]) -> bool + 'a) -> Stratum<'a> {
-        Stratum { name: name.into(), wanted, ordinary: false, draw: Box::new(draw), meets: Box::new(meets) }
+        Stratum { name: name.into(), wanted, ordinary: false, long: false, draw: Box::new(draw), meets: Box::new(meets) }
     }
+
+    pub fn long(self) -> Stratum<'a> {
+        Stratum { long: true, ..self }
+    }
+}
+
+pub fn own(name: &str, wanted: u64, draw: impl Fn(&mut Draw) -> Vec<u64> + 'static, meets: impl Fn(&[u64]) -> bool + 'static) -> Own {
+    Stratum::new(name, wanted, draw, meets)
+}
+
+pub fn ordinary_own(
+    name: &str,
+    wanted: u64,
+    draw: impl Fn(&mut Draw) -> Vec<u64> + 'static,
+    meets: impl Fn(&[u64]) -> bool + 'static,
+) -> Own {
+    Stratum { ordinary: true, ..own(name, wanted, draw, meets) }
 }
 
 impl Call {
@@ -147,7 +169,10 @@ impl Call {
 
     /// The strata that every call with such arguments has.
     fn common(&self) -> Vec<Stratum<'_>> {
-        let mut strata = vec![Stratum::new("all bit patterns", 150_000, |d| self.any_put(d), |_| true)];
+        let mut strata = vec![];
+        if self.arguments.iter().any(|(_, kind)| *kind != Kind::Other) {
+            strata.push(Stratum::new("all bit patterns", 150_000, |d| self.any_put(d), |_| true));
+        }
         if !self.places(Kind::Whole).is_empty() {
             strata.push(Stratum::new("at and beside powers of two", 300_000, |d| self.whole_put(d), |_| true));
         }
@@ -172,8 +197,8 @@ impl Call {
     pub fn strata(&self) -> Vec<Stratum<'_>> {
         let mut strata = self.common();
         for own in &self.own {
-            let stratum = Stratum::new(own.name, own.wanted, own.draw, own.meets);
-            strata.push(Stratum { ordinary: own.ordinary, ..stratum });
+            let stratum = Stratum::new(&own.name, own.wanted, &own.draw, &own.meets);
+            strata.push(Stratum { ordinary: own.ordinary, long: own.long, ..stratum });
         }
         let rest: u64 = strata.iter().map(|s| s.wanted).sum();
         let ordinary = Stratum::new("ordinary", EACH_CALL.saturating_sub(rest).max(200_000), self.ordinary, |_| true);
@@ -216,7 +241,7 @@ impl Call {
     /// The replay's rows: the first inputs of each stratum that fit, with the Rust's answers.
     pub fn sample(&self, rows: usize, longest: usize) -> String {
         let mut text = String::new();
-        for stratum in self.strata() {
+        for stratum in self.strata().into_iter().filter(|stratum| !stratum.long) {
             let mut kept = 0;
             text += &format!("# {}: {}\n", self.name, stratum.name);
             self.inputs(&stratum, |input| {

@@ -208,6 +208,11 @@ impl Draw {
         }
     }
 
+    /// One of the two families.
+    pub fn family(&mut self) -> u8 {
+        self.below(2) as u8
+    }
+
     /// Absent once in four times; any other number is presence.
     pub fn presence(&mut self) -> u64 {
         if self.one_in(4) {

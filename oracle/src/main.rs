@@ -5,6 +5,7 @@ mod call;
 mod draw;
 mod layer1;
 mod layer2;
+mod layer3;
 mod linked;
 mod port;
 mod rules;
@@ -14,43 +15,77 @@ mod words;
 mod written;
 
 use call::Call;
+use std::time::Instant;
 use tally::Tally;
 
-/// How many rows of each stratum the replay holds, and how many words the longest may have.
-const ROWS: usize = 8;
-const LONGEST: usize = 64;
+/// How many rows of each stratum the replay holds, and how many words the longest may have: in layers 1 and 2, and in layer 3.
+const ROWS: [usize; 2] = [8, 2];
+const LONGEST: [usize; 2] = [64, 128];
 
-fn calls() -> Vec<Call> {
-    let mut calls = layer1::calls();
-    calls.extend(layer2::calls());
-    calls
+/// What the command line asks for: one layer, one call, the replay's rows.
+#[derive(Default)]
+struct Asked {
+    layer: Option<u64>,
+    call: Option<String>,
+    sample: bool,
+}
+
+fn asked() -> Asked {
+    let mut asked = Asked::default();
+    let mut words = std::env::args().skip(1);
+    while let Some(word) = words.next() {
+        match word.as_str() {
+            "--layer" => asked.layer = words.next().and_then(|n| n.parse().ok()),
+            "--call" => asked.call = words.next(),
+            "--sample" => asked.sample = true,
+            _ => panic!("oracle: {word} is no option"),
+        }
+    }
+    asked
+}
+
+impl Asked {
+    fn calls(&self) -> Vec<Call> {
+        let layers = [layer1::calls(), layer2::calls(), layer3::calls()];
+        let wanted = (1..).zip(layers).filter(|(n, _)| self.layer.is_none_or(|layer| layer == *n));
+        wanted.flat_map(|(_, calls)| calls).filter(|call| self.call.as_ref().is_none_or(|name| name == call.name)).collect()
+    }
 }
 
 /// Prints the tables; whether all is well.
-fn compare() -> bool {
+fn compare(calls: &[Call]) -> bool {
     let mut tally = Tally::default();
-    for call in calls() {
-        eprintln!("{} ..", call.name);
+    for call in calls {
+        let started = Instant::now();
         call.compare(&mut tally);
+        eprintln!("{} .. {} s", call.name, started.elapsed().as_secs());
     }
-    let faults = tally.faults();
-    println!("## The port against the Rust\n\n{}\n{}\n", tally.comparison_table(), tally.totals());
-    println!("## The port against the unaltered Rust\n\n{}", tally.distance_table());
+    let mut faults = tally.faults();
+    println!("## The port against the Rust\n\n{}\n{}\n", tally.call_table(), tally.totals());
+    println!("## The numbers that came back\n\n{}", tally.refusal_table());
+    println!("## The port against the unaltered Rust\n\n{}", tally.call_distances());
+    if calls.iter().any(|call| call.name == "cost") {
+        let (table, apart) = layer3::usability::table();
+        println!("## How often a cost is infinite\n\n{table}");
+        faults.extend(apart);
+    }
+    println!("## Each stratum\n\n{}", tally.comparison_table());
+    println!("## Each stratum against the unaltered Rust\n\n{}", tally.distance_table());
     for fault in &faults {
         println!("- {fault}");
     }
     faults.is_empty()
 }
 
-fn sample() {
-    let rows: String = calls().iter().map(|call| call.sample(ROWS, LONGEST)).collect();
-    print!("{rows}");
-}
-
 fn main() {
-    if std::env::args().any(|word| word == "--sample") {
-        sample();
-    } else if !compare() {
+    let asked = asked();
+    let calls = asked.calls();
+    if asked.sample {
+        for call in &calls {
+            let upper = usize::from(call.number >= 64);
+            print!("{}", call.sample(ROWS[upper], LONGEST[upper]));
+        }
+    } else if !compare(&calls) {
         std::process::exit(1);
     }
 }

@@ -1,5 +1,7 @@
 //! The port through its C interface: `crates/exports` and `crates/probe`.
 
+use crate::layer3::Problem;
+
 #[repr(C)]
 #[derive(Clone, Copy)]
 pub struct Shelf {
@@ -43,6 +45,85 @@ pub struct Lobe {
     pub gamma: f64,
     pub start: f64,
     pub slope: f64,
+}
+
+#[repr(C)]
+pub struct Count {
+    pub number: u8,
+    pub count: u64,
+}
+
+#[repr(C)]
+pub struct Heights {
+    pub number: u8,
+    pub error: f64,
+    pub single: f64,
+    pub repeat: f64,
+}
+
+#[repr(C)]
+#[derive(Clone, Copy)]
+pub struct Errors {
+    pub singleton_probability: f64,
+    pub tail_exponent: f64,
+    pub shape_present: u8,
+    pub weibull_shape: f64,
+}
+
+#[repr(C)]
+#[derive(Clone, Copy)]
+pub struct Fit {
+    pub error_model: u8,
+    pub genome_model: u8,
+    pub w_error: f64,
+    pub w_single: f64,
+    pub w_repeat: f64,
+    pub mean: f64,
+    pub dispersion: f64,
+    pub target_mode: f64,
+    pub error_params: Errors,
+    pub shelf_present: u8,
+    pub shelf: Shelf,
+    pub repeat_ratio: f64,
+    pub genome_kmers: f64,
+    pub error_kmers: f64,
+    pub repeat_kmers: f64,
+    pub log_likelihood: f64,
+    pub bic: f64,
+    pub deviance: f64,
+    pub fit_window_end: usize,
+    pub best_iterations: u64,
+    pub component_log_window_masses: [f64; 3],
+    pub component_log_totals: [f64; 3],
+    pub observed_total: f64,
+    pub full_distinct_total: f64,
+}
+
+#[repr(C)]
+pub struct FitAnswer {
+    pub number: u8,
+    pub fit: Fit,
+}
+
+#[repr(C)]
+#[derive(Clone, Copy)]
+pub struct Params {
+    pub ln_error: f64,
+    pub ln_single: f64,
+    pub ln_repeat: f64,
+    pub target_mode: f64,
+    pub mean: f64,
+    pub dispersion: f64,
+    pub error_params: Errors,
+    pub shelf_present: u8,
+    pub shelf: Shelf,
+    pub repeat_ratio: f64,
+}
+
+#[repr(C)]
+pub struct ParamsAnswer {
+    pub number: u8,
+    pub params: Params,
 }
 
 /// Declares a C function `fog_NAME` and a safe NAME that calls it. None of these reads or writes memory.
@@ -94,6 +175,23 @@ calls! {
     ln_dbetabinom = fog_ln_dbetabinom(x: f64, trials: f64, alpha: f64, beta: f64) -> f64;
     ln_single_copy = fog_ln_single_copy(count: f64, mean: f64, dispersion: f64, present: u8, shelf: Shelf) -> f64;
     mix_shelf = fog_mix_shelf(lobe: f64, shelf: Shelf, at: f64) -> f64;
+    parameter_count = fog_parameter_count(error: u8) -> usize;
+    extra_parameters = fog_extra_parameters(genome: u8) -> usize;
+    list_length = fog_list_length(error: u8, genome: u8) -> usize;
+    log_probability = fog_log_probability(errors: Errors, count: f64) -> f64;
+    log_window_mass = fog_log_window_mass(errors: Errors, top: usize) -> Number;
+    retained = fog_retained(shelf: Shelf) -> f64;
+    concentration = fog_concentration(shelf: Shelf) -> f64;
+    shelf_concentration_bounds = fog_shelf_concentration_bounds(retained: f64) -> Pair;
+    shelf_is_valid = fog_shelf_is_valid(shelf: Shelf) -> bool;
+    used_scale = fog_used_scale(scale: f64) -> f64;
+    rounded_quotient = fog_rounded_quotient(n: u32, divisor: f64) -> u32;
+    component_total_ratio = fog_component_total_ratio(fit: Fit) -> f64;
+    mode_roundtrip_error = fog_mode_roundtrip_error(fit: Fit) -> f64;
+    primary_mode = fog_primary_mode(fit: Fit) -> u64;
+    repeat_mode = fog_repeat_mode(fit: Fit) -> u64;
+    error_mode = fog_error_mode(fit: Fit) -> Count;
+    component_heights = fog_component_heights(fit: Fit, count: usize) -> Heights;
 }
 
 extern "C" {
@@ -133,4 +231,53 @@ pub fn single_copy_log_mass_to(mean: f64, dispersion: f64, present: u8, shelf: S
 
 pub fn shelf_log_table(mean: f64, shelf: Shelf, top: usize, table: &mut [f64]) -> Written {
     unsafe { fog_shelf_log_table(mean, shelf, top, table.as_mut_ptr(), table.len()) }
+}
+
+extern "C" {
+    fn fog_params_from(error: u8, genome: u8, peak: usize, theta: *const f64, listed: usize) -> ParamsAnswer;
+    fn fog_cost(
+        bins: *const u32,
+        length: usize,
+        scale: f64,
+        window_end: usize,
+        peak: usize,
+        error: u8,
+        genome: u8,
+        theta: *const f64,
+        listed: usize,
+        table: *mut f64,
+        room: usize,
+    ) -> Number;
+    fn fog_unpack(
+        bins: *const u32,
+        length: usize,
+        scale: f64,
+        window_end: usize,
+        peak: usize,
+        error: u8,
+        genome: u8,
+        theta: *const f64,
+        listed: usize,
+        cost: f64,
+        iterations: u64,
+        table: *mut f64,
+        room: usize,
+    ) -> FitAnswer;
+}
+
+pub fn params_from(error: u8, genome: u8, peak: usize, theta: &[f64]) -> ParamsAnswer {
+    unsafe { fog_params_from(error, genome, peak, theta.as_ptr(), theta.len()) }
+}
+
+/// The table is lent apart from the problem.
+pub fn cost(p: &Problem, table: &mut [f64]) -> Number {
+    let (bins, length, theta, listed) = (p.bins.as_ptr(), p.bins.len(), p.theta.as_ptr(), p.theta.len());
+    let (end, peak, room) = (p.window_end as usize, p.peak as usize, table.len());
+    unsafe { fog_cost(bins, length, p.scale, end, peak, p.error, p.genome, theta, listed, table.as_mut_ptr(), room) }
+}
+
+pub fn unpack(p: &Problem, cost: f64, iterations: u64, table: &mut [f64]) -> FitAnswer {
+    let (bins, length, theta, listed) = (p.bins.as_ptr(), p.bins.len(), p.theta.as_ptr(), p.theta.len());
+    let (end, peak, room) = (p.window_end as usize, p.peak as usize, table.len());
+    unsafe { fog_unpack(bins, length, p.scale, end, peak, p.error, p.genome, theta, listed, cost, iterations, table.as_mut_ptr(), room) }
 }

@@ -11,10 +11,15 @@ pub struct Row {
     pub comparisons: u64,
     finite: u64,
     differences: u64,
+    /// How often each number came back, by the number.
+    refused: [u64; NUMBERS],
     /// Inputs left out, since Rust fixes no answer.
     pub open: u64,
     first: String,
 }
+
+/// One more than the largest number of document 01.
+const NUMBERS: usize = 11;
 
 fn hex(words: &[u64]) -> String {
     words.iter().take(24).map(|w| format!("{w:016x}")).collect::<Vec<_>>().join(" ")
@@ -22,7 +27,18 @@ fn hex(words: &[u64]) -> String {
 
 impl Row {
     pub fn new(call: &'static str, stratum: &str, answer: Answer, wanted: u64) -> Row {
-        Row { call, stratum: stratum.into(), answer, wanted, comparisons: 0, finite: 0, differences: 0, open: 0, first: String::new() }
+        Row {
+            call,
+            stratum: stratum.into(),
+            answer,
+            wanted,
+            comparisons: 0,
+            finite: 0,
+            differences: 0,
+            refused: [0; NUMBERS],
+            open: 0,
+            first: String::new(),
+        }
     }
 
     pub fn compare(&mut self, input: &[u64], ours: &[u64], theirs: &[u64]) {
@@ -30,6 +46,9 @@ impl Row {
         let floats = self.answer.floats(theirs);
         if !floats.is_empty() && floats.iter().all(|&w| is_finite(w)) {
             self.finite += 1;
+        }
+        if let Some(number) = self.answer.refusal(theirs) {
+            self.refused[number as usize] += 1;
         }
         if ours != theirs {
             self.differences += 1;
@@ -48,8 +67,17 @@ impl Row {
     }
 
     fn line(&self) -> String {
-        let finite = if self.answer == Answer::Whole { "-".into() } else { self.finite.to_string() };
+        let finite = finite(self.answer, self.finite);
         format!("| {} | {} | {} | {finite} | {} |\n", self.call, self.stratum, self.comparisons, self.differences)
+    }
+}
+
+/// Finite answers, where an answer has floats.
+fn finite(answer: Answer, n: u64) -> String {
+    if answer.has_floats() {
+        n.to_string()
+    } else {
+        "-".into()
     }
 }
 
@@ -98,6 +126,16 @@ impl Distance {
         }
     }
 
+    fn with(mut self, other: &Distance) -> Distance {
+        self.values += other.values;
+        self.equal += other.equal;
+        self.ulp = self.ulp.max(other.ulp);
+        self.relative = self.relative.max(other.relative);
+        self.scaled = self.scaled.max(other.scaled);
+        self.apart += other.apart;
+        self
+    }
+
     fn line(&self) -> String {
         let far = format!("{} | {:.1e} | {:.1e} | {}", self.ulp, self.relative, self.scaled, self.apart);
         format!("| {} | {} | {} | {} | {far} |\n", self.call, self.stratum, self.values, self.equal)
@@ -114,22 +152,69 @@ pub struct Tally {
 
 impl Tally {
     pub fn add(&mut self, row: Row, ordinary: bool) {
-        if ordinary && row.answer != Answer::Whole && 2 * row.finite < row.comparisons {
+        if ordinary && row.answer.has_floats() && 2 * row.finite < row.comparisons {
             self.hollow.push(row.name());
         }
         self.rows.push(row);
     }
 
+    fn of<'a>(&'a self, call: &'a str) -> impl Iterator<Item = &'a Row> {
+        self.rows.iter().filter(move |row| row.call == call)
+    }
+
+    /// A row for each call.
+    pub fn call_table(&self) -> String {
+        let head = "| call | strata | comparisons | finite | differences |\n|---|---|---|---|---|\n";
+        let line = |call: &&str| {
+            let sum = |f: fn(&Row) -> u64| self.of(call).map(f).sum::<u64>();
+            let answer = self.of(call).next().expect("a call has strata").answer;
+            let finite = finite(answer, sum(|r| r.finite));
+            format!("| {call} | {} | {} | {finite} | {} |\n", self.of(call).count(), sum(|r| r.comparisons), sum(|r| r.differences))
+        };
+        head.to_string() + &self.calls().iter().map(line).collect::<String>()
+    }
+
+    /// How often each number came back, for each call that can refuse.
+    pub fn refusal_table(&self) -> String {
+        let numbers: Vec<usize> = (0..NUMBERS).filter(|&n| self.rows.iter().any(|row| row.refused[n] > 0)).collect();
+        let cells = |cell: &dyn Fn(usize) -> String| numbers.iter().map(|&n| cell(n)).collect::<String>();
+        let mut text = format!("| call |{}\n|---|{}\n", cells(&|n| format!(" {n} |")), cells(&|_| "---|".into()));
+        for call in self.calls() {
+            let came = |n: usize| self.of(call).map(|row| row.refused[n]).sum::<u64>();
+            if numbers.iter().any(|&n| came(n) > 0) {
+                text += &format!("| {call} |{}\n", cells(&|n| format!(" {} |", came(n))));
+            }
+        }
+        text
+    }
+
+    /// A row for each call that the unaltered Rust has, over its strata of ordinary parameters.
+    pub fn call_distances(&self) -> String {
+        let mut text = Tally::distance_head();
+        for call in self.calls() {
+            let taken: Vec<&Distance> = self.distances.iter().filter(|d| d.call == call && d.values > 0).collect();
+            let all = taken.iter().fold(Distance::new(call, &format!("{} strata", taken.len())), |all, d| all.with(d));
+            if all.values > 0 {
+                text += &all.line();
+            }
+        }
+        text
+    }
+
+    fn distance_head() -> String {
+        let head = "| call | stratum | values | equal | max ulp | max relative | max \\|d\\|/(1+\\|v\\|) | one not finite |\n";
+        head.to_string() + "|---|---|---|---|---|---|---|---|\n"
+    }
+
+    /// A row for each stratum.
     pub fn comparison_table(&self) -> String {
         let head = "| call | stratum | comparisons | finite | differences |\n|---|---|---|---|---|\n";
         head.to_string() + &self.rows.iter().map(Row::line).collect::<String>()
     }
 
     pub fn distance_table(&self) -> String {
-        let head = "| call | stratum | values | equal | max ulp | max relative | max \\|d\\|/(1+\\|v\\|) | one not finite |\n";
-        let rule = "|---|---|---|---|---|---|---|---|\n";
         let taken = self.distances.iter().filter(|d| d.values > 0);
-        head.to_string() + rule + &taken.map(Distance::line).collect::<String>()
+        Tally::distance_head() + &taken.map(Distance::line).collect::<String>()
     }
 
     /// The names of the calls, in order.
@@ -140,7 +225,7 @@ impl Tally {
     }
 
     fn comparisons(&self, call: &str) -> u64 {
-        self.rows.iter().filter(|r| r.call == call).map(|r| r.comparisons).sum()
+        self.of(call).map(|r| r.comparisons).sum()
     }
 
     /// Each difference's first input, and each stratum and call that was not reached.

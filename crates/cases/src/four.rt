@@ -17,7 +17,7 @@ fn both(x: f64) {
     at(-x);
 }
 
-pub fn all() {
+pub(crate) fn all() {
     both(0.0);
     both(1.0);
     both(2.0);

@@ -3,7 +3,7 @@ use histogram::reader::FileRead;
 use histogram::writer::Written;
 use libc::STDOUT_FILENO;
 
-pub fn bits(x: f64) {
+pub(crate) fn bits(x: f64) {
     if x != x {
         io::write_all(STDOUT_FILENO, b"nan");
     } else {
@@ -19,7 +19,7 @@ fn end() {
     io::write_all(STDOUT_FILENO, b"\n");
 }
 
-pub fn one(name: &[u8], x: f64, answer: f64) {
+pub(crate) fn one(name: &[u8], x: f64, answer: f64) {
     io::write_all(STDOUT_FILENO, name);
     space();
     bits(x);
@@ -28,7 +28,7 @@ pub fn one(name: &[u8], x: f64, answer: f64) {
     end();
 }
 
-pub fn two(name: &[u8], a: f64, b: f64, answer: f64) {
+pub(crate) fn two(name: &[u8], a: f64, b: f64, answer: f64) {
     io::write_all(STDOUT_FILENO, name);
     space();
     bits(a);
@@ -39,7 +39,7 @@ pub fn two(name: &[u8], a: f64, b: f64, answer: f64) {
     end();
 }
 
-pub fn cast(name: &[u8], x: f64, answer: u64) {
+pub(crate) fn cast(name: &[u8], x: f64, answer: u64) {
     io::write_all(STDOUT_FILENO, name);
     space();
     bits(x);

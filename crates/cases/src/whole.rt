@@ -87,7 +87,7 @@ fn casts() {
     show::one(b"from_u64", 9007199254740992.0, from_u64(9007199254740993));
 }
 
-pub fn all() {
+pub(crate) fn all() {
     rounding();
     floors();
     pairs();

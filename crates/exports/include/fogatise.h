@@ -4,8 +4,8 @@
  * Every function ends and answers for every argument, NaN and infinities included. None keeps a pointer, allocates, or reads or writes
  * anything but its arguments. The processor is assumed to round to nearest, with gradual underflow, as it does when a program starts.
  *
- * A table is a pointer and the number of its entries. The pointer is never null, even to no entries, and what one call is lent does not
- * overlap. A NaN that comes back may have any sign and payload.
+ * A table, a list and the bins are a pointer and the number of entries. The pointer is never null, even to no entries, and what one call is
+ * lent does not overlap. A NaN that comes back may have any sign and payload.
  */
 #ifndef FOGATISE_H
 #define FOGATISE_H
@@ -20,11 +20,17 @@ extern "C" {
 /*
  * An answer that can refuse: number 0 and the value, or the number that comes back instead, and the value 0.
  *
- *    2  the window end is above 65,535
- *    5  the window end is 0
- *   10  a lent table is too short for the answer
+ *    1  the peak or the number of bins is below 2
+ *    2  the bins, the peak, a count or the window end is above 65,535
+ *    4  all bins are zero
+ *    5  the window end is 0, or beyond the bins
+ *    6  every recovered bin in the window is zero
+ *    7  the list has the wrong length for its families
+ *    8  a log probability scanned for the error mode is a NaN
+ *   10  a lent table is too short for the answer, or for the shelf table
  *
- * Where several apply, the first of these comes back. A refusal leaves lent memory as it was.
+ * Each applies only to calls that take the thing named. Where several apply, the first of these comes back. A refusal leaves lent memory
+ * as it was.
  */
 typedef struct {
     uint8_t number;
@@ -37,6 +43,24 @@ typedef struct {
     size_t items;
 } fog_written;
 
+/* The same of a call that answers with a whole number. */
+typedef struct {
+    uint8_t number;
+    uint64_t count;
+} fog_count;
+
+/* The same of three heights. */
+typedef struct {
+    uint8_t number;
+    double error;
+    double single;
+    double repeat;
+} fog_heights;
+
+/* The families. Any number but 0 is the second. */
+enum { FOG_FREE_SINGLETON_WEIBULL = 0, FOG_SINGLETON_PARETO = 1 };
+enum { FOG_NEGATIVE_BINOMIAL = 0, FOG_SHELF_NEGATIVE_BINOMIAL = 1 };
+
 /*
  * The shelf under the single-copy lobe: its share of the component, and the beta-binomial's two shapes. Where a call takes `present`
  * beside it, 0 says that there is no shelf, and any other number that there is one.
@@ -46,6 +70,55 @@ typedef struct {
     double alpha;
     double beta;
 } fog_shelf;
+
+/*
+ * The error component: count 1 has the probability singleton_probability; from 2 on a tail with this exponent, Weibull-like where
+ * shape_present is not 0, and Pareto otherwise.
+ */
+typedef struct {
+    double singleton_probability;
+    double tail_exponent;
+    uint8_t shape_present;
+    double weibull_shape;
+} fog_errors;
+
+/*
+ * A fit. The three weights are those inside the window, 1 to fit_window_end; k-mers, totals and observed_total are at library scale. Arrays
+ * go error, single-copy, repeat. What is not there is 0 beside its presence. Whether there is a shape or a shelf is said by its presence
+ * alone, never by a family.
+ */
+typedef struct {
+    uint8_t error_model;
+    uint8_t genome_model;
+    double w_error;
+    double w_single;
+    double w_repeat;
+    double mean;
+    double dispersion;
+    double target_mode;
+    fog_errors error_params;
+    uint8_t shelf_present;
+    fog_shelf shelf;
+    double repeat_ratio;
+    double genome_kmers;
+    double error_kmers;
+    double repeat_kmers;
+    double log_likelihood;
+    double bic;
+    double deviance;
+    size_t fit_window_end;
+    uint64_t best_iterations;
+    double component_log_window_masses[3];
+    double component_log_totals[3];
+    double observed_total;
+    double full_distinct_total;
+} fog_fit;
+
+/* Number 0 and a fit, or a number and a fit with every field 0. */
+typedef struct {
+    uint8_t number;
+    fog_fit fit;
+} fog_fit_answer;
 
 /* ---- the four routines, step by step as docs/ROUTINES.md has them; special values follow ISO C Annex F */
 
@@ -106,6 +179,54 @@ fog_number fog_single_copy_log_mass(double mean, double dispersion, uint8_t pres
  * 10, the last where there are fewer entries than that.
  */
 fog_written fog_shelf_log_table(double mean, fog_shelf shelf, size_t top, double *table, size_t length);
+
+/* ---- parameter lists */
+
+/* The list's entries before the genome family's own: 7 for Weibull, 6 for Pareto. */
+size_t fog_parameter_count(uint8_t error);
+
+/* The genome family's own: 1, and 4 with a shelf. */
+size_t fog_extra_parameters(uint8_t genome);
+
+/* Their sum: Weibull 8, Weibull with shelf 11, Pareto 7, Pareto with shelf 10. */
+size_t fog_list_length(uint8_t error, uint8_t genome);
+
+/* ---- cost and fit: bin i holds count i + 1 */
+
+/*
+ * The negative log-likelihood of the counts 1 to window_end at the parameters of a list, and +inf for what the model can't use. A bin is
+ * divided by the scale and rounded with halves away from zero; a scale that is not finite or is below 1 becomes 1. With a shelf family
+ * `table` needs window_end + 1 entries: the shelf table is built there, and stays there, unless the cost is +inf for the parameters alone.
+ * Refusals 1, 2, 4, 5, 6, 7 and 10.
+ */
+fog_number fog_cost(const uint32_t *bins, size_t bins_length, double scale, size_t window_end, size_t peak, uint8_t error, uint8_t genome,
+                    const double *theta, size_t theta_length, double *table, size_t table_length);
+
+/*
+ * A converged list as a fit, with its cost, which may be any number, and its iterations. The rest is as in fog_cost, but that a shelf table
+ * is always built.
+ */
+fog_fit_answer fog_unpack(const uint32_t *bins, size_t bins_length, double scale, size_t window_end, size_t peak, uint8_t error,
+                          uint8_t genome, const double *theta, size_t theta_length, double cost, uint64_t iterations, double *table,
+                          size_t table_length);
+
+/* ---- what is read off a fit */
+
+/* How high each component stands at a count inside the window. Refusal 2. At count 0 the error's height is a NaN. */
+fog_heights fog_component_heights(fog_fit fit, size_t count);
+
+/* The count in the window where the error component is highest, the later of equals. Refusals 2, 5 and 8. */
+fog_count fog_error_mode(fog_fit fit);
+
+/* The single-copy lobe's mode, and the repeat lobe's. */
+uint64_t fog_primary_mode(fog_fit fit);
+uint64_t fog_repeat_mode(fog_fit fit);
+
+/* How far the mode that mean and dispersion give back lies from target_mode. */
+double fog_mode_roundtrip_error(fog_fit fit);
+
+/* The components' totals over the spectrum's distinct k-mers. */
+double fog_component_total_ratio(fog_fit fit);
 
 #ifdef __cplusplus
 }

@@ -8,6 +8,7 @@ use Rattle.routines.specs.Exp as exp
 use Rattle.helpers.specs.declared.shelves.Shelf.{Shelf}
 use Rattle.helpers.specs.declared.shelves.ShelfPart.{ShelfPart}
 use Rattle.helpers.specs.declared.shelves.ShelfPart.the-variants.{Absent, Present}
+use Rattle.exports.specs.declared.answers.FlatCount.{FlatCount}
 use Rattle.exports.specs.declared.answers.FlatNumber.{FlatNumber}
 use Rattle.exports.specs.declared.answers.FlatWritten.{FlatWritten}
 use Rattle.exports.specs.declared.shelf.FlatShelf.{FlatShelf}
@@ -22,6 +23,11 @@ abbrev pub sayWritten : Reply ℕ → FlatWritten
 sayWritten (refuse n) = record { number = n; items = 0 }
 sayWritten (broken place) = record { number = 3; items = 0 }
 sayWritten (give n) = record { number = 0; items = n }
+
+abbrev pub sayCount : Reply ℕ → FlatCount
+sayCount (refuse n) = record { number = n; count = 0 }
+sayCount (broken place) = record { number = 3; count = 0 }
+sayCount (give n) = record { number = 0; count = n }
 
 abbrev pub shelfOf : FlatShelf → Shelf
 shelfOf s = record { share = s .share; alpha = s .alpha; beta = s .beta }

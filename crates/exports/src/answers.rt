@@ -1,9 +1,13 @@
 // Answers that can refuse, as C has them: a number, 0 for an answer, and the value beside it, 0 for a refusal.
 ghost use mathlib.Core.Path.{_≡_};
-ghost use Rattle.helpers.specs.Answers.{numberSays, writtenSays};
-ghost use Rattle.exports.specs.Flat.{sayNumber, sayWritten};
+ghost use Rattle.helpers.specs.Answers.{numberSays, writtenSays, countSays};
+ghost use Rattle.models.specs.Heights.{heightsSays};
+ghost use Rattle.exports.specs.Flat.{sayNumber, sayWritten, sayCount};
+ghost use Rattle.exports.specs.FlatFits.{sayHeights};
+use helpers::answers::Count;
 use helpers::answers::Number;
 use helpers::answers::Written;
+use models::heights::HeightsAnswer;
 
 #[repr(C)]
 pub struct FlatNumber {
@@ -15,6 +19,20 @@ pub struct FlatNumber {
 pub struct FlatWritten {
     pub number: u8,
     pub items: usize,
+}
+
+#[repr(C)]
+pub struct FlatCount {
+    pub number: u8,
+    pub count: u64,
+}
+
+#[repr(C)]
+pub struct FlatHeights {
+    pub number: u8,
+    pub error: f64,
+    pub single: f64,
+    pub repeat: f64,
 }
 
 pub fn flat_number(answer: Number) -> FlatNumber
@@ -32,5 +50,33 @@ pub fn flat_written(answer: Written) -> FlatWritten
     match answer {
         Written::Items(items) => FlatWritten { number: 0, items },
         Written::Refused(number) => FlatWritten { number, items: 0 },
+    }
+}
+
+pub(crate) fn flat_count(answer: Count) -> FlatCount
+    ensures { λ r. ⌜ r ≡ sayCount (countSays answer) ⌝ }
+{
+    match answer {
+        Count::Whole(count) => FlatCount { number: 0, count },
+        Count::Refused(number) => FlatCount { number, count: 0 },
+    }
+}
+
+pub(crate) fn flat_heights(answer: HeightsAnswer) -> FlatHeights
+    ensures { λ r. ⌜ r ≡ sayHeights (heightsSays answer) ⌝ }
+{
+    match answer {
+        HeightsAnswer::At(h) => FlatHeights {
+            number: 0,
+            error: h.error,
+            single: h.single,
+            repeat: h.repeat,
+        },
+        HeightsAnswer::Refused(number) => FlatHeights {
+            number,
+            error: 0.0,
+            single: 0.0,
+            repeat: 0.0,
+        },
     }
 }

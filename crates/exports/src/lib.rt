@@ -1,7 +1,11 @@
 // The C interface of what users call. include/fogatise.h says each function in C.
 pub mod answers;
+pub mod costs;
 pub mod densities;
+pub mod families;
+pub mod fits;
 pub mod four;
 pub mod masses;
+pub mod readers;
 pub mod shelf;
 pub mod tables;

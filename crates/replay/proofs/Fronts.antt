@@ -2,10 +2,9 @@
 use Prim.Native.Nat.{ℕ, _≤_}
 use mathlib.Core.Path.{sym}
 use mathlib.Core.List.{List}
-use lib.Ieee.{Float}
 use lib.ListN.{length}
 use lib.Seq.{length-take-le}
 use Rattle.replay.specs.Counts.{Counts}
 
-pub counts : (n : ℕ) (xs : List Float) → n ≤ length xs → Counts n xs
+pub counts : {A : Type 0} (n : ℕ) (xs : List A) → n ≤ length xs → Counts n xs
 counts n xs h = (h, sym (length-take-le n xs h))

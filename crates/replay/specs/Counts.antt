@@ -2,8 +2,7 @@
 use Prim.Native.Nat.{ℕ, _≤_}
 use mathlib.Core.Path.{_≡_}
 use mathlib.Core.List.{List}
-use lib.Ieee.{Float}
 use lib.ListN.{length, take}
 
-abbrev pub Counts : ℕ → List Float → Type 0
+abbrev pub Counts : {A : Type 0} → ℕ → List A → Type 0
 Counts n xs = (n ≤ length xs) × (n ≡ length (take n xs))

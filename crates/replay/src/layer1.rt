@@ -109,7 +109,7 @@ fn table_holds(call: u64, row: &[u64]) -> bool {
     }
 }
 
-pub fn holds(call: u64, row: &[u64]) -> bool {
+pub(crate) fn holds(call: u64, row: &[u64]) -> bool {
     match call {
         1..=6 | 15 => routine_holds(call, number(row, 1), word(row, 2)),
         7 | 8 | 13 | 14 => pick_holds(call, number(row, 1), number(row, 2), word(row, 3)),

@@ -60,7 +60,7 @@ fn density_holds(row: &[u64]) -> bool {
 }
 
 // Whether an answer is the one whose number and value stand from word i on: beside a refusal the value is 0.
-pub fn answers(answer: Number, row: &[u64], i: usize) -> bool {
+pub(crate) fn answers(answer: Number, row: &[u64], i: usize) -> bool {
     match answer {
         Number::Value(value) => word(row, i) == 0 && same(value, word(row, tables::next(i))),
         Number::Refused(n) => word(row, i) == n as u64 && word(row, tables::next(i)) == 0,
@@ -144,7 +144,7 @@ fn mass_call_holds(call: u64, row: &[u64]) -> bool {
     }
 }
 
-pub fn holds(call: u64, row: &[u64]) -> bool {
+pub(crate) fn holds(call: u64, row: &[u64]) -> bool {
     match call {
         32..=36 => log_sum_holds(call, row),
         37..=41 | 44 | 45 | 47 => density_call_holds(call, row),

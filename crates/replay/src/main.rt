@@ -1,6 +1,9 @@
 // Replays the sample of the oracle's answers on standard input, and says how many rows it read and how many the port answers otherwise.
+mod fits;
 mod layer1;
 mod layer2;
+mod layer3;
+mod problems;
 mod rows;
 mod tables;
 mod words;
@@ -28,7 +31,7 @@ fn read_all(words: &mut [u64]) -> Replay {
 }
 
 fn main() {
-    let mut words = [0u64; 64];
+    let mut words = [0u64; 128];
     let replay = read_all(&mut words);
     io::print_decimal(STDOUT_FILENO, replay.rows);
     io::write_all(STDOUT_FILENO, b" rows, ");

@@ -2,12 +2,13 @@
 // with # is a comment.
 use crate::layer1;
 use crate::layer2;
+use crate::layer3;
 use crate::words::digit;
 use crate::words::word;
 
 // Where the replay stands: the word of the row that is being read, whether the row is a comment or has a byte that no row has, the
 // rows and the differences so far, and whether there may be more to read.
-pub struct Replay {
+pub(crate) struct Replay {
     pub place: usize,
     pub comment: bool,
     pub broken: bool,
@@ -16,7 +17,7 @@ pub struct Replay {
     pub open: bool,
 }
 
-pub fn begin() -> Replay {
+pub(crate) fn begin() -> Replay {
     Replay {
         place: 0,
         comment: false,
@@ -31,10 +32,12 @@ pub fn begin() -> Replay {
 fn holds(row: &[u64]) -> bool {
     let call = word(row, 0);
     if call < 32 {
-        layer1::holds(call, row)
-    } else {
-        layer2::holds(call, row)
+        return layer1::holds(call, row);
     }
+    if call < 64 {
+        return layer2::holds(call, row);
+    }
+    layer3::holds(call, row)
 }
 
 // The same of the words up to the one at `place`.
@@ -119,7 +122,7 @@ fn take(words: &mut [u64], r: Replay, b: u8) -> Replay {
 }
 
 // Each byte in turn. No byte at all is the end.
-pub fn take_all(words: &mut [u64], start: Replay, bytes: &[u8]) -> Replay {
+pub(crate) fn take_all(words: &mut [u64], start: Replay, bytes: &[u8]) -> Replay {
     let mut r = start;
     r.open = bytes.len() > 0;
     let mut i = 0;

@@ -14,11 +14,11 @@ use helpers::shelves::mix_single_copy;
 use helpers::shelves::shelf_log_table;
 
 // The place behind i, or i where there is none.
-pub fn next(i: usize) -> usize {
+pub(crate) fn next(i: usize) -> usize {
     if i < usize::MAX { i + 1 } else { i }
 }
 
-pub fn shelf(row: &[u64], i: usize) -> Shelf {
+pub(crate) fn shelf(row: &[u64], i: usize) -> Shelf {
     Shelf {
         share: number(row, i),
         alpha: number(row, next(i)),
@@ -27,7 +27,7 @@ pub fn shelf(row: &[u64], i: usize) -> Shelf {
 }
 
 // A shelf behind its presence.
-pub fn part(row: &[u64], i: usize) -> ShelfPart {
+pub(crate) fn part(row: &[u64], i: usize) -> ShelfPart {
     if word(row, i) == 0 {
         return ShelfPart::Absent;
     }
@@ -41,7 +41,7 @@ fn least(a: usize, b: usize) -> usize
 }
 
 // The first n words as floats at the front of `table`, or as many as fit; how many.
-fn fill(words: &[u64], n: usize, table: &mut [f64]) -> usize
+pub(crate) fn fill(words: &[u64], n: usize, table: &mut [f64]) -> usize
     ensures { λ r. ⌜ Counts r (now (table .exit)) ⌝ }
 {
     let end = least(n, table.len());
@@ -53,13 +53,31 @@ fn fill(words: &[u64], n: usize, table: &mut [f64]) -> usize
     end
 }
 
+// A word as a bin.
+pub(crate) fn bin(n: u64) -> u32 {
+    (n % 0x1_0000_0000) as u32
+}
+
+// The same of bins.
+pub(crate) fn fill_bins(words: &[u64], n: usize, bins: &mut [u32]) -> usize
+    ensures { λ r. ⌜ Counts r (now (bins .exit)) ⌝ }
+{
+    let end = least(n, bins.len());
+    let mut i = 0;
+    while i < end {
+        bins[i] = bin(word(words, i));
+        i += 1;
+    }
+    end
+}
+
 // The words from number i on.
-fn behind(words: &[u64], i: usize) -> &[u64] {
+pub(crate) fn behind(words: &[u64], i: usize) -> &[u64] {
     if i < words.len() { &words[i..] } else { words }
 }
 
 // Whether each entry has the bits that its word gives.
-fn entries_hold(table: &[f64], words: &[u64]) -> bool {
+pub(crate) fn entries_hold(table: &[f64], words: &[u64]) -> bool {
     let mut i = 0;
     while i < table.len() {
         if !same(table[i], word(words, i)) {
@@ -86,7 +104,7 @@ fn table_after(row: &[u64], rest: &[u64], table: &mut [f64]) -> bool {
         && entries_hold(table, behind(rest, next(next(n))))
 }
 
-pub fn table_holds(row: &[u64]) -> bool {
+pub(crate) fn table_holds(row: &[u64]) -> bool {
     if row.len() < 7 {
         return false;
     }
@@ -96,7 +114,7 @@ pub fn table_holds(row: &[u64]) -> bool {
     table_after(row, rest, &mut buffer[..n])
 }
 
-pub fn mix_holds(row: &[u64]) -> bool {
+pub(crate) fn mix_holds(row: &[u64]) -> bool {
     if row.len() < 8 {
         return false;
     }
@@ -107,7 +125,7 @@ pub fn mix_holds(row: &[u64]) -> bool {
     same(mixed, word(rest, n))
 }
 
-pub fn single_mass_holds(row: &[u64]) -> bool {
+pub(crate) fn single_mass_holds(row: &[u64]) -> bool {
     if row.len() < 9 {
         return false;
     }
@@ -124,7 +142,7 @@ pub fn single_mass_holds(row: &[u64]) -> bool {
     answers(answer, rest, n)
 }
 
-pub fn single_mass_to_holds(row: &[u64]) -> bool {
+pub(crate) fn single_mass_to_holds(row: &[u64]) -> bool {
     let top = word(row, 7);
     if row.len() < 9 || top > 65535 {
         return false;

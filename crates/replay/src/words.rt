@@ -4,7 +4,7 @@ ghost use mathlib.Core.Bool.{true};
 ghost use lib.Ieee.{binary64, ofBits};
 
 // A hexadecimal digit's value, and 16 for any other byte.
-pub fn digit(b: u8) -> u64 {
+pub(crate) fn digit(b: u8) -> u64 {
     if b >= b'0' && b <= b'9' {
         return (b - b'0') as u64;
     }
@@ -15,12 +15,12 @@ pub fn digit(b: u8) -> u64 {
 }
 
 // Word i, and 0 behind the last.
-pub fn word(row: &[u64], i: usize) -> u64 {
+pub(crate) fn word(row: &[u64], i: usize) -> u64 {
     if i < row.len() { row[i] } else { 0 }
 }
 
 // The float with these bits: a NaN for each pattern of one.
-pub fn float(bits: u64) -> f64
+pub(crate) fn float(bits: u64) -> f64
     ensures { λ r. ⌜ r ≡ ofBits binary64 bits ⌝ }
 {
     if bits % 0x8000_0000_0000_0000 > 0x7ff0_0000_0000_0000 {
@@ -30,12 +30,12 @@ pub fn float(bits: u64) -> f64
 }
 
 // Word i as a float.
-pub fn number(row: &[u64], i: usize) -> f64 {
+pub(crate) fn number(row: &[u64], i: usize) -> f64 {
     float(word(row, i))
 }
 
 // Whether x has these bits, or is a NaN and they are one's.
-pub fn same(x: f64, bits: u64) -> bool
+pub(crate) fn same(x: f64, bits: u64) -> bool
     ensures { λ r. ⌜ (r ≡ true → x ≡ ofBits binary64 bits) ⌝ }
 {
     let y = float(bits);

@@ -4,7 +4,7 @@ use crate::draw::Draw;
 use crate::linked::math_helpers as linked;
 use crate::linked::Routines;
 use crate::unaltered::math_helpers as unaltered;
-use crate::words::{bits, float, push_slice, shelf, slice};
+use crate::words::{bits, float, lent, push_slice, shelf, slice};
 use crate::{port, rules};
 
 const TABLE: &[(&str, Kind)] = &[("mean", Float), ("share", Float), ("alpha", Float), ("beta", Float), ("top", Other), ("table", Other)];
@@ -139,15 +139,9 @@ fn strata_of_tables() -> Vec<Own> {
     ]
 }
 
-/// The port writes into the middle of a larger buffer, whose ends must stay.
 fn port_table(w: &[u64]) -> Vec<u64> {
-    const GUARD: u64 = 0xfeed_face_cafe_beef;
-    let room = w[5] as usize;
-    let mut buffer = vec![f64::from_bits(GUARD); room + 2];
-    buffer[1..=room].copy_from_slice(&slice(w, 5));
-    let answer = port::shelf_log_table(float(w, 0), shelf(w, 1), w[4] as usize, &mut buffer[1..=room]);
-    assert!([buffer[0], buffer[room + 1]].iter().all(|x| x.to_bits() == GUARD), "written outside the slice: {w:x?}");
-    after(answer.number.into(), answer.items as u64, &buffer[1..=room])
+    let (answer, table) = lent(&slice(w, 5), |table| port::shelf_log_table(float(w, 0), shelf(w, 1), w[4] as usize, table));
+    after(answer.number.into(), answer.items as u64, &table)
 }
 
 fn linked_table(w: &[u64]) -> Vec<u64> {

@@ -1,0 +1,82 @@
+// The cost of a parameter list, and a converged list as a fit.
+ghost use mathlib.Core.Path.{_≡_};
+ghost use lib.ListN.{length};
+ghost use Rattle.models.specs.Costs.{costOf, costTable};
+ghost use Rattle.models.specs.Unpacking.{unpackOf, unpackTable, fitAnswerOf};
+ghost use Rattle.exports.specs.Flat.{sayNumber};
+ghost use Rattle.exports.specs.FlatFits.{errorOf, genomeOf, ofFitAnswer};
+use crate::answers::FlatNumber;
+use crate::answers::flat_number;
+use crate::families::error_of;
+use crate::families::genome_of;
+use crate::fits::FlatFit;
+use crate::fits::flat_fit;
+use models::costs::cost;
+use models::unpacking::FitAnswer;
+use models::unpacking::unpack;
+
+#[repr(C)]
+pub struct FlatFitAnswer {
+    pub number: u8,
+    pub fit: FlatFit,
+}
+
+fn flat_fit_answer(answer: FitAnswer) -> FlatFitAnswer
+    ensures { λ r. ⌜ r ≡ ofFitAnswer answer ⌝ }
+{
+    FlatFitAnswer {
+        number: answer.number,
+        fit: flat_fit(answer.fit),
+    }
+}
+
+#[no_mangle]
+pub extern "C" fn fog_cost(
+    bins: &[u32],
+    scale: f64,
+    window_end: usize,
+    peak: usize,
+    error: u8,
+    genome: u8,
+    theta: &[f64],
+    table: &mut [f64],
+) -> FlatNumber
+    ensures { λ r. ⌜ r ≡ sayNumber (costOf (now (bins .entry)) scale «window_end» peak (errorOf error) (genomeOf genome) (now (theta .entry)) (length (now (table .entry)))) ⌝ }
+    ensures { λ _. ⌜ now (table .exit) ≡ costTable (now (bins .entry)) scale «window_end» peak (errorOf error) (genomeOf genome) (now (theta .entry)) (now (table .entry)) ⌝ }
+{
+    let tail = error_of(error);
+    let lobes = genome_of(genome);
+    flat_number(cost(bins, scale, window_end, peak, tail, lobes, theta, table))
+}
+
+#[no_mangle]
+pub extern "C" fn fog_unpack(
+    bins: &[u32],
+    scale: f64,
+    window_end: usize,
+    peak: usize,
+    error: u8,
+    genome: u8,
+    theta: &[f64],
+    cost: f64,
+    iterations: u64,
+    table: &mut [f64],
+) -> FlatFitAnswer
+    ensures { λ r. ⌜ r ≡ ofFitAnswer (fitAnswerOf (unpackOf (now (bins .entry)) scale «window_end» peak (errorOf error) (genomeOf genome) (now (theta .entry)) cost iterations (length (now (table .entry))))) ⌝ }
+    ensures { λ _. ⌜ now (table .exit) ≡ unpackTable (now (bins .entry)) scale «window_end» peak (errorOf error) (genomeOf genome) (now (theta .entry)) cost iterations (now (table .entry)) ⌝ }
+{
+    let tail = error_of(error);
+    let lobes = genome_of(genome);
+    flat_fit_answer(unpack(
+        bins,
+        scale,
+        window_end,
+        peak,
+        tail,
+        lobes,
+        theta,
+        cost,
+        iterations,
+        table,
+    ))
+}

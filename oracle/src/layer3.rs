@@ -1,0 +1,40 @@
+//! Layer 3 against models.rs, with the port's four routines in it.
+
+mod cost_strata;
+mod costs;
+mod errors;
+mod fits;
+mod params;
+mod problem;
+mod recovery;
+mod rust;
+mod shelf_rules;
+pub mod usability;
+
+pub use problem::Problem;
+
+use crate::call::{Answer, Call, Kind};
+use crate::draw::Draw;
+
+pub fn calls() -> Vec<Call> {
+    [costs::calls(), fits::calls(), params::calls(), errors::calls(), shelf_rules::calls(), recovery::calls()]
+        .into_iter()
+        .flatten()
+        .collect()
+}
+
+fn call(
+    number: u64,
+    name: &'static str,
+    arguments: &'static [(&'static str, Kind)],
+    answer: Answer,
+    ordinary: fn(&mut Draw) -> Vec<u64>,
+    ours: fn(&[u64]) -> Vec<u64>,
+    theirs: fn(&[u64]) -> Vec<u64>,
+) -> Call {
+    Call { number, name, arguments, answer, ordinary, own: vec![], ours, theirs, unaltered: None, open: |_| false }
+}
+
+fn words(floats: &[f64]) -> Vec<u64> {
+    floats.iter().map(|x| x.to_bits()).collect()
+}
