@@ -26,7 +26,7 @@ pub enum FileRead {
     Refused(u8),
 }
 
-// The bin at a place. Most are a single group.
+// The bin at a place. Most are of one, two or three groups.
 fn bin_at(file: &[u8], at: usize) -> Number
     ensures { λ r. ⌜ numberSays r ≡ numberAtOf (between 0 (2 ^ 32 - 1)) (now (file .entry)) at ⌝ }
 {
@@ -34,6 +34,23 @@ fn bin_at(file: &[u8], at: usize) -> Number
         let byte = file[at];
         if byte < 128 {
             return Number::Is(byte as u64, at + 1);
+        }
+        if file.len() - at > 2 {
+            let second = file[at + 1];
+            let third = file[at + 2];
+            let low = (byte % 128) as u64;
+            if second < 128 {
+                if second > 0 {
+                    return Number::Is(low + second as u64 * 128, at + 2);
+                }
+            } else if third < 128 {
+                if third > 0 {
+                    return Number::Is(
+                        low + (second % 128) as u64 * 128 + third as u64 * 16384,
+                        at + 3,
+                    );
+                }
+            }
         }
     }
     number_at(file, at, 0, MAX_BIN)
