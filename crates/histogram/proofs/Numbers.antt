@@ -1,6 +1,6 @@
 -- A number of a file, a byte at a time: what a turn of the reading loop does. Assumes nothing.
-use Prim.Native.Nat.{ℕ, suc, _+_, _*_, _%_, _≤_, _<_}
-use mathlib.Core.Path.{_≡_, sym, ap, _∙_}
+use Prim.Native.Nat.{ℕ, suc, _+_, _^_, _≤_, _<_}
+use mathlib.Core.Path.{_≡_, sym, ap, _∙_, subst}
 use mathlib.Core.List.{List}
 use native.Mathlib.Omega.{arith}
 use lib.ListN.{length, getD, drop, drop-of-length-le}
@@ -30,36 +30,27 @@ one-byte most file at h l m =
     let t : takeByteOf (between 0 most) 0 0 b ≡ Whole (withGroup 0 0 b) = ends (between 0 most) 0 0 b l (λ (_ : b ≡ 0) (z : 0 < 0). omega arith) (omega arith) (omega arith) in
     byte-more (between 0 most) file at 0 0 at (Whole b) h (ap Whole e ∙ sym t)
 
--- numbers of two and of three groups
-module _ (most : ℕ) (file : List ℕ) (at first second : ℕ) (e : first ≡ getD file at 0) (f : second ≡ getD file (suc at) 0) (h : suc at < length file) (l : 128 ≤ first) (m : 2097152 ≤ most) where
+-- a number of several groups, one after the other
+module _ (most : ℕ) (file : List ℕ) (at : ℕ) where
   abbrev range : Range
   range = between 0 most
 
-  abbrev low : ℕ
-  low = first % 128
+  -- behind k groups that add up to v
+  abbrev pub Behind : ℕ → ℕ → Type 0
+  Behind k v = numberAtOf range file at ≡ numberFrom range at v k (drop (at + k) file)
 
-  behind-first : numberAtOf range file at ≡ numberFrom range at low 1 (drop (suc at) file)
+  pub behind-none : Behind 0 0
   unfolding numberAtOf
-  behind-first =
-      let b = getD file at 0 in
-      let v : low ≡ withGroup 0 0 b = omega arith in
-      let g : takeByteOf range 0 0 b ≡ More (withGroup 0 0 b) = goes-on range 0 0 b (omega arith) (omega arith) in
-      byte-more range file at 0 0 at (More low) (omega arith) (ap More v ∙ sym g)
+  behind-none = let e : at ≡ at + 0 = omega arith in ap (λ (j : ℕ). numberFrom range at 0 0 (drop j file)) e
 
-  pub two-bytes : 0 < second → second < 128 → numberAtOf range file at ≡ give (record { value = low + second * 128; next = at + 2 })
-  two-bytes z k =
-      let b = getD file (suc at) 0 in
-      let v : low + second * 128 ≡ withGroup low 1 b = omega arith in
-      let g : takeByteOf range low 1 b ≡ Whole (withGroup low 1 b) = ends range low 1 b (omega arith) (λ (y : b ≡ 0) (_ : 0 < 1). omega arith) (omega arith) (omega arith) in
-      behind-first ∙ byte-more range file at low 1 (suc at) (Whole (low + second * 128)) h (ap Whole v ∙ sym g)
+  module _ (k v byte : ℕ) (r : Behind k v) (h : at + k < length file) (e : byte ≡ getD file (at + k) 0) where
+    pub one-more : (w : ℕ) → w ≡ withGroup v k byte → 128 ≤ byte → w + 128 ^ suc k ≤ most → Behind (suc k) w
+    one-more w s l m =
+        let p : suc (at + k) ≡ at + suc k = omega arith in
+        let g : takeByteOf range v k byte ≡ More w = goes-on range v k byte l (subst (λ (n : ℕ). n + 128 ^ suc k ≤ most) s m) ∙ ap More (sym s) in
+        r ∙ byte-more range file at v k (at + k) (More w) h (sym g ∙ ap (takeByteOf range v k) e) ∙ ap (λ (j : ℕ). numberFrom range at w (suc k) (drop j file)) p
 
-  pub three-bytes : (third : ℕ) → third ≡ getD file (suc (suc at)) 0 → suc (suc at) < length file → 128 ≤ second → 0 < third → third < 128
-      → numberAtOf range file at ≡ give (record { value = low + second % 128 * 128 + third * 16384; next = at + 3 })
-  three-bytes third d j o z k =
-      let b = getD file (suc at) 0 in
-      let t = getD file (suc (suc at)) 0 in
-      let v : low + second % 128 * 128 ≡ withGroup low 1 b = omega arith in
-      let g : takeByteOf range low 1 b ≡ More (withGroup low 1 b) = goes-on range low 1 b (omega arith) (omega arith) in
-      let w : low + second % 128 * 128 + third * 16384 ≡ withGroup (low + second % 128 * 128) 2 t = omega arith in
-      let i : takeByteOf range (low + second % 128 * 128) 2 t ≡ Whole (withGroup (low + second % 128 * 128) 2 t) = ends range (low + second % 128 * 128) 2 t (omega arith) (λ (y : t ≡ 0) (_ : 0 < 2). omega arith) (omega arith) (omega arith) in
-      behind-first ∙ byte-more range file at low 1 (suc at) (More (low + second % 128 * 128)) h (ap More v ∙ sym g) ∙ byte-more range file at (low + second % 128 * 128) 2 (suc (suc at)) (Whole (low + second % 128 * 128 + third * 16384)) j (ap Whole w ∙ sym i)
+    pub the-last : (n : ℕ) → n ≡ withGroup v k byte → 0 < byte → byte < 128 → n ≤ most → numberAtOf range file at ≡ give (record { value = n; next = at + suc k })
+    the-last n s z l m =
+        let g : takeByteOf range v k byte ≡ Whole n = ends range v k byte l (λ (y : byte ≡ 0) (_ : 0 < k). omega arith) (omega arith) (subst (λ (n : ℕ). n ≤ most) s m) ∙ ap Whole (sym s) in
+        r ∙ byte-more range file at v k (at + k) (Whole n) h (sym g ∙ ap (takeByteOf range v k) e)
