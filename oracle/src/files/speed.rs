@@ -79,8 +79,8 @@ fn median(values: &mut [f64]) -> f64 {
     values[values.len() / 2]
 }
 
-/// A row; whether ours is no slower.
-fn race(call: &str, kind: &str, samples: &[Sample], ours: &mut dyn FnMut(&Sample), theirs: &mut dyn FnMut(&Sample)) -> bool {
+/// A row, and the ratio.
+fn race(call: &str, kind: &str, samples: &[Sample], ours: &mut dyn FnMut(&Sample), theirs: &mut dyn FnMut(&Sample)) -> f64 {
     turn(samples, 1, ours);
     let passes = 1 + (TURN / (turn(samples, 1, theirs) * FILES as f64)) as usize;
     let (mut our_times, mut their_times, mut ratios) = (vec![], vec![], vec![]);
@@ -97,9 +97,14 @@ fn race(call: &str, kind: &str, samples: &[Sample], ours: &mut dyn FnMut(&Sample
     let bytes = samples.iter().map(|sample| sample.file.len()).sum::<usize>() as f64 / FILES as f64;
     let (our_time, their_time, ratio) = (median(&mut our_times), median(&mut their_times), median(&mut ratios));
     let speed = |time: f64| format!("{time:.0} | {:.0}", bytes * 1e3 / time);
-    let met = if ratio <= 1.0 { "met" } else { "**missed**" };
     let spread = format!("{ratio:.3} ({:.3}–{:.3})", ratios[0], ratios[RUNS - 1]);
-    println!("| {call} | {kind} | {bytes:.0} | {} | {} | {spread} | {met} |", speed(our_time), speed(their_time));
+    print!("| {call} | {kind} | {bytes:.0} | {} | {} | {spread} | ", speed(our_time), speed(their_time));
+    ratio
+}
+
+/// The end of a row that has a bar; whether it is met.
+fn barred(ratio: f64) -> bool {
+    println!("1.0 {} |", if ratio <= 1.0 { "met" } else { "**missed**" });
     ratio <= 1.0
 }
 
@@ -110,7 +115,7 @@ pub fn measure() -> bool {
         ("a spectrum of about 150 bins", spectrum),
     ];
     println!("Nanoseconds a file and megabytes a second, on {FILES} files of each kind; medians of {RUNS} runs, the port and the Rust");
-    println!("by turns, and of their ratios (lowest–highest). The bar is a ratio of 1.0.\n");
+    println!("by turns, and of their ratios (lowest–highest).\n");
     println!("| call | files | bytes | ours, ns | MB/s | Rust, ns | MB/s | ratio | bar |\n|---|---|---|---|---|---|---|---|---|");
     let (mut bins, mut out) = (vec![0u32; 2047], vec![0u8; LONGEST]);
     let (mut their_bins, mut their_out) = (Vec::with_capacity(2047), Vec::with_capacity(LONGEST));
@@ -119,12 +124,13 @@ pub fn measure() -> bool {
         let samples = samples(kind, draw);
         let mut read = |s: &Sample| _ = black_box(port::read(&s.file, &mut bins));
         let mut their_read = |s: &Sample| black_box(file::read(&s.file, &mut their_bins)).expect("the file is valid");
-        met &= race("read", kind, &samples, &mut read, &mut their_read);
+        met &= barred(race("read", kind, &samples, &mut read, &mut their_read));
         let mut their_write = |s: &Sample| black_box(file::write(&s.bins, &mut their_out)).expect("a file holds so many bins");
         let mut write = |s: &Sample| _ = black_box(port::write(&s.bins, &mut out));
-        met &= race("write", kind, &samples, &mut write, &mut their_write);
+        met &= barred(race("write", kind, &samples, &mut write, &mut their_write));
         let mut write_exactly = |s: &Sample| _ = black_box(port::write(&s.bins, &mut out[..s.file.len()]));
-        met &= race("write, bytes exact", kind, &samples, &mut write_exactly, &mut their_write);
+        race("write, bytes exact", kind, &samples, &mut write_exactly, &mut their_write);
+        println!("none |");
     }
     println!();
     met
