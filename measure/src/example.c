@@ -41,6 +41,21 @@ static void fit(void) {
     printf("%-46s %.17g, %.17g and %.17g\n", "heights at 20", heights.error, heights.single, heights.repeat);
 }
 
+/* A histogram as a file, the bins of the file again, and a file that breaks off. */
+static void file(void) {
+    const uint32_t bins[3] = {300, 0, 5};
+    uint32_t again[3];
+    uint8_t bytes[16];
+
+    const fog_written written = fog_write_histogram(bins, 3, bytes, 16);
+    printf("%-46s %u, %zu bytes:", "write_histogram(300, 0, 5)", written.number, written.items);
+    for (size_t i = 0; i < written.items; i++) printf(" %02x", bytes[i]);
+    const fog_file read = fog_read_histogram(bytes, written.items, again, 3);
+    printf("\n%-46s %u, %zu bins: %u, %u and %u\n", "read_histogram", read.number, read.items, again[0], again[1], again[2]);
+    const fog_file broken = fog_read_histogram(bytes, written.items - 1, again, 3);
+    printf("%-46s refused, number %u at %zu\n", "read_histogram, a byte short", broken.number, broken.place);
+}
+
 int main(void) {
     double table[64];
     const fog_shelf shelf = {0.1, 2.0, 3.0};
@@ -69,5 +84,6 @@ int main(void) {
     written = fog_shelf_log_table(25.0, shelf, 60, table, 25);
     printf("%-46s refused, number %u\n", "shelf_log_table(25, to 60), room 25", written.number);
     fit();
+    file();
     return 0;
 }

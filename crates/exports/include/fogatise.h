@@ -120,6 +120,13 @@ typedef struct {
     fog_fit fit;
 } fog_fit_answer;
 
+/* Number 0 and how many bins were read; number 3 and the place of the file's first fault, in bytes from 0; or number 10. */
+typedef struct {
+    uint8_t number;
+    size_t items;
+    size_t place;
+} fog_file;
+
 /* ---- the four routines, step by step as docs/ROUTINES.md has them; special values follow ISO C Annex F */
 
 /* e^x, never negative. */
@@ -227,6 +234,20 @@ double fog_mode_roundtrip_error(fog_fit fit);
 
 /* The components' totals over the spectrum's distinct k-mers. */
 double fog_component_total_ratio(fog_fit fit);
+
+/* ---- the histogram file */
+
+/*
+ * Reads a file of `length` bytes into the first of the lent bins: 3 with its place for a file that is not one, then 10 for fewer than the
+ * file's bins. Nothing is written on either, and the bins past the last stay as they were. 2,047 bins hold any file.
+ */
+fog_file fog_read_histogram(const uint8_t *file, size_t length, uint32_t *bins, size_t bins_length);
+
+/*
+ * Writes the file of some bins into the first of the lent bytes: 1 for fewer than 2 bins, 2 for more than 2,047, 10 where the bytes are too
+ * few. The bytes past the file stay as they were. 10,238 bytes hold any file.
+ */
+fog_written fog_write_histogram(const uint32_t *bins, size_t bins_length, uint8_t *file, size_t length);
 
 #ifdef __cplusplus
 }

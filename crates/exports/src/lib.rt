@@ -3,6 +3,7 @@ pub mod answers;
 pub mod costs;
 pub mod densities;
 pub mod families;
+pub mod files;
 pub mod fits;
 pub mod four;
 pub mod masses;

@@ -1,8 +1,8 @@
 // Reading the histogram file into lent bins: all of it is read and checked before the first bin is written.
 ghost use mathlib.Core.Path.{_≡_};
 ghost use mathlib.Core.List.{List, []};
-ghost use Prim.Native.Nat.{ℕ, _-_, _^_, _≤_};
-ghost use lib.ListN.{length, take};
+ghost use Prim.Native.Nat.{ℕ, _+_, _-_, _^_, _≤_, _<_};
+ghost use lib.ListN.{length, take, getD};
 ghost use Rattle.histogram.specs.Number.{between, numberAtOf, numberSays};
 ghost use Rattle.histogram.specs.File.{mostBins, bins as Bins, readFrom};
 ghost use Rattle.meaning.specs.Over.{over};
@@ -27,7 +27,46 @@ pub enum FileRead {
     Refused(u8),
 }
 
-// The bin at a place. Most are a single group.
+// A bin of more than one group, with five bytes from its place on. One at fault is left to `number_at`.
+fn long_bin_at(file: &[u8], at: usize) -> Number
+    requires { ⌜ (at + 4 < length (now file)) × (128 ≤ getD (now file) at 0) ⌝ }
+    ensures { λ r. ⌜ numberSays r ≡ numberAtOf (between 0 (2 ^ 32 - 1)) (now (file .entry)) at ⌝ }
+{
+    let one = (file[at] % 128) as u64;
+    let second = file[at + 1];
+    if second < 128 {
+        if second > 0 {
+            return Number::Is(one + second as u64 * 128, at + 2);
+        }
+    } else {
+        let two = one + (second % 128) as u64 * 128;
+        let third = file[at + 2];
+        if third < 128 {
+            if third > 0 {
+                return Number::Is(two + third as u64 * 16384, at + 3);
+            }
+        } else {
+            let three = two + (third % 128) as u64 * 16384;
+            let fourth = file[at + 3];
+            if fourth < 128 {
+                if fourth > 0 {
+                    return Number::Is(three + fourth as u64 * 2097152, at + 4);
+                }
+            } else {
+                let four = three + (fourth % 128) as u64 * 2097152;
+                let fifth = file[at + 4];
+                if fifth < 16 {
+                    if fifth > 0 {
+                        return Number::Is(four + fifth as u64 * 268435456, at + 5);
+                    }
+                }
+            }
+        }
+    }
+    number_at(file, at, 0, MAX_BIN)
+}
+
+// The bin at a place. Most are of one group.
 fn bin_at(file: &[u8], at: usize) -> Number
     ensures { λ r. ⌜ numberSays r ≡ numberAtOf (between 0 (2 ^ 32 - 1)) (now (file .entry)) at ⌝ }
 {
@@ -35,6 +74,9 @@ fn bin_at(file: &[u8], at: usize) -> Number
         let byte = file[at];
         if byte < 128 {
             return Number::Is(byte as u64, at + 1);
+        }
+        if file.len() - at > 4 {
+            return long_bin_at(file, at);
         }
     }
     number_at(file, at, 0, MAX_BIN)

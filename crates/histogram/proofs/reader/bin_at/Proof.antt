@@ -24,11 +24,20 @@ returns c =
     let h : getD (a .file .now) (a .at) 0 ≤ 4294967295 = omega arith in
     sym (one-byte 4294967295 (a .file .now) (a .at) (o .if1 .taken) (c .if2 .taken) h)
 
-number-at-requires : tie.Need-number-at-requires
-number-at-requires c κs = search needs
+sub-if3 : tie.Need-sub-if3
+sub-if3 c = search needs
+
+long-bin-at-requires : tie.Need-long-bin-at-requires
+long-bin-at-requires c κs = search needs
 
 returns-2 : tie.Need-returns-2
 returns-2 c = search needs
 
+number-at-requires : tie.Need-number-at-requires
+number-at-requires c κs = search needs
+
+returns-3 : tie.Need-returns-3
+returns-3 c = search needs
+
 pub bin-at-spec : {M : Type 1} → statement M
-bin-at-spec = tie.close (tie.spec shared-slice-read-byte cast-t9 add-t10 returns number-at-requires returns-2)
+bin-at-spec = tie.close (tie.spec shared-slice-read-byte cast-t9 add-t10 returns sub-if3 long-bin-at-requires returns-2 number-at-requires returns-3)

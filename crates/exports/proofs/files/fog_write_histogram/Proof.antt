@@ -1,0 +1,22 @@
+-- `exports::files::fog_write_histogram` meets its contract. Assumes nothing.
+use borrow.Author.Needs.{needs}
+use Rattle.exports.proofs.files.fog_write_histogram.Statement.{statement}
+use Rattle.exports.proofs.files.fog_write_histogram.Tie as tie
+
+write-histogram-requires : tie.Need-write-histogram-requires
+write-histogram-requires c κs = search needs
+
+flat-bytes-requires : tie.Need-flat-bytes-requires
+flat-bytes-requires c κs = search needs
+
+same-length : tie.Need-same-length
+same-length c = search needs
+
+returns : tie.Need-returns
+returns c =
+    let call = c .before .before .before in
+    (rw (c .flat-bytes .ensures, call .write-histogram .ensures .0), call .write-histogram .ensures .1)
+
+pub fog-write-histogram-spec : {M : Type 1} → statement M
+fog-write-histogram-spec =
+    tie.close (tie.spec write-histogram-requires flat-bytes-requires same-length returns)
