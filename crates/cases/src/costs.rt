@@ -42,7 +42,7 @@ fn shelf(name: &[u8], theta: &[f64], table: &mut [f64]) {
     answer(name, number);
 }
 
-pub fn all() {
+pub(crate) fn all() {
     of(b"cost, bins 3", &[3u32], 1.0, 1, 2);
     of(b"cost, bins 3,3", &[3u32, 3], 1.0, 2, 2);
     of(b"cost, peak 1", &[3u32, 3], 1.0, 2, 1);

@@ -130,7 +130,7 @@ fn reading() {
     read(&mut two);
 }
 
-pub fn all() {
+pub(crate) fn all() {
     heads();
     bins();
     most(0, 2050);

@@ -53,23 +53,23 @@ fn name(text: &[u8]) {
     space();
 }
 
-pub fn number(text: &[u8], n: u64) {
+pub(crate) fn number(text: &[u8], n: u64) {
     name(text);
     io::print_decimal(STDOUT_FILENO, n);
     end();
 }
 
-pub fn answered(text: &[u8]) {
+pub(crate) fn answered(text: &[u8]) {
     name(text);
     io::write_all(STDOUT_FILENO, b"answered");
     end();
 }
 
-pub fn refused(n: u8) {
+pub(crate) fn refused(n: u8) {
     number(b"refused", n as u64);
 }
 
-pub fn number_refused(text: &[u8], n: u8) {
+pub(crate) fn number_refused(text: &[u8], n: u8) {
     name(text);
     refused(n);
 }
@@ -79,7 +79,7 @@ fn byte(b: u8) {
     io::print_hex(STDOUT_FILENO, b as u64, 2);
 }
 
-pub fn bytes(text: &[u8], bytes: &[u8]) {
+pub(crate) fn bytes(text: &[u8], bytes: &[u8]) {
     io::write_all(STDOUT_FILENO, text);
     let mut k = 0;
     while k < bytes.len() {
@@ -90,7 +90,7 @@ pub fn bytes(text: &[u8], bytes: &[u8]) {
 }
 
 // The first n bytes of a text; of a long one, how many there are.
-pub fn text(text: &[u8], n: usize) {
+pub(crate) fn text(text: &[u8], n: usize) {
     if n >= 64 {
         number(b"listed in bytes", n as u64);
         return;
@@ -100,7 +100,7 @@ pub fn text(text: &[u8], n: usize) {
     }
 }
 
-pub fn written(text: &[u8], n: u64, answer: Written) {
+pub(crate) fn written(text: &[u8], n: u64, answer: Written) {
     name(text);
     io::print_decimal(STDOUT_FILENO, n);
     space();
@@ -110,7 +110,7 @@ pub fn written(text: &[u8], n: u64, answer: Written) {
     }
 }
 
-pub fn read(text: &[u8], n: u64, answer: FileRead) {
+pub(crate) fn read(text: &[u8], n: u64, answer: FileRead) {
     name(text);
     io::print_decimal(STDOUT_FILENO, n);
     space();
