@@ -1,21 +1,18 @@
 -- Laws of the shelf table: its length, one more entry, and that its last entry lies in the window. Assumes nothing.
 use mathlib.Core.Path.{_≡_, refl, sym, ap, _∙_, subst}
-use mathlib.Core.Bool.{Bool, true, false, cond, true≢false, false≢true}
+use mathlib.Core.Bool.{Bool, true, false, cond, true≢false}
 use mathlib.Core.List.{List, [], _∷_, _++_}
 use Prim.Native.Nat.{ℕ, zero, suc, _+_, _-_, _*_, _/_, _^_, _≤_, _<_, min, zero-le}
 use native.Mathlib.Nat.{le-trans, le-of-eq, mul-one, mul-right-comm, le-of-mul-le-mul-right, div-lt-iff-lt-mul}
 use native.Mathlib.Numerals.{add-one}
 use native.Mathlib.Omega.{arith}
 use borrow.Author.Tests.{ltb-false, le-ltb}
-use lib.Dec.{ltb}
-use lib.IntN.{ℤ, pos}
 use lib.ListN.{length, set, length-append}
-use lib.Ieee.{Float, nan, inf, fin, binary64, up, down, lt, ofInt, round, toUnsigned}
+use lib.Ieee.{Float, nan, inf, fin, binary64, up, down, lt, ofInt, toUnsigned}
 use lib.Ieee.Back.{round-whole}
 use lib.Ieee.Exact.{HasValue}
 use lib.Ieee.Fits.{down-pos}
 use Rattle.meaning.specs.Over.{over}
-use Rattle.meaning.specs.Fold.{fold}
 use Rattle.meaning.specs.Reply.{refuse, give}
 use Rattle.meaning.proofs.Folds.{fold-more, fold-none}
 use Rattle.meaning.proofs.Overs.{over-next, over-length, over-none}

@@ -1,16 +1,16 @@
 -- The corners of layer 3 that document 01 keeps: a height at count 0, and a mode of 2^64 or more. Assumes nothing.
-use mathlib.Core.Path.{_≡_, refl, sym, ap, _∙_}
+use mathlib.Core.Path.{_≡_, refl}
 use mathlib.Core.Bool.{Bool, true, false, _||_, cond}
 use lib.Ieee.{Float, nan, inf, fin, add, sub, neg, mul, lt, le, eq, ne, ofBits, ofInt}
 use lib.Ieee.Scale.{finite}
-use Rattle.routines.specs.Exp.{expOf, one}
+use Rattle.routines.specs.Exp.{one}
 use Rattle.routines.specs.Ln.{lnOf}
 use Rattle.routines.specs.Ops.{_⊕_, _⊖_, _⊗_, ofCount}
 use Rattle.routines.proofs.AnnexF.{exp-nan, ln-below-zero}
 use Rattle.helpers.specs.Lobes.{two64}
 use Rattle.helpers.specs.LogSums.{lnSubExpOf}
 use Rattle.helpers.proofs.Corners.{mode-full}
-use Rattle.models.specs.Errors.{factorOf, survivalOf, logProbabilityOf}
+use Rattle.models.specs.Errors.{survivalOf, logProbabilityOf}
 use Rattle.models.specs.Fits.{primaryModeOf, repeatModeOf}
 use Rattle.models.specs.Heights.{heightsAt}
 use Rattle.models.specs.declared.errors.ErrorParams.{ErrorParams}

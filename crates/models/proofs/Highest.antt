@@ -7,11 +7,10 @@ use mathlib.Core.List.{[], _∷_}
 use mathlib.Core.Logic.{_⊎_, inl, inr}
 use native.Mathlib.Nat.{le-trans, le-refl, le-suc, le-of-suc-le-suc, eq-or-lt-of-le, lt-of-lt-of-le, le-of-lt, le-of-eq}
 use native.Mathlib.Omega.{arith}
-use borrow.Author.Tests.{lt-ltb, le-ltb, eq-eqb, ne-eqb, ltb-true, ltb-false, eqb-false}
+use borrow.Author.Tests.{le-ltb, eq-eqb, ne-eqb, ltb-true, ltb-false, eqb-false}
 use lib.Dec.{T, ltb, eqb}
 use lib.Ieee.{Float, nan, inf, fin, binary64, up, down, ofBits, div, lt, eq, ne, isNan, fits}
 use lib.Ieee.Fits.{add-fits, cond-fits}
-use Rattle.meaning.specs.Fold.{fold}
 use Rattle.meaning.specs.Reply.{Reply, refuse, give, chain, test}
 use Rattle.meaning.proofs.Folds.{fold-first, fold-keeps}
 use Rattle.meaning.proofs.Replies.{answer-not-refused, same-number, gave-none, gave-answer}

@@ -3,14 +3,19 @@ use Prim.Native.Nat.{ℕ}
 use mathlib.Core.Path.{_≡_, refl, sym, ap, _∙_}
 use mathlib.Core.Bool.{Bool, true, false, _&&_, cond, true≢false}
 use mathlib.Core.List.{List}
-use mathlib.Core.Logic.{_⊎_, inl, inr}
+use mathlib.Core.Logic.{_↔_}
 use lib.ListN.{length}
-use lib.Ieee.{Float, nan, inf, fin, neg, le, isNan}
+use lib.Ieee.{Float, nan, inf, fin, neg, isNan}
 use lib.Ieee.Scale.{finite}
-use Rattle.routines.specs.Exp.{zero}
+use Rattle.meaning.specs.Reply.{give}
+use Rattle.meaning.proofs.Replies.{gave-answer}
+use Rattle.routines.specs.Ops.{ofCount}
 use Rattle.models.specs.Costs.{modeHeld, started, likelihoodUsable, evaluatedOf, costAt, costOf}
 use Rattle.models.specs.Likelihoods.{likelihoodOf}
 use Rattle.models.specs.Masses.{entriesOf, windowMassesOf, massesUsable}
+use Rattle.models.specs.Params.{paramsOf}
+use Rattle.models.specs.Recovery.{usedScaleOf}
+use Rattle.models.specs.Refusals.{fitTests}
 use Rattle.models.specs.Usable.{paramsUsable}
 use Rattle.models.specs.declared.families.ErrorModel.{ErrorModel}
 use Rattle.models.specs.declared.families.GenomeModel.{GenomeModel}
@@ -94,6 +99,21 @@ module _ (bins : List ℕ) (scale : Float) (end : ℕ) (p : Params) where
   turned-away-infinite (round-trip h) = cost-is ∙ ap (λ (b : Bool). costed (paramsUsable p) b (massesUsable (massesAt end p)) (likelihoodUsable (totalAt bins scale end p))) h ∙ second-false (paramsUsable p) (massesUsable (massesAt end p)) (likelihoodUsable (totalAt bins scale end p))
   turned-away-infinite (window-mass h) = cost-is ∙ ap (λ (c : Bool). costed (paramsUsable p) (modeHeld p) c (likelihoodUsable (totalAt bins scale end p))) h ∙ third-false (paramsUsable p) (modeHeld p) (likelihoodUsable (totalAt bins scale end p))
   turned-away-infinite (log-likelihood h) = cost-is ∙ ap (costed (paramsUsable p) (modeHeld p) (massesUsable (massesAt end p))) h ∙ last-false (paramsUsable p) (modeHeld p) (massesUsable (massesAt end p))
+
+-- ---- the same of the call: where it gives a cost
+module _ (bins : List ℕ) (scale : Float) (end peak : ℕ) (error : ErrorModel) (genome : GenomeModel) (list : List Float) (room : ℕ) (v : Float) (gave : costOf bins scale end peak error genome list room ≡ give v) where
+  abbrev p : Params
+  p = paramsOf error genome (ofCount peak) list
+
+  given : costAt bins (usedScaleOf scale) end p ≡ v
+  unfolding costOf
+  given = gave-answer (costAt bins (usedScaleOf scale) end p) v (fitTests bins (usedScaleOf scale) end peak error genome (length list) room) gave
+
+  pub cost-infinite-iff : (v ≡ inf false) ↔ TurnedAway bins (usedScaleOf scale) end p
+  cost-infinite-iff = (λ (e : v ≡ inf false). infinite-turned-away bins (usedScaleOf scale) end p (given ∙ e), λ (t : TurnedAway bins (usedScaleOf scale) end p). sym given ∙ turned-away-infinite bins (usedScaleOf scale) end p t)
+
+  pub cost-never-nan : isNan v ≡ false
+  cost-never-nan = ap isNan (sym given) ∙ cost-not-nan bins (usedScaleOf scale) end p
 
 -- what the table held before has no part in the answer
 pub cost-of-any-table : (bins : List ℕ) (scale : Float) (end peak : ℕ) (error : ErrorModel) (genome : GenomeModel) (list held other : List Float) → length held ≡ length other

@@ -1,23 +1,19 @@
 -- What is known once no test of `fitTests` holds, and what cost answers by the number that they give. Assumes nothing.
-use Prim.Native.Nat.{ℕ, suc, _≤_, _<_}
+use Prim.Native.Nat.{ℕ, _≤_, _<_}
 use mathlib.Core.Path.{_≡_, refl, sym, ap, _∙_}
-use mathlib.Core.Bool.{Bool, true, false, not, cond}
+use mathlib.Core.Bool.{true}
 use mathlib.Core.List.{List}
 use native.Mathlib.Omega.{arith}
 use borrow.Author.Tests.{ltb-false, eqb-false, lt-ltb}
-use lib.Dec.{ltb, eqb}
 use lib.ListN.{length}
 use lib.Ieee.{Float}
 use Rattle.meaning.specs.Reply.{Reply, refuse, give, chain, firstOf}
 use Rattle.meaning.proofs.Replies.{chain-refused, chain-passed, none-holds}
 use Rattle.routines.specs.Ops.{ofCount}
-use Rattle.helpers.specs.declared.shelves.ShelfPart.{ShelfPart}
 use Rattle.models.specs.Costs.{roomy, costAt, tableAt, costOf, costTable}
-use Rattle.models.specs.Families.{listLengthOf}
 use Rattle.models.specs.Params.{paramsOf, shelfPartOf}
 use Rattle.models.specs.Recovery.{usedScaleOf}
 use Rattle.models.specs.Refusals.{tableDemand, fitTests}
-use Rattle.models.specs.Spectra.{allZeroOf, noneRecoveredOf}
 use Rattle.models.specs.declared.families.ErrorModel.{ErrorModel}
 use Rattle.models.specs.declared.families.GenomeModel.{GenomeModel}
 use Rattle.models.specs.declared.families.GenomeModel.the-variants.{NegativeBinomial, ShelfNegativeBinomial}

@@ -5,12 +5,12 @@ use mathlib.Core.Path.{_≡_, refl, sym, ap, _∙_, subst}
 use mathlib.Core.Bool.{Bool, true, false, not, _&&_, _||_, cond, true≢false, false≢true}
 use native.Mathlib.Nat.{zero-lt-suc, le-refl, le-trans, le-of-lt, mul-le-mul-right, le-of-mul-le-mul-right, mul-pos, mul-comm, mul-assoc, mul-right-comm, lt-of-mul-lt-mul-right, eq-of-mul-eq-mul-right, mul-lt-mul-of-pos-right, lt-of-le-of-lt, lt-of-lt-of-le, le-of-eq}
 use native.Mathlib.Omega.{arith}
-use borrow.Author.Tests.{ltb-true, ltb-false, eqb-true, eqb-false, le-ltb, lt-ltb, ne-eqb}
-use lib.IntN.{ℤ, pos}
+use borrow.Author.Tests.{ltb-true, ltb-false, eqb-true, eqb-false, le-ltb, ne-eqb}
+use lib.IntN.{ℤ}
 use lib.Dec.{T, ltb, eqb}
 use lib.Arith.{lt-of-le-ne}
 use lib.Pow.{pow-pos}
-use lib.Ieee.{Float, nan, inf, fin, binary64, up, down, unlike, ofBits, div, round, lt, eq, isNan, fits}
+use lib.Ieee.{Float, nan, inf, fin, binary64, up, down, unlike, ofBits, div, lt, eq, isNan, fits}
 use lib.Ieee.Fits.{up-pos, down-pos}
 use lib.Ieee.Scale.{finite, round-same}
 use Rattle.routines.specs.Exp.{one}

@@ -1,17 +1,17 @@
 -- THE COST IS NEVER +0. A point's log density is never -0, so neither is its product with a count; the sum, which starts at -0, is -0 only where nothing was added;
 -- and cost refuses with 6 where nothing was recovered. (-0 does occur: where the log-likelihood is +0.) Assumes nothing.
-use Prim.Native.Nat.{ℕ, zero, suc, _+_, _*_, _≤_, _<_}
-use mathlib.Core.Path.{_≡_, refl, sym, ap, _∙_, subst}
+use Prim.Native.Nat.{ℕ, zero, suc, _+_, _≤_, _<_}
+use mathlib.Core.Path.{_≡_, refl, sym, ap, _∙_}
 use mathlib.Core.Bool.{Bool, true, false, not, _&&_, cond, true≢false}
 use mathlib.Core.List.{List}
 use native.Mathlib.Numerals.{add-one}
 use native.Mathlib.Omega.{arith}
-use borrow.Author.Tests.{eqb-true, eqb-false}
+use borrow.Author.Tests.{eqb-false}
 use lib.IntN.{ℤ, pos}
 use lib.Dec.{T, eqb}
 use lib.ListN.{length}
 use lib.Ieee.{Float, nan, inf, fin, binary64, ofBits, ofInt, round, neg, le, fits}
-use lib.Ieee.Fits.{add-fits, sub-fits, mul-fits, cond-fits}
+use lib.Ieee.Fits.{add-fits, sub-fits, mul-fits}
 use lib.Ieee.Order.{round-mono}
 use Rattle.meaning.specs.Fold.{fold}
 use Rattle.meaning.specs.Reply.{give}
@@ -21,8 +21,8 @@ use Rattle.routines.specs.Exp as exp
 use Rattle.routines.specs.Ops.{_⊕_, ofCount}
 use Rattle.routines.proofs.Zeros.{sum-minus-zero, product-minus-zero}
 use Rattle.helpers.proofs.LogLaws.{lse3-fits, lse3-not-minus-zero}
-use Rattle.models.specs.Costs.{started, modeHeld, likelihoodUsable, evaluatedOf, costAt, costOf}
-use Rattle.models.specs.Likelihoods.{pointWith, pointOf, pointTerm, likelihoodOf}
+use Rattle.models.specs.Costs.{modeHeld, likelihoodUsable, costAt, costOf}
+use Rattle.models.specs.Likelihoods.{pointWith, pointTerm, likelihoodOf}
 use Rattle.models.specs.Masses.{massesUsable}
 use Rattle.models.specs.Params.{paramsOf}
 use Rattle.models.specs.Recovery.{usedScaleOf}
