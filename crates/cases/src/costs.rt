@@ -7,13 +7,12 @@ use models::families::GenomeModel;
 
 fn answer(name: &[u8], number: Number) {
     match number {
-        Number::Value(_) => show::answered(name),
+        Number::Value(value) => show::answered(name, value),
         Number::Refused(n) => show::number_refused(name, n),
     }
 }
 
-fn of(name: &[u8], bins: &[u32], scale: f64, window_end: usize, peak: usize) {
-    let theta = [0.0f64; 7];
+fn at(name: &[u8], theta: &[f64], bins: &[u32], scale: f64, window_end: usize, peak: usize) {
     let mut table = [0.0f64; 1];
     let number = cost(
         bins,
@@ -22,10 +21,20 @@ fn of(name: &[u8], bins: &[u32], scale: f64, window_end: usize, peak: usize) {
         peak,
         ErrorModel::SingletonPareto,
         GenomeModel::NegativeBinomial,
-        &theta,
+        theta,
         &mut table,
     );
     answer(name, number);
+}
+
+fn of(name: &[u8], bins: &[u32], scale: f64, window_end: usize, peak: usize) {
+    at(name, &[0.0f64; 7], bins, scale, window_end, peak);
+}
+
+// In a window of one count every k-mer is sure to have it: the log-likelihood is +0, and the cost -0.
+fn certain() {
+    let theta = [0.0f64, -6.25, 0.0, 0.0, 0.0, 0.0, 0.0];
+    at(b"cost, window end 1", &theta, &[3u32, 3], 1.0, 1, 2);
 }
 
 fn shelf(name: &[u8], theta: &[f64], table: &mut [f64]) {
@@ -56,6 +65,7 @@ pub(crate) fn all() {
     of(b"cost, scale 7", &[3u32, 3], 7.0, 2, 2);
     of(b"cost, scale 100", &[3u32, 3], 100.0, 2, 2);
     of(b"cost, scale NaN", &[3u32, 3], 0.0 / 0.0, 2, 2);
+    certain();
     let theta = [0.0f64; 10];
     let mut short = [0.0f64; 2];
     let mut long = [0.0f64; 3];

@@ -59,9 +59,9 @@ pub(crate) fn number(text: &[u8], n: u64) {
     end();
 }
 
-pub(crate) fn answered(text: &[u8]) {
+pub(crate) fn answered(text: &[u8], value: f64) {
     name(text);
-    io::write_all(STDOUT_FILENO, b"answered");
+    bits(value);
     end();
 }
 
