@@ -73,7 +73,7 @@ pub fn ln_sub_exp(high: f64, low: f64) -> f64
     high + ln(-expm1(low - high))
 }
 
-// The logistic function, evaluated on the side that cannot overflow.
+// 1 / (1 + e^-v); below 0 as e^v / (1 + e^v), so that the exponential stays at most 1.
 pub fn sigmoid(value: f64) -> f64
     ensures { λ r. ⌜ r ≡ sigmoidOf value ⌝ }
 {

@@ -1,8 +1,10 @@
 -- The corners of layer 3 that document 01 keeps: a height at count 0, and a mode of 2^64 or more. Assumes nothing.
-use mathlib.Core.Path.{_≡_, refl}
+use mathlib.Core.Path.{_≡_, refl, sym, ap, _∙_}
 use mathlib.Core.Bool.{Bool, true, false, _||_, cond}
 use lib.Ieee.{Float, nan, inf, fin, add, sub, neg, mul, lt, le, eq, ne, ofBits, ofInt}
 use lib.Ieee.Scale.{finite}
+use Rattle.meaning.specs.Reply.{give}
+use Rattle.meaning.proofs.Replies.{same-answer}
 use Rattle.routines.specs.Exp.{one}
 use Rattle.routines.specs.Ln.{lnOf}
 use Rattle.routines.specs.Ops.{_⊕_, _⊖_, _⊗_, ofCount}
@@ -12,9 +14,10 @@ use Rattle.helpers.specs.LogSums.{lnSubExpOf}
 use Rattle.helpers.proofs.Corners.{mode-full}
 use Rattle.models.specs.Errors.{survivalOf, logProbabilityOf}
 use Rattle.models.specs.Fits.{primaryModeOf, repeatModeOf}
-use Rattle.models.specs.Heights.{heightsAt}
+use Rattle.models.specs.Heights.{heightsAt, componentHeightsOf}
 use Rattle.models.specs.declared.errors.ErrorParams.{ErrorParams}
 use Rattle.models.specs.declared.fit.SpectrumFit.{SpectrumFit}
+use Rattle.models.specs.declared.heights.Heights.{Heights}
 
 -- ---- NaN goes through
 times-nan : (x : Float) → x ⊗ nan ≡ nan
@@ -49,9 +52,13 @@ zero-probability : (p : ErrorParams) → logProbabilityOf p (ofCount 0) ≡ nan
 unfolding logProbabilityOf eq ofInt ofBits
 zero-probability p = rw (zero-survival p, sub-from-nan (survivalOf p (ofCount 0 ⊕ one))) (plus-nan (lnOf (one ⊖ p .«singleton_probability»)))
 
-pub height-at-zero : (fit : SpectrumFit) → heightsAt fit (ofCount 0) .error ≡ nan
+height-at-zero : (fit : SpectrumFit) → heightsAt fit (ofCount 0) .error ≡ nan
 unfolding heightsAt sub add
 height-at-zero fit = rw (zero-probability (fit .«error_params»), exp-nan) (times-nan (fit .«observed_total» ⊗ fit .«w_error»))
+
+pub component-height-at-zero : (fit : SpectrumFit) (h : Heights) → componentHeightsOf fit 0 ≡ give h → h .error ≡ nan
+unfolding componentHeightsOf
+component-height-at-zero fit h gave = ap (λ (x : Heights). x .error) (sym (same-answer gave)) ∙ height-at-zero fit
 
 -- ---- a finite mode of 2^64 or more is 2^64-1
 pub primary-mode-full : (fit : SpectrumFit) → finite (fit .mean ⊖ (fit .dispersion ⊖ one)) ≡ true → le two64 (fit .mean ⊖ (fit .dispersion ⊖ one)) ≡ true → primaryModeOf fit ≡ 18446744073709551615

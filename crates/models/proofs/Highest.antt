@@ -19,15 +19,13 @@ use Rattle.routines.specs.Ln.{lnOf}
 use Rattle.routines.specs.Ops.{_⊕_, _⊖_, ofCount}
 use Rattle.routines.proofs.ShapesLn.{ln-fits}
 use Rattle.helpers.specs.LogSums.{lnSubExpOf}
+use Rattle.models.specs.Claims.{rank, logAt, ErrorMode}
 use Rattle.models.specs.Errors.{survivalOf, logProbabilityOf}
 use Rattle.models.specs.Modes.{laterWins, withNan, stands, higherOf, highestOf, errorModeOf}
 use Rattle.models.specs.declared.errors.ErrorParams.{ErrorParams}
 use Rattle.models.specs.declared.fit.SpectrumFit.{SpectrumFit}
 use Rattle.models.specs.declared.modes.Standing.{Standing}
-use Rattle.models.proofs.Ranks.{rank, Ranked, ranked}
-
-abbrev pub logAt : ErrorParams → ℕ → Float
-logAt p k = logProbabilityOf p (ofCount k)
+use Rattle.models.proofs.Ranks.{Ranked, ranked}
 
 -- ---- NaN is what is not equal to itself
 unequal-self : (x : Float) → ne x x ≡ isNan x
@@ -165,13 +163,6 @@ module _ (p : ErrorParams) where
           more t h = omega arith
 
 -- ---- THE THEOREMS
--- the count c of the highest log probability among the counts 1 to top, and of equals the last
-pub record ErrorMode (p : ErrorParams) (top c : ℕ) : Type 0 where
-  pub first : 1 ≤ c
-  pub last : c ≤ top
-  pub earlier : (k : ℕ) → 1 ≤ k → k ≤ c → rank (logAt p k) ≤ rank (logAt p c)
-  pub later : (k : ℕ) → c < k → k ≤ top → rank (logAt p k) < rank (logAt p c)
-
 module _ (fit : SpectrumFit) where
   abbrev p : ErrorParams
   p = fit .«error_params»

@@ -10,9 +10,9 @@ use lib.Ieee.Scale.{finite}
 use Rattle.meaning.specs.Reply.{give}
 use Rattle.meaning.proofs.Replies.{gave-answer}
 use Rattle.routines.specs.Ops.{ofCount}
+use Rattle.models.specs.Claims.{massesAt, totalAt, TurnedAway, parameters, round-trip, window-mass, log-likelihood}
 use Rattle.models.specs.Costs.{modeHeld, started, likelihoodUsable, evaluatedOf, costAt, costOf}
-use Rattle.models.specs.Likelihoods.{likelihoodOf}
-use Rattle.models.specs.Masses.{entriesOf, windowMassesOf, massesUsable}
+use Rattle.models.specs.Masses.{massesUsable}
 use Rattle.models.specs.Params.{paramsOf}
 use Rattle.models.specs.Recovery.{usedScaleOf}
 use Rattle.models.specs.Refusals.{fitTests}
@@ -20,21 +20,6 @@ use Rattle.models.specs.Usable.{paramsUsable}
 use Rattle.models.specs.declared.families.ErrorModel.{ErrorModel}
 use Rattle.models.specs.declared.families.GenomeModel.{GenomeModel}
 use Rattle.models.specs.declared.params.Params.{Params}
-use Rattle.models.specs.declared.window_masses.WindowMasses.{WindowMasses}
-
--- what the window is measured by, at some parameters
-abbrev pub massesAt : ℕ → Params → WindowMasses
-massesAt end p = windowMassesOf p (entriesOf (p .shelf) (p .mean) end) end
-
-abbrev pub totalAt : List ℕ → Float → ℕ → Params → Float
-totalAt bins scale end p = likelihoodOf bins scale end p (massesAt end p) (entriesOf (p .shelf) (p .mean) end)
-
--- the four tests of models.rs
-pub data TurnedAway (bins : List ℕ) (scale : Float) (end : ℕ) (p : Params) : Type 0 where
-  parameters : paramsUsable p ≡ false → TurnedAway bins scale end p
-  round-trip : modeHeld p ≡ false → TurnedAway bins scale end p
-  window-mass : massesUsable (massesAt end p) ≡ false → TurnedAway bins scale end p
-  log-likelihood : likelihoodUsable (totalAt bins scale end p) ≡ false → TurnedAway bins scale end p
 
 -- a log-likelihood that can be used is finite, and so is its negative
 finite-total : (t : Float) → likelihoodUsable t ≡ true → neg t ≡ inf false → ⊥

@@ -18,19 +18,8 @@ use Rattle.routines.specs.Ops.{_⊘_}
 use Rattle.routines.specs.Units.{unitsOf}
 use Rattle.routines.proofs.Sizes.{in-units}
 use Rattle.routines.proofs.Values.{has-units}
+use Rattle.models.specs.Claims.{middle, rank}
 use Rattle.models.specs.Modes.{laterWins}
-
--- above every finite value's units
-abbrev pub middle : ℕ
-middle = 2 ^ (1074 + 1024)
-
--- -inf, the negative numbers, -0, +0, the positive numbers, +inf
-unfoldable pub rank : Float → ℕ
-rank nan = 0
-rank (inf true) = 0
-rank (inf false) = middle + middle + 2
-rank (fin true m e) = middle - unitsOf (fin true m e)
-rank (fin false m e) = middle + 1 + unitsOf (fin false m e)
 
 units-few : (s : Bool) (m : ℕ) (e : ℤ) → T (fits binary64 (fin s m e)) → unitsOf (fin s m e) < middle
 units-few s m e F =

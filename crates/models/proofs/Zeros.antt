@@ -21,6 +21,7 @@ use Rattle.routines.specs.Exp as exp
 use Rattle.routines.specs.Ops.{_⊕_, ofCount}
 use Rattle.routines.proofs.Zeros.{sum-minus-zero, product-minus-zero}
 use Rattle.helpers.proofs.LogLaws.{lse3-fits, lse3-not-minus-zero}
+use Rattle.models.specs.Claims.{massesAt, totalAt}
 use Rattle.models.specs.Costs.{modeHeld, likelihoodUsable, costAt, costOf}
 use Rattle.models.specs.Likelihoods.{pointWith, pointTerm, likelihoodOf}
 use Rattle.models.specs.Masses.{massesUsable}
@@ -33,7 +34,7 @@ use Rattle.models.specs.declared.families.ErrorModel.{ErrorModel}
 use Rattle.models.specs.declared.families.GenomeModel.{GenomeModel}
 use Rattle.models.specs.declared.params.Params.{Params}
 use Rattle.models.specs.declared.window_masses.WindowMasses.{WindowMasses}
-use Rattle.models.proofs.Infinite.{totalAt, massesAt, costed, cost-is}
+use Rattle.models.proofs.Infinite.{costed, cost-is}
 
 -- an `f64` that is not -0
 pub record Other (x : Float) : Type 0 where

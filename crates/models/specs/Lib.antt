@@ -14,3 +14,4 @@ pub mod Likelihoods
 pub mod Costs
 pub mod Deviances
 pub mod Unpacking
+pub mod Claims
