@@ -100,6 +100,13 @@ impl<'a> Stratum<'a> {
     pub fn long(self) -> Stratum<'a> {
         Stratum { long: true, ..self }
     }
+
+    /// The same inputs behind two further words.
+    pub fn behind(self, two: fn(&mut Draw) -> [u64; 2]) -> Stratum<'a> {
+        let (draw, meets) = (self.draw, self.meets);
+        let draw = Box::new(move |d: &mut Draw| [&two(d)[..], &draw(d)].concat());
+        Stratum { draw, meets: Box::new(move |w| meets(&w[2..])), ..self }
+    }
 }
 
 pub fn own(name: &str, wanted: u64, draw: impl Fn(&mut Draw) -> Vec<u64> + 'static, meets: impl Fn(&[u64]) -> bool + 'static) -> Own {

@@ -175,6 +175,7 @@ calls! {
     ln_dbetabinom = fog_ln_dbetabinom(x: f64, trials: f64, alpha: f64, beta: f64) -> f64;
     ln_single_copy = fog_ln_single_copy(count: f64, mean: f64, dispersion: f64, present: u8, shelf: Shelf) -> f64;
     mix_shelf = fog_mix_shelf(lobe: f64, shelf: Shelf, at: f64) -> f64;
+    shelf_logs = fog_shelf_logs(present: u8, shelf: Shelf) -> Pair;
     parameter_count = fog_parameter_count(error: u8) -> usize;
     extra_parameters = fog_extra_parameters(genome: u8) -> usize;
     list_length = fog_list_length(error: u8, genome: u8) -> usize;
@@ -196,6 +197,7 @@ calls! {
 
 extern "C" {
     fn fog_mix_single_copy(lobe: f64, count: f64, present: u8, shelf: Shelf, table: *const f64, length: usize) -> f64;
+    fn fog_mix_entry(lobe: f64, count: f64, present: u8, shelf: Shelf, rest: f64, share: f64, table: *const f64, length: usize) -> f64;
     fn fog_single_copy_log_mass(
         mean: f64,
         dispersion: f64,
@@ -219,6 +221,11 @@ extern "C" {
 
 pub fn mix_single_copy(lobe: f64, count: f64, present: u8, shelf: Shelf, table: &[f64]) -> f64 {
     unsafe { fog_mix_single_copy(lobe, count, present, shelf, table.as_ptr(), table.len()) }
+}
+
+/// The logs of the rest and of the share are given apart from the shelf.
+pub fn mix_entry(lobe: f64, count: f64, present: u8, shelf: Shelf, logs: Pair, table: &[f64]) -> f64 {
+    unsafe { fog_mix_entry(lobe, count, present, shelf, logs.first, logs.second, table.as_ptr(), table.len()) }
 }
 
 pub fn single_copy_log_mass(mean: f64, dispersion: f64, present: u8, shelf: Shelf, table: &[f64], top: usize) -> Number {

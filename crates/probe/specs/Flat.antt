@@ -1,4 +1,4 @@
--- How C has a row of a table, three logs and a lobe. Definitions only. Assumes nothing.
+-- How C has a row of a table, three logs, a lobe and a shelf's logs. Definitions only. Assumes nothing.
 use Prim.Native.Nat.{ℕ}
 use mathlib.Core.List.{List}
 use lib.ListN.{getD}
@@ -7,6 +7,7 @@ use Rattle.routines.specs.Exp as exp
 use Rattle.routines.specs.declared.tables.Power.{Power}
 use Rattle.helpers.specs.declared.lobes.Lobe.{Lobe}
 use Rattle.helpers.specs.declared.log_sums.Logs3.{Logs3}
+use Rattle.helpers.specs.declared.shelves.ShelfLogs.{ShelfLogs}
 use Rattle.probe.specs.declared.lobes.FlatLobe.{FlatLobe}
 use Rattle.probe.specs.declared.log_sums.FlatLogs3.{FlatLogs3}
 use Rattle.probe.specs.declared.tables.FlatPair.{FlatPair}
@@ -28,3 +29,9 @@ ofLobe l = record { poisson = l .poisson; mean = l .mean; rate = l .rate; size =
 
 abbrev pub toLobe : FlatLobe → Lobe
 toLobe l = record { poisson = l .poisson; mean = l .mean; rate = l .rate; size = l .size; gamma = l .gamma; start = l .start; slope = l .slope }
+
+abbrev pub ofShelfLogs : ShelfLogs → FlatPair
+ofShelfLogs l = record { first = l .rest; second = l .share }
+
+abbrev pub toShelfLogs : Float → Float → ShelfLogs
+toShelfLogs rest share = record { rest = rest; share = share }

@@ -7,4 +7,5 @@ pub mod numbers;
 pub mod params;
 pub mod recovery;
 pub mod shelf_rules;
+pub mod shelves;
 pub mod tables;

@@ -20,6 +20,7 @@ use helpers::masses::log_nb_mass_to;
 use helpers::shelves::ln_dbetabinom;
 use helpers::shelves::ln_single_copy;
 use helpers::shelves::mix_shelf;
+use helpers::shelves::shelf_logs;
 use helpers::shelves::shelf_trials;
 
 fn softmax_holds(row: &[u64]) -> bool {
@@ -99,6 +100,11 @@ fn mixed_holds(row: &[u64]) -> bool {
     )
 }
 
+fn logs_hold(row: &[u64]) -> bool {
+    let logs = shelf_logs(tables::part(row, 1));
+    same(logs.rest, word(row, 5)) && same(logs.share, word(row, 6))
+}
+
 fn log_sum_holds(call: u64, row: &[u64]) -> bool {
     let x = number(row, 1);
     let y = number(row, 2);
@@ -140,6 +146,8 @@ fn mass_call_holds(call: u64, row: &[u64]) -> bool {
         49 => tables::mix_holds(row),
         50 => tables::single_mass_holds(row),
         51 => tables::single_mass_to_holds(row),
+        52 => logs_hold(row),
+        53 => tables::entry_holds(row),
         _ => false,
     }
 }

@@ -9,7 +9,9 @@ use helpers::answers::Written;
 use helpers::masses::single_copy_log_mass;
 use helpers::masses::single_copy_log_mass_to;
 use helpers::shelves::Shelf;
+use helpers::shelves::ShelfLogs;
 use helpers::shelves::ShelfPart;
+use helpers::shelves::mix_entry;
 use helpers::shelves::mix_single_copy;
 use helpers::shelves::shelf_log_table;
 
@@ -122,6 +124,22 @@ pub(crate) fn mix_holds(row: &[u64]) -> bool {
     let mut buffer = [0.0; 64];
     let n = fill(rest, row[7] as usize, &mut buffer);
     let mixed = mix_single_copy(number(row, 1), number(row, 2), part(row, 3), &buffer[..n]);
+    same(mixed, word(rest, n))
+}
+
+pub(crate) fn entry_holds(row: &[u64]) -> bool {
+    if row.len() < 10 {
+        return false;
+    }
+    let rest = &row[10..];
+    let mut buffer = [0.0; 64];
+    let n = fill(rest, row[9] as usize, &mut buffer);
+    let logs = ShelfLogs {
+        rest: number(row, 1),
+        share: number(row, 2),
+    };
+    let lobe = number(row, 3);
+    let mixed = mix_entry(lobe, number(row, 4), part(row, 5), logs, &buffer[..n]);
     same(mixed, word(rest, n))
 }
 

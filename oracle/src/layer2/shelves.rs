@@ -9,8 +9,20 @@ use crate::{port, rules};
 
 const TABLE: &[(&str, Kind)] = &[("mean", Float), ("share", Float), ("alpha", Float), ("beta", Float), ("top", Other), ("table", Other)];
 const MIXED: &[(&str, Kind)] = &[("lobe", Float), ("share", Float), ("alpha", Float), ("beta", Float), ("at", Float)];
+const LOGS: &[(&str, Kind)] = &[("present", Other), ("share", Float), ("alpha", Float), ("beta", Float)];
 const MIX: &[(&str, Kind)] =
     &[("lobe", Float), ("count", Float), ("present", Other), ("share", Float), ("alpha", Float), ("beta", Float), ("table", Other)];
+const ENTRY: &[(&str, Kind)] = &[
+    ("log of the rest", Float),
+    ("log of the share", Float),
+    ("lobe", Float),
+    ("count", Float),
+    ("present", Other),
+    ("share", Float),
+    ("alpha", Float),
+    ("beta", Float),
+    ("table", Other),
+];
 
 // ---- the shelf table: mean, shelf, window end, lent slice
 
@@ -244,6 +256,84 @@ fn strata_of_mixes() -> Vec<Own> {
     ]
 }
 
+// ---- the parts of that mixture: the shelf's logs, and an entry mixed with them
+
+fn logs_with(d: &mut Draw, present: u64) -> Vec<u64> {
+    let mut w = words(&[0.0, d.share(), d.alpha(), d.beta()]);
+    w[0] = present;
+    w
+}
+
+fn logs(d: &mut Draw) -> Vec<u64> {
+    let present = d.present();
+    logs_with(d, present)
+}
+
+fn logs_of(d: &mut Draw, share: f64) -> Vec<u64> {
+    let mut w = logs(d);
+    w[1] = share.to_bits();
+    w
+}
+
+fn logs_around_the_ends(d: &mut Draw) -> Vec<u64> {
+    let end = d.pick(&[0.0, 1.0]);
+    let share = d.beside(end, 8);
+    logs_of(d, share)
+}
+
+fn logs_outside(d: &mut Draw) -> Vec<u64> {
+    let share = if d.one_in(2) { -d.octaves(-40, 4) } else { 1.0 + d.octaves(-40, 4) };
+    logs_of(d, share)
+}
+
+fn strata_of_logs() -> Vec<Own> {
+    vec![
+        own("no shelf", 100_000, |d| logs_with(d, 0), |w| w[0] == 0),
+        own("share 0, 1 or beside", 50_000, logs_around_the_ends, |w| {
+            w[0] != 0 && [0.0, 1.0].iter().any(|end| (float(w, 1) - end).abs() < 1e-14)
+        }),
+        own("share below 0 or above 1", 50_000, logs_outside, |w| w[0] != 0 && !(0.0..=1.0).contains(&float(w, 1))),
+    ]
+}
+
+/// The Rust has these two in mix_single_copy.
+fn linked_logs(w: &[u64]) -> Vec<u64> {
+    if w[0] == 0 {
+        return words(&[0.0, f64::NEG_INFINITY]);
+    }
+    let s = linked_shelf(w, 1);
+    vec![bits((1.0 - s.share).fog_ln()), bits(s.share.fog_ln())]
+}
+
+/// The logs of a share.
+fn two_logs(d: &mut Draw) -> [u64; 2] {
+    let share = d.share();
+    [(1.0 - share).fog_ln(), share.fog_ln()].map(f64::to_bits)
+}
+
+fn entry(d: &mut Draw) -> Vec<u64> {
+    [&two_logs(d)[..], &mix(d)].concat()
+}
+
+fn strata_of_entries() -> Vec<Own> {
+    strata_of_mixes().into_iter().map(|own| own.behind(two_logs)).collect()
+}
+
+fn port_entry(w: &[u64]) -> Vec<u64> {
+    let logs = port::Pair { first: float(w, 0), second: float(w, 1) };
+    vec![bits(port::mix_entry(float(w, 2), float(w, 3), w[4] as u8, shelf(w, 5), logs, &slice(w, 8)))]
+}
+
+/// The Rust's mix_single_copy with the two logs given.
+fn linked_entry(w: &[u64]) -> Vec<u64> {
+    let lobe = float(w, 2);
+    if w[4] == 0 {
+        return vec![bits(lobe)];
+    }
+    let entry = slice(w, 8).get(float(w, 3) as usize).copied().unwrap_or(f64::NEG_INFINITY);
+    vec![bits(linked::lse2(float(w, 0) + lobe, float(w, 1) + entry))]
+}
+
 pub fn calls() -> Vec<Call> {
     vec![
         Call {
@@ -287,5 +377,21 @@ pub fn calls() -> Vec<Call> {
                 },
             )
         },
+        Call {
+            own: strata_of_logs(),
+            ..call(
+                52,
+                "shelf_logs",
+                LOGS,
+                Floats,
+                logs,
+                |w| {
+                    let logs = port::shelf_logs(w[0] as u8, shelf(w, 1));
+                    vec![bits(logs.first), bits(logs.second)]
+                },
+                linked_logs,
+            )
+        },
+        Call { own: strata_of_entries(), ..call(53, "mix_entry", ENTRY, Floats, entry, port_entry, linked_entry) },
     ]
 }
