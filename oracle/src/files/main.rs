@@ -17,7 +17,7 @@ use reading::Reader;
 use tally::Tally;
 use writing::Writer;
 
-const READS: u64 = 10_000_000;
+const DAMAGED: u64 = 10_000_000;
 const WRITES: u64 = 1_000_000;
 
 /// Prints the table; whether all is well.
@@ -27,14 +27,15 @@ fn compare() -> bool {
     reader.run(&mut tally);
     Writer::new().run(&mut tally);
     println!("{}", tally.table());
-    println!("Accepted files had {} of the {COUNTS} bin counts.\n", reader.counts());
+    println!("{} files were damaged or random. Accepted files had {} of the {COUNTS} bin counts.\n", reader.damaged, reader.counts());
     let mut faults = tally.faults();
     if reader.counts() != COUNTS {
         faults.push("a bin count was not reached".into());
     }
-    for (call, wanted) in [(reading::CALL, READS), (writing::CALL, WRITES)] {
-        if tally.comparisons(call) < wanted {
-            faults.push(format!("{call}: {} comparisons are too few", tally.comparisons(call)));
+    let writes = tally.comparisons(writing::CALL);
+    for (what, seen, wanted) in [("damaged or random files", reader.damaged, DAMAGED), ("writes", writes, WRITES)] {
+        if seen < wanted {
+            faults.push(format!("{seen} {what} are too few"));
         }
     }
     for fault in &faults {

@@ -7,16 +7,24 @@ use crate::made::*;
 use crate::port;
 use crate::tally::{Row, Tally};
 
-pub const CALL: &str = "fog_read_histogram";
+const CALL: &str = "fog_read_histogram";
 
 struct Stratum {
     name: &'static str,
     inputs: u64,
-    make: fn(&mut Draw, u64, &mut Made),
+    make: Make,
+    /// Of files that were spoilt, or drawn at random.
+    damaged: bool,
 }
 
-const fn stratum(name: &'static str, inputs: u64, make: fn(&mut Draw, u64, &mut Made)) -> Stratum {
-    Stratum { name, inputs, make }
+type Make = fn(&mut Draw, u64, &mut Made);
+
+const fn stratum(name: &'static str, inputs: u64, make: Make) -> Stratum {
+    Stratum { name, inputs, make, damaged: false }
+}
+
+const fn damaged(name: &'static str, inputs: u64, make: Make) -> Stratum {
+    Stratum { name, inputs, make, damaged: true }
 }
 
 const STRATA: [Stratum; 39] = [
@@ -37,91 +45,91 @@ const STRATA: [Stratum; 39] = [
     stratum("lent bins exact", 300_000, |draw, _, made| lent(draw, made, |_, n| n)),
     stratum("lent bins longer", 500_000, |draw, _, made| lent(draw, made, |draw, n| n + 1 + draw.below(40) as usize)),
     stratum("lent bins none or one", 300_000, |draw, _, made| lent(draw, made, |draw, _| draw.below(2) as usize)),
-    stratum("bin count 0", 100_000, |draw, _, made| miscounted(draw, made, 0)),
-    stratum("bin count 1", 100_000, |draw, _, made| miscounted(draw, made, 1)),
+    damaged("bin count 0", 100_000, |draw, _, made| miscounted(draw, made, 0)),
+    damaged("bin count 1", 100_000, |draw, _, made| miscounted(draw, made, 1)),
     stratum("bin count 2", 100_000, |draw, _, made| made.valid(draw, 2, any_bin)),
     stratum("bin count 2,047", 20_000, |draw, _, made| made.valid(draw, 2047, any_bin)),
-    stratum("bin count 2,048", 20_000, |draw, _, made| miscounted(draw, made, 2048)),
-    stratum("bin count above 2,048", 200_000, |draw, _, made| {
+    damaged("bin count 2,048", 20_000, |draw, _, made| miscounted(draw, made, 2048)),
+    damaged("bin count above 2,048", 200_000, |draw, _, made| {
         let said = if draw.one_in(2) { 2049 + draw.below(30_000) } else { 2049 + (draw.word() >> 1 >> draw.below(50)) };
         miscounted(draw, made, said)
     }),
-    stratum("wrong first byte", 200_000, |draw, _, made| {
+    damaged("wrong first byte", 300_000, |draw, _, made| {
         made_few(draw, made);
         let byte = draw.below(127) as u8;
         made.replace(0, &[if byte == 0 { 0 } else { byte + 1 }]);
     }),
-    stratum("wrong form in several groups", 100_000, |draw, _, made| {
+    damaged("wrong form in several groups", 100_000, |draw, _, made| {
         made_few(draw, made);
         let mut bytes = Vec::new();
         file::put(&mut bytes, 128 + (draw.word() >> 8 >> draw.below(50)));
         made.replace(0, &bytes);
     }),
-    stratum("longer form of the form", 100_000, |draw, _, made| longer_form(draw, made, 0, 1)),
-    stratum("longer form of the bin count", 100_000, |draw, _, made| longer_form(draw, made, 1, 2)),
-    stratum("longer form of a bin", 400_000, |draw, _, made| longer_form(draw, made, 2, usize::MAX)),
-    stratum("a bin above 2^32-1 in five groups", 300_000, |draw, _, made| bad_bin(draw, made, five_groups)),
-    stratum("a bin in six to ten groups", 300_000, |draw, _, made| bad_bin(draw, made, more_groups)),
-    stratum("a bin in eleven groups or more", 100_000, |draw, _, made| bad_bin(draw, made, too_many_groups)),
-    stratum("cut inside a number", 400_000, cut_inside),
-    stratum("cut between numbers", 400_000, |draw, _, made| {
+    damaged("longer form of the form", 200_000, |draw, _, made| longer_form(draw, made, 0, 1)),
+    damaged("longer form of the bin count", 200_000, |draw, _, made| longer_form(draw, made, 1, 2)),
+    damaged("longer form of a bin", 500_000, |draw, _, made| longer_form(draw, made, 2, usize::MAX)),
+    damaged("a bin above 2^32-1 in five groups", 400_000, |draw, _, made| bad_bin(draw, made, five_groups)),
+    damaged("a bin in six to ten groups", 400_000, |draw, _, made| bad_bin(draw, made, more_groups)),
+    damaged("a bin in eleven groups or more", 200_000, |draw, _, made| bad_bin(draw, made, too_many_groups)),
+    damaged("cut inside a number", 500_000, cut_inside),
+    damaged("cut between numbers", 500_000, |draw, _, made| {
         made_few(draw, made);
         let at = made.start(draw.below(made.numbers() as u64) as usize);
         made.cut(at, at);
     }),
-    stratum("no byte", 1_000, |draw, _, made| {
+    damaged("no byte", 1_000, |draw, _, made| {
         made.bytes(std::iter::empty());
         made.known = Known::Fault(0);
         made.any_room(draw);
     }),
-    stratum("one byte", 100_000, |draw, i, made| {
+    damaged("one byte", 100_000, |draw, i, made| {
         made.bytes(std::iter::once(i as u8));
         made.known = Known::Fault(if i as u8 == 1 { 1 } else { 0 });
         made.any_room(draw);
     }),
-    stratum("a last number without end", 100_000, |draw, _, made| {
+    damaged("a last number without end", 100_000, |draw, _, made| {
         made_few(draw, made);
         let i = draw.below(made.numbers() as u64) as usize;
         let fault = made.start(i);
         made.cut(fault, fault);
         made.file.extend(endless(draw));
     }),
-    stratum("bytes appended", 400_000, |draw, _, made| {
+    damaged("bytes appended", 500_000, |draw, _, made| {
         made_few(draw, made);
         let n = 1 + draw.below(8);
         made.append(draw, n);
     }),
-    stratum("longer than any file", 10_000, |draw, _, made| {
+    damaged("longer than any file", 10_000, |draw, _, made| {
         made.valid(draw, 2047, five_byte_bin);
         assert!(made.file.len() == LONGEST);
         let n = 1 + draw.below(20_000);
         made.append(draw, n);
     }),
-    stratum("two faults", 300_000, two_faults),
-    stratum("a fault and too few lent bins", 300_000, |draw, i, made| {
+    damaged("two faults", 500_000, two_faults),
+    damaged("a fault and too few lent bins", 500_000, |draw, i, made| {
         two_faults(draw, i, made);
         made.room = draw.below(made.bins.len() as u64) as usize;
     }),
-    stratum("a bit flipped", 700_000, |draw, _, made| {
+    damaged("a bit flipped", 1_500_000, |draw, _, made| {
         made_few(draw, made);
         flip(draw, made);
     }),
-    stratum("a byte replaced", 300_000, |draw, _, made| {
+    damaged("a byte replaced", 1_000_000, |draw, _, made| {
         made_few(draw, made);
         let at = draw.below(made.file.len() as u64) as usize;
-        made.file[at] = draw.word() as u8;
+        made.file[at] ^= 1 + draw.below(255) as u8;
         made.known = Known::Open;
     }),
-    stratum("a bit flipped, each bin count", 50 * COUNTS, |draw, i, made| {
+    damaged("a bit flipped, each bin count", 100 * COUNTS, |draw, i, made| {
         made.valid(draw, each(i), any_bin);
         flip(draw, made);
     }),
-    stratum("random bytes", 600_000, |draw, _, made| {
+    damaged("random bytes", 1_200_000, |draw, _, made| {
         let n = draw.below(64);
         made.bytes((0..n).map(|_| draw.word() as u8));
         made.room = 20;
     }),
-    stratum("random bytes behind 1 and a bin count", 600_000, |draw, _, made| {
+    damaged("random bytes behind 1 and a bin count", 1_500_000, |draw, _, made| {
         let count = 2 + draw.below(7);
         let n = count + draw.below(6);
         let bins = (0..n).map(|_| draw.word() as u8 & (0x7f | (draw.word() & draw.word()) as u8));
@@ -233,11 +241,13 @@ pub struct Reader {
     back: Vec<u8>,
     /// The bin counts of the files that were accepted.
     counts: [bool; 2048],
+    /// How many files were spoilt, or drawn at random.
+    pub damaged: u64,
 }
 
 impl Reader {
     pub fn new() -> Reader {
-        Reader { bins: Vec::new(), lent: Lent::new(), back: vec![0; LONGEST], counts: [false; 2048] }
+        Reader { bins: Vec::new(), lent: Lent::new(), back: vec![0; LONGEST], counts: [false; 2048], damaged: 0 }
     }
 
     /// Whether the file's making and the reader of `file.rs` say the same.
@@ -282,6 +292,7 @@ impl Reader {
                 let (same, says) = self.as_made(&made);
                 if same {
                     self.compare(&made, says, draw.word(), &mut row);
+                    self.damaged += u64::from(stratum.damaged);
                 }
             }
             tally.add(row);
