@@ -17,6 +17,9 @@ pub const MAX_FILE_BINS: usize = 2047;
 // No accepted file is longer: a byte for the form, two for the bin count and five for each bin.
 pub const LONGEST_FILE: usize = 3 + 5 * MAX_FILE_BINS;
 
+// As many as a spectrum's histogram usually has.
+const FEW_BINS: usize = 256;
+
 // The largest bin.
 const MAX_BIN: u64 = 4294967295;
 
@@ -123,24 +126,6 @@ fn in_room(read: FileRead, room: usize) -> FileRead
     }
 }
 
-// What reading the whole file answers, with the bins held.
-fn check(file: &[u8], room: usize, held: &mut [u32]) -> FileRead
-    requires { ⌜ mostBins ≤ length (now held) ⌝ }
-    ensures { λ r. ⌜ keptOf r ≤ mostBins ⌝ }
-    ensures { λ r. ⌜ heldSays r (now (held .exit)) ≡ readHistogramOf (now (file .entry)) room ⌝ }
-{
-    let form = number_at(file, 0, 1, 1);
-    let Number::Is(_, second) = form else {
-        return FileRead::Broken(0);
-    };
-    let count = number_at(file, second, 2, MAX_FILE_BINS as u64);
-    let Number::Is(n, first) = count else {
-        return FileRead::Broken(second);
-    };
-    let read = read_bins(file, first, n as usize, held);
-    in_room(read, room)
-}
-
 // How many bins are to be written: none where the file or the room is refused.
 fn kept(answer: FileRead) -> usize
     ensures { λ r. ⌜ r ≡ keptOf answer ⌝ }
@@ -164,14 +149,37 @@ fn copy_bins(held: &[u32], n: usize, bins: &mut [u32])
     }
 }
 
+// n bins from the place `first` on: held until the file and the room are checked, then handed over.
+fn hand_over(file: &[u8], first: usize, n: usize, held: &mut [u32], bins: &mut [u32]) -> FileRead
+    requires { ⌜ n ≤ length (now held) ⌝ }
+    ensures { λ r. ⌜ fileSays r ≡ counted (fitsIn (length (now (bins .entry))) (readFrom (Bins n []) (now (file .entry)) first)) ⌝ }
+    ensures { λ _. ⌜ now (bins .exit) ≡ laid (fitsIn (length (now (bins .entry))) (readFrom (Bins n []) (now (file .entry)) first)) (now (bins .entry)) ⌝ }
+{
+    let read = read_bins(file, first, n, held);
+    let answer = in_room(read, bins.len());
+    copy_bins(held, kept(answer), bins);
+    answer
+}
+
 // The bins of a file into the first of the lent ones; 3 with its place where the file breaks the layout, then 10 where the bins are too few.
-// A refusal writes nothing, and the bins past the last one read stand as found.
+// A refusal writes nothing, and the bins past the last one read stand as found. A spectrum's few bins are held in a small array: a large one
+// takes longer to clear than they take to read.
 pub fn read_histogram(file: &[u8], bins: &mut [u32]) -> FileRead
     ensures { λ r. ⌜ fileSays r ≡ counted (readHistogramOf (now (file .entry)) (length (now (bins .entry)))) ⌝ }
     ensures { λ _. ⌜ now (bins .exit) ≡ laid (readHistogramOf (now (file .entry)) (length (now (bins .entry)))) (now (bins .entry)) ⌝ }
 {
-    let mut held = [0u32; MAX_FILE_BINS];
-    let answer = check(file, bins.len(), &mut held);
-    copy_bins(&held, kept(answer), bins);
-    answer
+    let form = number_at(file, 0, 1, 1);
+    let Number::Is(_, second) = form else {
+        return FileRead::Broken(0);
+    };
+    let count = number_at(file, second, 2, MAX_FILE_BINS as u64);
+    let Number::Is(n, first) = count else {
+        return FileRead::Broken(second);
+    };
+    if n <= FEW_BINS as u64 {
+        let mut few = [0u32; FEW_BINS];
+        return hand_over(file, first, n as usize, &mut few, bins);
+    }
+    let mut many = [0u32; MAX_FILE_BINS];
+    hand_over(file, first, n as usize, &mut many, bins)
 }

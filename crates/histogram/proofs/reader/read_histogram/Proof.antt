@@ -1,63 +1,146 @@
--- `histogram::reader::read_histogram` meets its contract: what is checked is held, and what is kept of it is copied. Assumes nothing.
+-- `histogram::reader::read_histogram` meets its contract: its two numbers are read here, and `hand_over` reads the rest. Assumes nothing.
 use Prim.Native.Nat.{ℕ, _≤_}
-use mathlib.Core.Path.{_∙_, ap}
-use mathlib.Core.List.{List}
-use native.Mathlib.Nat.{le-refl}
-use native.Mathlib.Omega.{arith}
-use lib.ListN.{length, take}
+use mathlib.Core.Path.{_≡_, sym, _∙_, ap}
+use mathlib.Core.List.{List, []}
+use lib.ListN.{length}
 use borrow.Author.Needs.{needs}
-use Rattle.histogram.specs.File.{mostBins, readOf}
-use Rattle.meaning.specs.Over.{over}
+use Rattle.meaning.specs.Reply.{Reply}
+use Rattle.histogram.specs.declared.number.Number.{Number}
+use Rattle.histogram.specs.declared.number.Number.the-variants as Number
+use Rattle.histogram.specs.File.{mostBins, count, bins as Bins, readFrom, readOf}
 use Rattle.histogram.specs.Lent.{laid, counted}
-use Rattle.histogram.specs.Read.{readHistogramOf, keptOf}
-use Rattle.histogram.proofs.Rooms.{kept-fits, says-counted, kept-laid}
+use Rattle.histogram.specs.Number.{between, numberAtOf, numberSays}
+use Rattle.histogram.specs.Read.{fitsIn, readHistogramOf}
+use Rattle.histogram.proofs.Bins.{form-read, form-broken, count-fits, count-read, count-broken}
 use Rattle.histogram.proofs.reader.read_histogram.Statement.{statement}
 use Rattle.histogram.proofs.reader.read_histogram.Tie as tie
 
-abbrev held : tie.After-check → List ℕ
-held c = c .check .last .1 .1 .0
+-- by what the file reads as
+module _ (file : List ℕ) (held : List ℕ) {x : Reply (List ℕ)} (e : readOf file ≡ x) where
+  said : counted (fitsIn (length held) x) ≡ counted (readHistogramOf file (length held))
+  unfolding readHistogramOf
+  said = ap (λ (y : Reply (List ℕ)). counted (fitsIn (length held) y)) (sym e)
 
--- what is kept is held, and fits
-kept-held : (c : tie.After-check) → keptOf (c .check .result) ≤ length (held c)
+  stands : laid (fitsIn (length held) x) held ≡ laid (readHistogramOf file (length held)) held
+  unfolding readHistogramOf
+  stands = ap (λ (y : Reply (List ℕ)). laid (fitsIn (length held) y) held) (sym e)
+
+number-at-requires : tie.Need-number-at-requires
+number-at-requires c κs = search needs
+
+enum-known-form : tie.Need-enum-known-form
+enum-known-form c = search needs
+
+enum-told : tie.Need-enum-told
+enum-told c = search needs
+
+returns : tie.Need-returns
+returns c =
+    let m = c .before .before in
+    let a = m .before .before .before .args in
+    let g = c .enum-told .given in
+    let e = form-broken (a .file .now) (g .0 .0) (sym (m .number-at .ensures) ∙ ap numberSays (g .1)) in
+    (said (a .file .now) (a .bins .now) e, stands (a .file .now) (a .bins .now) e)
+
+-- the form is read
+on : (m : tie.After-known-told) → (let a = m .before .before .before .before .before .before .args in readOf (a .file .now) ≡ readFrom count (a .file .now) (m .before .form .given .0 .1 .0))
+on m =
+    let a = m .before .before .before .before .before .before .args in
+    let g = m .before .form .given in
+    form-read (a .file .now) (record { value = g .0 .0; next = g .0 .1 .0 }) (sym (m .before .before .before .number-at .ensures) ∙ ap numberSays (g .1))
+
+number-at-requires-2 : tie.Need-number-at-requires-2
+number-at-requires-2 c κs = search needs
+
+enum-known-count : tie.Need-enum-known-count
+enum-known-count c = search needs
+
+enum-told-2 : tie.Need-enum-told-2
+enum-told-2 c = search needs
+
+returns-2 : tie.Need-returns-2
 unfolding mostBins
-kept-held c = omega (arith, c .check .ensures .0, c .check .kept .1 .1 .0)
+returns-2 c =
+    let m = c .before .before in
+    let a = m .before .before .before .before .before .before .before .args in
+    let g = c .enum-told2 .given in
+    let e = on (m .before) ∙ count-broken (a .file .now) (m .before .before .form .given .0 .1 .0) (g .0 .0) (sym (m .number-at2 .ensures) ∙ ap numberSays (g .1)) in
+    (said (a .file .now) (a .bins .now) e, stands (a .file .now) (a .bins .now) e)
 
-kept-room : (c : tie.After-check) → keptOf (c .check .result) ≤ length (c .before .before .before .before .args .bins .now)
-unfolding readHistogramOf
-kept-room c =
-    let a = c .before .before .before .before .args in
-    kept-fits (c .check .result) (held c) (length (a .bins .now)) (readOf (a .file .now)) (kept-held c) (c .check .ensures .1)
-
-slice-aggregate-check : tie.Need-slice-aggregate-check
-slice-aggregate-check c = search needs
-
-check-requires : tie.Need-check-requires
+-- the bin count
+number : (m : tie.After-known-told2) →
+    (let a = m .before .before .before .before .before .before .before .before .before .before .args in
+    let g = m .before .count .given in
+    numberAtOf (between 2 mostBins) (a .file .now) (m .before .before .before .before .before .form .given .0 .1 .0) ≡ numberSays (Number.Is (g .0 .0) (g .0 .1 .0)))
 unfolding mostBins
-check-requires c κs = le-refl mostBins
+number m = sym (m .before .before .before .number-at2 .ensures) ∙ ap numberSays (m .before .count .given .1)
 
-slice-aggregate-copy-bins : tie.Need-slice-aggregate-copy-bins
-slice-aggregate-copy-bins c = search needs
+few : (m : tie.After-known-told2) → m .before .count .given .0 .0 ≤ mostBins
+few m =
+    let a = m .before .before .before .before .before .before .before .before .before .before .args in
+    let g = m .before .count .given in
+    count-fits (a .file .now) (m .before .before .before .before .before .form .given .0 .1 .0) (record { value = g .0 .0; next = g .0 .1 .0 }) (number m)
 
-kept-requires : tie.Need-kept-requires
-kept-requires c κs = search needs
+-- and what the file reads as behind it
+behind : (m : tie.After-known-told2) →
+    (let a = m .before .before .before .before .before .before .before .before .before .before .args in
+    let g = m .before .count .given in
+    readOf (a .file .now) ≡ readFrom (Bins (g .0 .0) []) (a .file .now) (g .0 .1 .0))
+behind m =
+    let a = m .before .before .before .before .before .before .before .before .before .before .args in
+    let g = m .before .count .given in
+    on (m .before .before .before .before) ∙ count-read (a .file .now) (m .before .before .before .before .before .form .given .0 .1 .0) (record { value = g .0 .0; next = g .0 .1 .0 }) (number m)
 
-copy-bins-requires : tie.Need-copy-bins-requires
-copy-bins-requires c κs =
-    let k = c .before .before .before .before in
-    rw (c .before .kept .ensures) (kept-held k, kept-room k)
+slice-aggregate-hand-over : tie.Need-slice-aggregate-hand-over
+slice-aggregate-hand-over c = search needs
+
+hand-over-requires : tie.Need-hand-over-requires
+hand-over-requires c κs = search needs
 
 same-length : tie.Need-same-length
 same-length c = search needs
 
-returns : tie.Need-returns
-returns c =
-    let p = c .before .before in
-    let k = p .before .before .before .before .before in
-    let a = k .before .before .before .before .args in (
-      says-counted (k .check .result) (held k) (kept-held k) ∙ ap counted (k .check .ensures .1),
-      p .copy-bins .ensures ∙ ap (λ (n : ℕ). over (take n (held k)) (a .bins .now)) (p .before .before .kept .ensures) ∙ kept-laid (k .check .result) (held k) (a .bins .now) ∙ ap (λ x. laid x (a .bins .now)) (k .check .ensures .1),
-    )
+returns-3 : tie.Need-returns-3
+returns-3 c =
+    let h = c .before .before .before in
+    let m = h .before .before .before .before in
+    let a = m .before .before .before .before .before .before .before .before .before .before .args in
+    (h .hand-over .ensures .0 ∙ said (a .file .now) (a .bins .now) (behind m), h .hand-over .ensures .1 ∙ stands (a .file .now) (a .bins .now) (behind m))
+
+slice-aggregate-hand-over-2 : tie.Need-slice-aggregate-hand-over-2
+slice-aggregate-hand-over-2 c = search needs
+
+hand-over-requires-2 : tie.Need-hand-over-requires-2
+unfolding mostBins
+hand-over-requires-2 c κs = few (c .before .before .before)
+
+same-length-2 : tie.Need-same-length-2
+same-length-2 c = search needs
+
+returns-4 : tie.Need-returns-4
+returns-4 c =
+    let h = c .before .before .before in
+    let m = h .before .before .before .before in
+    let a = m .before .before .before .before .before .before .before .before .before .before .args in
+    (h .hand-over2 .ensures .0 ∙ said (a .file .now) (a .bins .now) (behind m), h .hand-over2 .ensures .1 ∙ stands (a .file .now) (a .bins .now) (behind m))
 
 pub read-histogram-spec : {M : Type 1} → statement M
 read-histogram-spec =
-    tie.close (tie.spec slice-aggregate-check check-requires slice-aggregate-copy-bins kept-requires copy-bins-requires same-length returns)
+    tie.close
+    (tie.spec
+    number-at-requires
+    enum-known-form
+    enum-told
+    returns
+    number-at-requires-2
+    enum-known-count
+    enum-told-2
+    returns-2
+    slice-aggregate-hand-over
+    hand-over-requires
+    same-length
+    returns-3
+    slice-aggregate-hand-over-2
+    hand-over-requires-2
+    same-length-2
+    returns-4)
