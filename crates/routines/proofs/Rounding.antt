@@ -73,7 +73,7 @@ none-dropped : (z p : ℕ) → z ≤ p → z - p ≡ 0
 none-dropped z p h = omega arith
 
 module _ (f : Format) (a c : ℕ) (C : 0 < c) where
-  scaled : Half (grid f a c * c) (a * 2 ^ low f) (c * 2 ^ drop (prec f) (a * 2 ^ low f) c)
+  pub scaled : Half (grid f a c * c) (a * 2 ^ low f) (c * 2 ^ drop (prec f) (a * 2 ^ low f) c)
   scaled =
       let N = a * 2 ^ low f in
       let k = drop (prec f) N c in
