@@ -9,7 +9,7 @@ use lib.Dec.{lit≤, lit<}
 use lib.Ieee.{Float, binary64, add, mul, ofBits}
 use Rattle.routines.specs.Exp.{hpoly, half, C3, C4, C5, C6}
 use Rattle.accuracy.proofs.Floats.{Close, plus, less-of, plus-le, less-le, unlike-self, unlike-plus}
-use Rattle.accuracy.proofs.Units.{L, e, L-pos, L-is, Is, power, pair-of, mul-w, add-w, fit, sized-by}
+use Rattle.accuracy.proofs.Units.{L, e, L-pos, L-is, Is, power, pair-of, mul-w, add-w, fit, sized-by, small-e, halves}
 use Rattle.accuracy.proofs.Horner.{by-constant, times-z, close-weak}
 use Rattle.accuracy.proofs.Approx.{S, c3, c4, c5, c6}
 
@@ -116,22 +116,6 @@ k-num-nine : 1 * 52 * L < 8000 * 100 * (2 ^ 54 * (2 ^ 14 * e))
 unfolding L e
 k-num-nine = lit< tt
 
-w14 : 1048576 * (2 ^ 14 * e) ≤ L
-unfolding L e
-w14 = lit≤ tt
-
-w18 : 1048576 * (2 ^ 18 * e) ≤ L
-unfolding L e
-w18 = lit≤ tt
-
-w22 : 1048576 * (2 ^ 22 * e) ≤ L
-unfolding L e
-w22 = lit≤ tt
-
-w26 : 1048576 * (2 ^ 26 * e) ≤ L
-unfolding L e
-w26 = lit≤ tt
-
 x22 : 16 * (2 ^ 54 * (2 ^ 22 * e)) ≡ L
 unfolding L e
 x22 = refl
@@ -139,10 +123,6 @@ x22 = refl
 x26 : 2 ^ 54 * (2 ^ 26 * e) ≡ L
 unfolding L e
 x26 = refl
-
-pub halves : 2 * (2 ^ 79 * e) ≡ L
-unfolding L e
-halves = refl
 
 c4-size : (24 * (c4 * l) ≤ L) × (L ≤ 25 * (c4 * l))
 unfolding L e
@@ -168,7 +148,8 @@ module _ (r : Float) (σ : Bool) (R : ℕ) (hr : Is r σ R) (small : 1000 * R �
       (p .0, subst (λ (z : Bool). Is (f0 r) z (p .0)) (unlike-self σ) (p .1), p .2)
 
   Z-small : 8000 * (zed .0) ≤ L
-  Z-small = go L (zed .0) (2 ^ 14 * e) w14 (sized-by 1000 11 1000 11 R R (zed .0) (2 ^ 14 * e) L L-pos small small
+  Z-small = go L (zed .0) (2 ^ 14 * e) (small-e 14 (lit≤ tt)) (sized-by 1000 11 1000 11 R R (zed .0) (2 ^ 14 * e) L
+      L-pos small small
       (zed .2 .0))
     where
       go : (L z w : ℕ) → 1048576 * w ≤ L → 1000 * 1000 * z ≤ 11 * 11 * L + 1000 * 1000 * w → 8000 * z ≤ L
@@ -193,13 +174,13 @@ module _ (r : Float) (σ : Bool) (R : ℕ) (hr : Is r σ R) (small : 1000 * R �
       )
 
   one-small : 500 * one .0 ≤ L
-  one-small = go L (one .0) R (2 ^ 18 * e) w18 small (one .2 .0)
+  one-small = go L (one .0) R (2 ^ 18 * e) (small-e 18 (lit≤ tt)) small (one .2 .0)
     where
       go : (L g R w : ℕ) → 1048576 * w ≤ L → 1000 * R ≤ 11 * L → S * g ≤ c3 * R + S * w → 500 * g ≤ L
       go L g R w q h k = omega arith
 
   three-small : 8000 * three .0 ≤ L
-  three-small = go L (three .0) R (2 ^ 14 * e) w14 small (three .2 .0)
+  three-small = go L (three .0) R (2 ^ 14 * e) (small-e 14 (lit≤ tt)) small (three .2 .0)
     where
       go : (L g R w : ℕ) → 1048576 * w ≤ L → 1000 * R ≤ 11 * L → S * g ≤ c5 * R + S * w → 8000 * g ≤ L
       go L g R w q h k = omega arith
@@ -215,7 +196,7 @@ module _ (r : Float) (σ : Bool) (R : ℕ) (hr : Is r σ R) (small : 1000 * R �
       once x = omega arith
 
   five-small : 8000 * five .0 ≤ L
-  five-small = go L (five .0) (zed .0) (2 ^ 14 * e) w14 Z-small (five .2 .0)
+  five-small = go L (five .0) (zed .0) (2 ^ 14 * e) (small-e 14 (lit≤ tt)) Z-small (five .2 .0)
     where
       go : (L g z w : ℕ) → 1048576 * w ≤ L → 8000 * z ≤ L → S * g ≤ c6 * z + S * w → 8000 * g ≤ L
       go L g z w q h k = omega arith
@@ -226,7 +207,7 @@ module _ (r : Float) (σ : Bool) (R : ℕ) (hr : Is r σ R) (small : 1000 * R �
       (pair-of half false (2 ^ 79 * e) half-is) (pair-of (f1 r) σ (one .0) (one .1))
       (a L (one .0) (plus σ (one .0)) (less-of σ (one .0)) (2 ^ 79 * e) (2 ^ 54 * (2 ^ 26 * e)) L-pos halves x26
       one-small (plus-le σ (one .0))) (b L (one .0) (plus σ (one .0)) (less-of σ (one .0)) (2 ^ 79 * e)
-      (2 ^ 26 * e) L-pos halves w26 one-small (less-le σ (one .0)))
+      (2 ^ 26 * e) L-pos halves (small-e 26 (lit≤ tt)) one-small (less-le σ (one .0)))
     where
       a : (L g p m H X : ℕ) → 0 < L → 2 * H ≡ L → X ≡ L → 500 * g ≤ L → p ≤ g → H + p < 0 + m + X
       a L g p m H X h q x k n = omega arith
@@ -240,7 +221,7 @@ module _ (r : Float) (σ : Bool) (R : ℕ) (hr : Is r σ R) (small : 1000 * R �
       (pair-of C4 false (c4 * l) C4-is) (pair-of (f3 r) σ (three .0) (three .1))
       (a L (three .0) (plus σ (three .0)) (less-of σ (three .0)) (c4 * l) (2 ^ 54 * (2 ^ 22 * e)) L-pos (c4-size .0)
       x22 three-small (plus-le σ (three .0))) (b L (three .0) (plus σ (three .0)) (less-of σ (three .0)) (c4 * l)
-      (2 ^ 22 * e) L-pos (c4-size .1) w22 three-small (less-le σ (three .0)))
+      (2 ^ 22 * e) L-pos (c4-size .1) (small-e 22 (lit≤ tt)) three-small (less-le σ (three .0)))
     where
       a : (L g p m H X : ℕ) → 0 < L → 24 * H ≤ L → 16 * X ≡ L → 8000 * g ≤ L → p ≤ g → H + p < 0 + m + X
       a L g p m H X h q x k n = omega arith
@@ -250,14 +231,15 @@ module _ (r : Float) (σ : Bool) (R : ℕ) (hr : Is r σ R) (small : 1000 * R �
 
   four-size : (23 * four .0 ≤ L) × (L ≤ 30 * four .0)
   four-size = go L (three .0) (plus σ (three .0)) (less-of σ (three .0)) (four .0) (c4 * l) (2 ^ 22 * e) L-pos c4-size
-      w22 three-small (plus-le σ (three .0)) (less-le σ (three .0)) (four .2 .0) (four .2 .1)
+      (small-e 22 (lit≤ tt)) three-small (plus-le σ (three .0)) (less-le σ (three .0)) (four .2 .0) (four .2 .1)
     where
       go : (L g p m f H w : ℕ) → 0 < L → (24 * H ≤ L) × (L ≤ 25 * H) → 1048576 * w ≤ L → 8000 * g ≤ L → p ≤ g → m ≤ g
           → f + (0 + m) ≤ H + p + w → H + p ≤ f + (0 + m) + w → (23 * f ≤ L) × (L ≤ 30 * f)
       go L g p m f H w h q x k n o a b = (omega (arith, q .0), omega (arith, q .1))
 
   two-size : (100 * two .0 ≤ 51 * L) × (L ≤ 3 * two .0)
-  two-size = go L (one .0) (plus σ (one .0)) (less-of σ (one .0)) (two .0) (2 ^ 79 * e) (2 ^ 26 * e) L-pos halves w26
+  two-size = go L (one .0) (plus σ (one .0)) (less-of σ (one .0)) (two .0) (2 ^ 79 * e) (2 ^ 26 * e) L-pos halves
+      (small-e 26 (lit≤ tt))
       one-small (plus-le σ (one .0)) (less-le σ (one .0)) (two .2 .0) (two .2 .1)
     where
       go : (L g p m f H w : ℕ) → 0 < L → 2 * H ≡ L → 1048576 * w ≤ L → 500 * g ≤ L → p ≤ g → m ≤ g
@@ -268,7 +250,7 @@ module _ (r : Float) (σ : Bool) (R : ℕ) (hr : Is r σ R) (small : 1000 * R �
   six = add-w (f4 r) (f5 r) (four .0) 0 (five .0) 0 (2 ^ 22 * e) (power 22 (lit≤ tt))
       (pair-of (f4 r) false (four .0) (four .1)) (pair-of (f5 r) false (five .0) (five .1))
       (a L (four .0) (five .0) (2 ^ 54 * (2 ^ 22 * e)) L-pos x22 (four-size .0) five-small)
-      (b L (four .0) (five .0) (2 ^ 22 * e) L-pos w22 (four-size .1))
+      (b L (four .0) (five .0) (2 ^ 22 * e) L-pos (small-e 22 (lit≤ tt)) (four-size .1))
     where
       a : (L f g X : ℕ) → 0 < L → 16 * X ≡ L → 23 * f ≤ L → 8000 * g ≤ L → f + g < 0 + 0 + X
       a L f g X h q k n = omega arith
@@ -280,7 +262,8 @@ module _ (r : Float) (σ : Bool) (R : ℕ) (hr : Is r σ R) (small : 1000 * R �
   six-close = (omega (arith, six .2 .0), omega (arith, six .2 .1))
 
   six-small : 22 * six .0 ≤ L
-  six-small = go L (four .0) (five .0) (six .0) (2 ^ 22 * e) w22 (four-size .0) five-small (six-close .0)
+  six-small = go L (four .0) (five .0) (six .0) (2 ^ 22 * e) (small-e 22 (lit≤ tt)) (four-size .0) five-small
+      (six-close .0)
     where
       go : (L f g s w : ℕ) → 1048576 * w ≤ L → 23 * f ≤ L → 8000 * g ≤ L → s ≤ f + g + w → 22 * s ≤ L
       go L f g s w q k n m = omega arith
@@ -293,7 +276,8 @@ module _ (r : Float) (σ : Bool) (R : ℕ) (hr : Is r σ R) (small : 1000 * R �
       (fit 8000 1 22 1 (zed .0) (six .0) L (2 ^ 54 * (2 ^ 14 * e)) L-pos zl (omega (arith, six-small)) k-num-seven)
 
   seven-small : 8000 * seven .0 ≤ L
-  seven-small = go L (seven .0) (2 ^ 14 * e) w14 (sized-by 8000 1 22 1 (zed .0) (six .0) (seven .0) (2 ^ 14 * e) L
+  seven-small = go L (seven .0) (2 ^ 14 * e) (small-e 14 (lit≤ tt)) (sized-by 8000 1 22 1 (zed .0) (six .0) (seven .0)
+      (2 ^ 14 * e) L
       L-pos zl (omega (arith, six-small)) (seven .2 .0))
     where
       go : (L z w : ℕ) → 1048576 * w ≤ L → 8000 * 22 * z ≤ 1 * 1 * L + 8000 * 22 * w → 8000 * z ≤ L
@@ -303,7 +287,7 @@ module _ (r : Float) (σ : Bool) (R : ℕ) (hr : Is r σ R) (small : 1000 * R �
   eight = add-w (f2 r) (f7 r) (two .0) 0 (seven .0) 0 (2 ^ 26 * e) (power 26 (lit≤ tt))
       (pair-of (f2 r) false (two .0) (two .1)) (pair-of (f7 r) false (seven .0) (seven .1))
       (a L (two .0) (seven .0) (2 ^ 54 * (2 ^ 26 * e)) L-pos x26 (two-size .0) seven-small)
-      (b L (two .0) (seven .0) (2 ^ 26 * e) L-pos w26 (two-size .1))
+      (b L (two .0) (seven .0) (2 ^ 26 * e) L-pos (small-e 26 (lit≤ tt)) (two-size .1))
     where
       a : (L f g X : ℕ) → 0 < L → X ≡ L → 100 * f ≤ 51 * L → 8000 * g ≤ L → f + g < 0 + 0 + X
       a L f g X h q k n = omega arith
@@ -315,7 +299,8 @@ module _ (r : Float) (σ : Bool) (R : ℕ) (hr : Is r σ R) (small : 1000 * R �
   eight-close = (omega (arith, eight .2 .0), omega (arith, eight .2 .1))
 
   eight-small : 100 * eight .0 ≤ 52 * L
-  eight-small = go L (two .0) (seven .0) (eight .0) (2 ^ 26 * e) w26 (two-size .0) seven-small (eight-close .0)
+  eight-small = go L (two .0) (seven .0) (eight .0) (2 ^ 26 * e) (small-e 26 (lit≤ tt)) (two-size .0) seven-small
+      (eight-close .0)
     where
       go : (L f g s w : ℕ) → 1048576 * w ≤ L → 100 * f ≤ 51 * L → 8000 * g ≤ L → s ≤ f + g + w → 100 * s ≤ 52 * L
       go L f g s w q k n m = omega arith
@@ -325,7 +310,8 @@ module _ (r : Float) (σ : Bool) (R : ℕ) (hr : Is r σ R) (small : 1000 * R �
       (fit 8000 1 100 52 (zed .0) (eight .0) L (2 ^ 54 * (2 ^ 14 * e)) L-pos zl eight-small k-num-nine)
 
   nine-small : 4000 * nine .0 ≤ L
-  nine-small = go L (nine .0) (2 ^ 14 * e) w14 (sized-by 8000 1 100 52 (zed .0) (eight .0) (nine .0) (2 ^ 14 * e) L
+  nine-small = go L (nine .0) (2 ^ 14 * e) (small-e 14 (lit≤ tt))
+      (sized-by 8000 1 100 52 (zed .0) (eight .0) (nine .0) (2 ^ 14 * e) L
       L-pos zl eight-small (nine .2 .0))
     where
       go : (L z w : ℕ) → 1048576 * w ≤ L → 8000 * 100 * z ≤ 1 * 52 * L + 8000 * 100 * w → 4000 * z ≤ L
