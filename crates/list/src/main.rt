@@ -1,5 +1,6 @@
 // Lists the histogram file on standard input: its bins, or the place where it is refused.
 mod input;
+mod output;
 mod status;
 
 ghost use mathlib.Core.Path.{_≡_};
@@ -21,6 +22,7 @@ use libc::STDOUT_FILENO;
 use listing::text::LONGEST_LISTING;
 use listing::text::list_histogram;
 use listing::text::list_refusal;
+use output::write_output;
 use status::asks_status;
 use status::tell;
 
@@ -62,7 +64,7 @@ fn list(file: &[u8], text: &mut [u8]) -> usize
 fn show(file: &[u8], status: bool) {
     let mut text = [0u8; LONGEST_LISTING];
     let size = list(file, &mut text);
-    if io::write_all(STDOUT_FILENO, &text[..size]) && libc::close(STDOUT_FILENO) == 0 {
+    if write_output(&text[..size]) && libc::close(STDOUT_FILENO) == 0 {
         if status {
             // `bins` or `refused`
             tell(text[0] == b'b');
