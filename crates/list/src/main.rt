@@ -1,4 +1,8 @@
 // Lists the histogram file on standard input: its bins, or the place where it is refused.
+mod input;
+mod output;
+mod status;
+
 ghost use mathlib.Core.Path.{_≡_};
 ghost use Prim.Native.Nat.{_+_, _≤_};
 ghost use lib.ListN.{length, take};
@@ -11,11 +15,16 @@ use histogram::reader::LONGEST_FILE;
 use histogram::reader::MAX_FILE_BINS;
 use histogram::reader::read_histogram;
 use histogram::writer::Written;
-use libc::STDIN_FILENO;
+use input::Input;
+use input::read_input;
+use libc::STDERR_FILENO;
 use libc::STDOUT_FILENO;
 use listing::text::LONGEST_LISTING;
 use listing::text::list_histogram;
 use listing::text::list_refusal;
+use output::write_output;
+use status::asks_status;
+use status::tell;
 
 // One byte more than the longest accepted file has.
 const ENOUGH: usize = LONGEST_FILE + 1;
@@ -51,10 +60,33 @@ fn list(file: &[u8], text: &mut [u8]) -> usize
     }
 }
 
-fn main() {
-    let mut file = first_bytes();
-    let n = io::read_full(STDIN_FILENO, &mut file);
+// Writes a file's listing, and closes standard output, since some disks tell of a failed write only then.
+fn show(file: &[u8], status: bool) {
     let mut text = [0u8; LONGEST_LISTING];
-    let size = list(&file[..n], &mut text);
-    io::write_all(STDOUT_FILENO, &text[..size]);
+    let size = list(file, &mut text);
+    if write_output(&text[..size]) && libc::close(STDOUT_FILENO) == 0 {
+        if status {
+            // `bins` or `refused`
+            tell(text[0] == b'b');
+        }
+    } else {
+        os::fail(b"list: writing");
+    }
+}
+
+fn main() {
+    let status = asks_status();
+    if os::arg_count() > 1 && !status {
+        io::write_all(
+            STDERR_FILENO,
+            b"list: it takes no arguments and reads standard input; fogatise list takes a FILE\n",
+        );
+        return;
+    }
+    let mut file = first_bytes();
+    let input = read_input(&mut file);
+    match input {
+        Input::Bytes(n) => show(&file[..n], status),
+        Input::Failed => os::fail(b"list: reading"),
+    }
 }
