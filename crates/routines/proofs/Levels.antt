@@ -10,7 +10,8 @@ use lib.Dec.{T, ltb, eqb, eqb→eq}
 use lib.Ieee.{Float, nan, inf, fin, binary64, up, down, round, sum, neg, sub, eq}
 use lib.Ieee.Fits.{down-pos, and-l, and-r}
 use lib.Ieee.Scale.{finite}
-use Rattle.routines.specs.Exp.{expOf, one}
+use Rattle.routines.specs.Constants.{one}
+use Rattle.routines.specs.Exp.{expOf}
 use Rattle.routines.proofs.Tests.{yes}
 use Rattle.routines.proofs.Products.{zero-rounds}
 use Rattle.routines.proofs.Special.{exp-zero}

@@ -17,7 +17,6 @@ pub mod Rows
 pub mod Patterns
 pub mod Powers
 pub mod Logs
-pub mod Commutes
 pub mod Rounding
 pub mod Values
 pub mod Compared

@@ -12,8 +12,7 @@ use lib.Ieee.{Float, nan, inf, fin, binary64, up, down, ofBits, lt, le, eq, isNa
 use lib.Ieee.Back.{whole-unique}
 use lib.Ieee.Bits.{is-true}
 use lib.Ieee.Fits.{eq→eqb, up-pos, down-pos, and-l, and-r}
-use Rattle.routines.specs.Exp.{one}
-use Rattle.routines.specs.Exp.{zero as nought}
+use Rattle.routines.specs.Constants.{one, zero as nought}
 use Rattle.routines.specs.Held.{atLeast, atMost}
 use Rattle.routines.specs.Signs.{signClear}
 use Rattle.routines.proofs.Tests.{yes}

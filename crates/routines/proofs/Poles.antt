@@ -10,11 +10,11 @@ use lib.Dec.{T, ltb, eqb, eqb-refl}
 use lib.Ieee.{Float, inf, fin, binary64, up, down, ofBits, neg, lt, le, eq, fits}
 use lib.Ieee.Bits.{is-true}
 use lib.Ieee.Fits.{down-pos, eq→eqb}
-use Rattle.routines.specs.Exp.{zero as nought}
+use Rattle.routines.specs.Constants.{zero as nought}
+use Rattle.routines.specs.Signs.{zeroWith}
 use Rattle.routines.specs.Whole.{floorOf, downward}
 use Rattle.routines.specs.Lgamma.{lgammaOf, belowZero, aboveZero}
 use Rattle.routines.proofs.Sizes.{as-it-is}
-use Rattle.routines.proofs.Special.{zeroWith}
 
 pub lgamma-zero : (s : Bool) → lgammaOf (zeroWith s) ≡ inf false
 unfolding lgammaOf belowZero floorOf ofBits neg lt le eq lib.Ieee.round

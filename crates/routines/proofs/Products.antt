@@ -14,8 +14,7 @@ use lib.Ieee.Fits.{down-pos, up-pos, and-l}
 use lib.Ieee.Exact.{HasValue, round-exact}
 use lib.Ieee.Order.{round-mono}
 use lib.Ieee.Scale.{round-same}
-use Rattle.routines.specs.Exp.{one}
-use Rattle.routines.specs.Exp.{zero as nought}
+use Rattle.routines.specs.Constants.{one, zero as nought}
 use Rattle.routines.proofs.Tests.{yes}
 use Rattle.routines.proofs.Patterns.{rounded-are}
 use Rattle.routines.proofs.Sizes.{in-units, neg-round}

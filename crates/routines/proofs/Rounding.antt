@@ -15,6 +15,7 @@ use lib.Ieee.Fits.{two}
 use lib.Ieee.Nearest.{closest}
 use lib.Ieee.Order.{drop}
 use lib.Ieee.Scale.{grid}
+use Rattle.routines.specs.Units.{Off}
 
 -- ---- what `compare` says (`lib.Ieee.Nearest` has the same, private)
 abbrev Cmp : Ordering → ℕ → ℕ → Type 0
@@ -53,10 +54,6 @@ closest-near n u h =
     subst (λ (x : ℕ). Half (closest n u * u) x u) (div-add-mod' n u) (near (n / u) (n % u) u (compare (n % u * 2) u) (cmp (n % u * 2) u) (mod-lt n h))
 
 -- ---- a fraction a / c rounded: `grid f a c` units for a * 2 ^ low f / c
--- g is n up to n / P either way
-abbrev pub Off : ℕ → ℕ → ℕ → Type 0
-Off P g n = (g * P ≤ n * P + n) × (n * P ≤ g * P + n)
-
 dropped : (P H g n u : ℕ) → P ≡ 2 * H → H * u ≤ n → Half g n u → Off P g n
 dropped P H g n u e d h =
     let a : g * 2 * H ≤ (n * 2 + u) * H = mul-le-mul-right H (h .0) in

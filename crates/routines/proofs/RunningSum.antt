@@ -3,12 +3,7 @@
 use Prim.Native.Nat.{ℕ, suc, _+_, _*_, _^_, _≤_, _<_}
 use native.Mathlib.Nat.{le-trans, mul-le-mul-right}
 use native.Mathlib.Omega.{arith}
-use Rattle.routines.proofs.Rounding.{Off}
-
--- s is e up to 2 * k * e / 2 ^ 53
-pub record Near (k s e : ℕ) : Type 0 where
-  pub over : s * 2 ^ 53 ≤ e * 2 ^ 53 + 2 * (k * e)
-  pub under : e * 2 ^ 53 ≤ s * 2 ^ 53 + 2 * (k * e)
+use Rattle.routines.specs.Units.{Off, Near}
 
 pub near-start : (s : ℕ) → Near 1 s s
 near-start s = record { over = omega arith; under = omega arith }

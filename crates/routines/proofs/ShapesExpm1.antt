@@ -10,9 +10,9 @@ use lib.Dec.{eqb, eqb→eq}
 use lib.Ieee.{Float, nan, inf, fin, up, down, ofBits, neg, lt, le, eq}
 use lib.Ieee.Fits.{down-pos, and-l}
 use Rattle.routines.specs.Held.{atLeast, atMost}
-use Rattle.routines.specs.Exp.{expOf, one}
-use Rattle.routines.specs.Exp.{zero as nought}
-use Rattle.routines.specs.Expm1.{expm1Of, teeM, lessOne, besideMinusOne, farOut, minusOne, LEAST, MOST}
+use Rattle.routines.specs.Constants.{one, zero as nought, minusOne}
+use Rattle.routines.specs.Exp.{expOf}
+use Rattle.routines.specs.Expm1.{expm1Of, teeM, lessOne, besideMinusOne, farOut, LEAST, MOST}
 use Rattle.routines.proofs.Orders.{less-le, le-split, at-most-le, at-least-ge, at-most-has, not-below, one-above-zero}
 use Rattle.routines.proofs.Tests.{yes}
 use Rattle.routines.proofs.Shapes.{zero-level, exp-at-least-one}

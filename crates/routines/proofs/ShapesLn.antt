@@ -10,10 +10,9 @@ use lib.IntN.{ℤ, pos}
 use lib.Dec.{T, ltb, eqb, eqb→eq, lit≤}
 use lib.Ieee.{Float, nan, inf, fin, binary64, up, down, ofBits, mul, lt, le, eq, fits}
 use lib.Ieee.Fits.{add-fits, cond-fits, inf-fits, nan-fits, down-pos, up-pos, and-l}
-use Rattle.routines.specs.Exp.{one}
-use Rattle.routines.specs.Exp.{zero as nought}
+use Rattle.routines.specs.Constants.{one, zero as nought}
 use Rattle.routines.specs.Signs.{signClear}
-use Rattle.routines.specs.Ln.{lnOf, lnCore, besideZero, notAboveZero, NORMAL, LARGEST, SCALE, OFFSET, SCALEDOFFSET}
+use Rattle.routines.specs.Ln.{lnOf, lnCore, besideZero, notAboveZero, NORMAL, LARGEST, SCALE, OFFSET, SCALED-OFFSET}
 use Rattle.routines.proofs.Tests.{yes}
 use Rattle.routines.proofs.Orders.{less-le, one-above-zero, above-clear}
 use Rattle.routines.proofs.Shapes.{zero-level}
@@ -25,10 +24,10 @@ unfolding lnOf
 ln-by x P large inside outside = go (le NORMAL x) (lt LARGEST x) refl (lt nought x) refl
   where
     go : (a b : Bool) → lt LARGEST x ≡ b → (c : Bool) → lt nought x ≡ c
-        → P (cond a (cond b x (besideZero x (lnCore x OFFSET))) (cond c (besideZero x (lnCore (mul binary64 x SCALE) SCALEDOFFSET)) (notAboveZero x)))
+        → P (cond a (cond b x (besideZero x (lnCore x OFFSET))) (cond c (besideZero x (lnCore (mul binary64 x SCALE) SCALED-OFFSET)) (notAboveZero x)))
     go true true l c e = large l
     go true false l c e = inside (lnCore x OFFSET) (unfold lnCore in add-fits binary64 _ _)
-    go false b l true e = inside (lnCore (mul binary64 x SCALE) SCALEDOFFSET) (unfold lnCore in add-fits binary64 _ _)
+    go false b l true e = inside (lnCore (mul binary64 x SCALE) SCALED-OFFSET) (unfold lnCore in add-fits binary64 _ _)
     go false b l false e = outside e
 
 -- a property of the last step

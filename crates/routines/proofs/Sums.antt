@@ -7,8 +7,8 @@ use lib.Dec.{T}
 use lib.Ieee.{Float, Format, binary64, add, lt, le}
 use lib.Ieee.Fits.{add-fits}
 use lib.Ieee.Scale.{overflow}
-use Rattle.routines.specs.Units.{unitsIn, unitsOf, NonNegative, Within}
-use Rattle.routines.proofs.Rounding.{Off, rounded, rounded-off}
+use Rattle.routines.specs.Units.{unitsIn, unitsOf, NonNegative, Within, Off}
+use Rattle.routines.proofs.Rounding.{rounded, rounded-off}
 use Rattle.routines.proofs.Values.{holds-units, units-held, add-holds}
 use Rattle.routines.proofs.Compared.{lt-is, le-is}
 

@@ -15,8 +15,8 @@ use lib.Ieee.Exact.{HasValue, units-val}
 use lib.Ieee.Order.{drop, kept}
 use lib.Ieee.Scale.{finite, grid, overflow, round-same}
 use lib.Ieee.Positive.{num, den, den-pos}
-use Rattle.routines.specs.Units.{unitsIn, negative, NonNegative}
-use Rattle.routines.proofs.Rounding.{Off, rounded, rounded-off}
+use Rattle.routines.specs.Units.{unitsIn, negative, NonNegative, Off}
+use Rattle.routines.proofs.Rounding.{rounded, rounded-off}
 
 -- x is a units: finite and not negative, but perhaps -0
 pub record Holds (f : Format) (x : Float) (a : ℕ) : Type 0 where

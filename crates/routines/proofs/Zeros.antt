@@ -14,7 +14,7 @@ use lib.Ieee.Digits.{size-reaches, size-lt}
 use lib.Ieee.Exact.{HasValue, odd-sign}
 use lib.Ieee.Fits.{up-pos, down-pos, round-is}
 use lib.Ieee.Nearest.{closest, nearest-ge}
-use Rattle.routines.specs.Exp.{one}
+use Rattle.routines.specs.Constants.{one}
 use Rattle.routines.proofs.Orders.{one-above-zero}
 use Rattle.routines.proofs.Patterns.{rounded-are}
 use Rattle.routines.proofs.Products.{or-le}

@@ -2,7 +2,8 @@
 use borrow.Author.Needs.{needs}
 use mathlib.Core.Path.{sym, ap, _∙_}
 use lib.Ieee.{Float}
-use Rattle.routines.specs.Exp.{besideOne, one}
+use Rattle.routines.specs.Constants.{one}
+use Rattle.routines.specs.Exp.{besideOne}
 use Rattle.routines.specs.Held.{atMost}
 use Rattle.routines.proofs.exp.beside_one.Statement.{statement}
 use Rattle.routines.proofs.exp.beside_one.Tie as tie

@@ -1,7 +1,7 @@
 -- `routines::expm1::beside_minus_one` meets its contract. Assumes nothing.
 use mathlib.Core.Path.{ap, _∙_}
 use lib.Ieee.{Float}
-use Rattle.routines.specs.Exp.{zero}
+use Rattle.routines.specs.Constants.{zero}
 use Rattle.routines.specs.Expm1.{besideMinusOne}
 use Rattle.routines.specs.Held.{atMost}
 use borrow.Author.Needs.{needs}
