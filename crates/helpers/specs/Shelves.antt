@@ -9,7 +9,7 @@ use Rattle.meaning.specs.Fold.{fold}
 use Rattle.meaning.specs.Over.{over}
 use Rattle.meaning.specs.Reply.{Reply, give, chain, test, onGive}
 use Rattle.routines.specs.Exp as exp
-use Rattle.routines.specs.Exp.{one}
+use Rattle.routines.specs.Constants.{one}
 use Rattle.routines.specs.Lgamma.{lgammaOf}
 use Rattle.routines.specs.Ln.{lnOf}
 use Rattle.routines.specs.Ops.{_⊕_, _⊖_, ofCount}
