@@ -1,13 +1,13 @@
 -- The difference of two values that are level, one of them finite, is a zero; so its exponential is 1. Assumes nothing.
-use mathlib.Core.Path.{_≡_, refl, sym, ap, _∙_, subst}
-use mathlib.Core.Bool.{Bool, true, false, not, _&&_, _||_, Bool·beq, cond, true≢false, false≢true}
-use Prim.Native.Nat.{ℕ, _+_, _-_, _*_, _≤_, _<_}
+use mathlib.Core.Path.{_≡_, sym, ap, _∙_}
+use mathlib.Core.Bool.{Bool, true, false, not, _&&_, _||_, Bool·beq, false≢true}
+use Prim.Native.Nat.{ℕ, _+_, _-_, _*_, _<_}
 use native.Mathlib.Nat.{mul-pos, le-of-eq}
 use native.Mathlib.Omega.{arith}
 use borrow.Author.Tests.{le-ltb}
-use lib.IntN.{ℤ, pos}
-use lib.Dec.{T, ltb, eqb, eqb→eq}
-use lib.Ieee.{Float, nan, inf, fin, binary64, up, down, round, sum, neg, sub, eq}
+use lib.IntN.{pos}
+use lib.Dec.{eqb, eqb→eq}
+use lib.Ieee.{Float, nan, inf, fin, binary64, up, down, sum, neg, sub, eq}
 use lib.Ieee.Fits.{down-pos, and-l, and-r}
 use lib.Ieee.Scale.{finite}
 use Rattle.routines.specs.Constants.{one}

@@ -2,16 +2,16 @@
 use mathlib.Core.Path.{_≡_, refl, sym, ap, _∙_, subst}
 use mathlib.Core.Logic.{_⊎_, inl, inr, ⊎-elim}
 use mathlib.Core.Bool.{Bool, true, false, not, _&&_, _||_, Bool·beq, cond, true≢false, false≢true}
-use Prim.Native.Nat.{ℕ, zero, suc, _+_, _*_, _≤_, _<_, zero-le}
+use Prim.Native.Nat.{ℕ, _+_, _*_, _≤_, _<_}
 use native.Mathlib.Nat.{zero-mul, le-antisymm, le-of-eq, le-of-lt}
 use native.Mathlib.Omega.{arith}
 use borrow.Author.Tests.{ltb-true, ltb-false, le-ltb, lt-ltb}
 use lib.IntN.{ℤ, pos}
-use lib.Dec.{T, ltb, eqb, eqb→eq, eqb-refl}
+use lib.Dec.{T, ltb, eqb, eqb→eq}
 use lib.Ieee.{Float, nan, inf, fin, binary64, up, down, ofBits, lt, le, eq, isNan, fits}
 use lib.Ieee.Back.{whole-unique}
 use lib.Ieee.Bits.{is-true}
-use lib.Ieee.Fits.{eq→eqb, up-pos, down-pos, and-l, and-r}
+use lib.Ieee.Fits.{eq→eqb, down-pos, and-l, and-r}
 use Rattle.routines.specs.Constants.{one, zero as nought}
 use Rattle.routines.specs.Held.{atLeast, atMost}
 use Rattle.routines.specs.Signs.{signClear}

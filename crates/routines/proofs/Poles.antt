@@ -1,19 +1,19 @@
 -- lgamma at 0, at -0 and at every negative whole number is +inf. Assumes nothing.
-use mathlib.Core.Path.{_≡_, refl, sym, ap, _∙_}
+use mathlib.Core.Path.{_≡_, refl, ap, _∙_}
 use mathlib.Core.Bool.{Bool, true, false, _||_, _&&_}
 use Prim.Native.Nat.{ℕ, _+_, _*_, _/_, _≤_}
-use native.Mathlib.Nat.{mul-div-cancel, zero-mul, le-antisymm, mul-one}
+use native.Mathlib.Nat.{mul-div-cancel, zero-mul}
 use native.Mathlib.Omega.{arith}
 use borrow.Author.Tests.{ltb-false}
 use lib.IntN.{ℤ}
 use lib.Dec.{T, ltb, eqb, eqb-refl}
-use lib.Ieee.{Float, inf, fin, binary64, up, down, ofBits, neg, lt, le, eq, fits}
+use lib.Ieee.{inf, fin, binary64, up, down, ofBits, neg, lt, le, eq, fits}
 use lib.Ieee.Bits.{is-true}
-use lib.Ieee.Fits.{down-pos, eq→eqb}
+use lib.Ieee.Fits.{down-pos}
 use Rattle.routines.specs.Constants.{zero as nought}
 use Rattle.routines.specs.Signs.{zeroWith}
-use Rattle.routines.specs.Whole.{floorOf, downward}
-use Rattle.routines.specs.Lgamma.{lgammaOf, belowZero, aboveZero}
+use Rattle.routines.specs.Whole.{floorOf}
+use Rattle.routines.specs.Lgamma.{lgammaOf, belowZero}
 use Rattle.routines.proofs.Sizes.{as-it-is}
 
 pub lgamma-zero : (s : Bool) → lgammaOf (zeroWith s) ≡ inf false

@@ -1,13 +1,13 @@
 -- The five ranges that `round` and `floor` tell apart by comparing x with 0, 2 ^ 52 and -2 ^ 52, and what each test says there.
 -- Assumes nothing.
-use mathlib.Core.Path.{_≡_, refl, sym, ap, _∙_, subst}
-use mathlib.Core.Bool.{Bool, true, false, not, _&&_, cond, true≢false, false≢true}
-use Prim.Native.Nat.{ℕ, _+_, _-_, _*_, _/_, _^_, _≤_, _<_}
+use mathlib.Core.Path.{_≡_, refl, subst}
+use mathlib.Core.Bool.{Bool, true, false, false≢true}
+use Prim.Native.Nat.{ℕ, _+_, _*_, _/_, _^_, _≤_, _<_}
 use native.Mathlib.Nat.{mul-div-cancel}
 use native.Mathlib.Omega.{arith}
 use borrow.Author.Tests.{ltb-true, ltb-false}
 use lib.IntN.{ℤ, pos}
-use lib.Dec.{T, ltb, lt→ltb}
+use lib.Dec.{T, lt→ltb}
 use lib.Ieee.{Float, nan, inf, fin, binary64, up, down, ofBits, neg, lt, round, fits}
 use lib.Ieee.Positive.{num, den, positive, first-pos}
 use Rattle.routines.specs.Whole.{roundOf, floorOf, halfUp, ceiling}

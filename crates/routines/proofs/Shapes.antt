@@ -1,16 +1,15 @@
 -- On which side of 0, 1 and -1 exp, ln and expm1 lie, for every input. Assumes nothing.
 use mathlib.Core.Path.{_≡_, refl, sym, ap, _∙_, subst}
-use mathlib.Core.Logic.{_⊎_, inl, inr, ⊎-elim}
-use mathlib.Core.Bool.{Bool, true, false, not, cond, false≢true}
-use Prim.Native.Nat.{ℕ}
-use lib.IntN.{ℤ, pos}
+use mathlib.Core.Logic.{⊎-elim}
+use mathlib.Core.Bool.{Bool, true, false, not, cond}
+use lib.IntN.{pos}
 use lib.Dec.{T}
-use lib.Ieee.{Float, nan, inf, fin, binary64, ofBits, neg, lt, le, eq, isNan, fits}
+use lib.Ieee.{Float, inf, binary64, ofBits, lt, le, eq, isNan, fits}
 use Rattle.routines.specs.Signs.{signClear}
 use Rattle.routines.specs.Held.{atLeast, atMost}
 use Rattle.routines.specs.Constants.{one, zero as nought}
 use Rattle.routines.specs.Exp.{expOf, tee, scaledUp, besideOne, outOfRange, LEAST, MOST}
-use Rattle.routines.proofs.Orders.{less-le, le-split, at-most-le, at-least-ge, at-most-has, at-least-has, above-clear, less-number, more-number, not-below, neither, zero-is}
+use Rattle.routines.proofs.Orders.{le-split, at-most-le, at-least-ge, at-most-has, at-least-has, above-clear, less-number, more-number, not-below, neither, zero-is}
 use Rattle.routines.proofs.Special.{exp-zero}
 
 abbrev Clear : Float → Type 0

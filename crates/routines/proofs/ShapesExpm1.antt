@@ -1,16 +1,15 @@
 -- On which side of 0 and -1 expm1 lies, for every input. Assumes nothing.
-use mathlib.Core.Path.{_≡_, refl, sym, ap, _∙_, subst}
+use mathlib.Core.Path.{_≡_, refl}
 use mathlib.Core.Logic.{⊎-elim}
-use mathlib.Core.Bool.{Bool, true, false, not, cond, false≢true, true≢false}
+use mathlib.Core.Bool.{Bool, true, false, cond, false≢true}
 use Prim.Native.Nat.{ℕ, _+_, _*_, _<_}
 use native.Mathlib.Omega.{arith}
 use borrow.Author.Tests.{lt-ltb}
-use lib.IntN.{pos}
 use lib.Dec.{eqb, eqb→eq}
 use lib.Ieee.{Float, nan, inf, fin, up, down, ofBits, neg, lt, le, eq}
 use lib.Ieee.Fits.{down-pos, and-l}
-use Rattle.routines.specs.Held.{atLeast, atMost}
-use Rattle.routines.specs.Constants.{one, zero as nought, minusOne}
+use Rattle.routines.specs.Held.{atLeast}
+use Rattle.routines.specs.Constants.{zero as nought, minusOne}
 use Rattle.routines.specs.Exp.{expOf}
 use Rattle.routines.specs.Expm1.{expm1Of, teeM, lessOne, besideMinusOne, farOut, LEAST, MOST}
 use Rattle.routines.proofs.Orders.{less-le, le-split, at-most-le, at-least-ge, at-most-has, not-below, one-above-zero}

@@ -1,15 +1,14 @@
 -- On which side of 0 ln lies, for every input; what it is below 0; and that it is never -0. Assumes nothing.
 use mathlib.Core.Path.{_≡_, refl, sym, ap, _∙_, subst}
-use mathlib.Core.Logic.{⊎-elim}
-use mathlib.Core.Bool.{Bool, true, false, not, _&&_, _||_, cond, false≢true, true≢false}
-use Prim.Native.Nat.{ℕ, zero, suc, _+_, _*_, _^_, _≤_, _<_}
-use native.Mathlib.Nat.{le-trans, mul-le-mul-right, mul-pos}
+use mathlib.Core.Bool.{Bool, true, false, _&&_, cond, false≢true, true≢false}
+use Prim.Native.Nat.{ℕ, _+_, _*_, _≤_, _<_}
+use native.Mathlib.Nat.{mul-le-mul-right}
 use native.Mathlib.Omega.{arith}
-use borrow.Author.Tests.{ltb-true, ltb-false, le-ltb, lt-ltb}
-use lib.IntN.{ℤ, pos}
-use lib.Dec.{T, ltb, eqb, eqb→eq, lit≤}
+use borrow.Author.Tests.{ltb-true}
+use lib.IntN.{ℤ}
+use lib.Dec.{T, eqb, eqb→eq, lit≤}
 use lib.Ieee.{Float, nan, inf, fin, binary64, up, down, ofBits, mul, lt, le, eq, fits}
-use lib.Ieee.Fits.{add-fits, cond-fits, inf-fits, nan-fits, down-pos, up-pos, and-l}
+use lib.Ieee.Fits.{add-fits, cond-fits, inf-fits, nan-fits, down-pos}
 use Rattle.routines.specs.Constants.{one, zero as nought}
 use Rattle.routines.specs.Signs.{signClear}
 use Rattle.routines.specs.Ln.{lnOf, lnCore, besideZero, notAboveZero, NORMAL, LARGEST, SCALE, OFFSET, SCALED-OFFSET}

@@ -1,13 +1,13 @@
 -- Facts on binary64 values as exact fractions: which fractions are values of the format as they stand, what a cut or a test says of one, and that a whole number's value is written in one way.
 -- Assumes nothing.
 use mathlib.Core.Path.{_≡_, refl, sym, ap, _∙_, subst}
-use mathlib.Core.Bool.{Bool, true, false, not, _&&_, cond, true≢false, false≢true}
+use mathlib.Core.Bool.{Bool, true, false, _&&_, cond, true≢false}
 use Prim.Native.Nat.{ℕ, zero, suc, _+_, _-_, _*_, _/_, _%_, _^_, _≤_, _<_, min}
-use native.Mathlib.Nat.{le-trans, le-of-eq, lt-of-lt-of-le, lt-of-le-of-lt, lt-of-not-le, lt-irrefl, zero-lt-suc, mul-zero, zero-mul, mul-one, one-mul, mul-comm, mul-assoc, mul-left-comm, mul-right-comm, mul-pos, mul-lt-mul-of-pos-right, mul-le-mul-right, lt-of-mul-lt-mul-right, eq-of-mul-eq-mul-right, pow-suc, pow-succ', div-one, div-div-eq-div-mul, div-lt-iff-lt-mul, add-div-right, le-antisymm, div-mul-le-self, div-add-mod', add-mul, mod-lt, le-of-lt}
+use native.Mathlib.Nat.{le-trans, le-of-eq, lt-of-lt-of-le, lt-of-le-of-lt, lt-of-not-le, lt-irrefl, zero-lt-suc, zero-mul, mul-one, one-mul, mul-comm, mul-assoc, mul-left-comm, mul-right-comm, mul-pos, mul-lt-mul-of-pos-right, mul-le-mul-right, lt-of-mul-lt-mul-right, eq-of-mul-eq-mul-right, pow-suc, div-div-eq-div-mul, div-lt-iff-lt-mul, add-div-right, le-antisymm, div-mul-le-self, div-add-mod', add-mul, mod-lt, le-of-lt}
 use native.Mathlib.Omega.{arith}
 use borrow.Author.Tests.{ltb-true, ltb-false, lt-ltb, le-ltb}
 use lib.IntN.{ℤ, pos, negsuc}
-use lib.Dec.{T, leb, ltb, eqb, ltb→lt, lt→ltb, leb→le, eqb→eq, nltb→le, lit≤, lit<}
+use lib.Dec.{T, leb, ltb, eqb, ltb→lt, lt→ltb, leb→le, eqb→eq, lit≤}
 use lib.Arith.{digits-div}
 use lib.Pow.{pow-add, pow-pos, pow-mono, pow-lt}
 use lib.Ieee.{Float, nan, inf, fin, Format, binary64, prec, emax, low, up, down, odd, units, round, fits, neg, lt, mul, ofBits, toUnsigned, ofInt}

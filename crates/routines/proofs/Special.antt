@@ -1,9 +1,7 @@
 -- The special values of the four routines, as ISO C Annex F lists them. Assumes nothing.
-use mathlib.Core.Path.{_≡_, refl, sym, ap, _∙_, subst}
+use mathlib.Core.Path.{_≡_, refl}
 use mathlib.Core.Bool.{Bool, true, false}
-use Prim.Native.Nat.{ℕ}
-use lib.IntN.{pos}
-use lib.Ieee.{Float, nan, inf, fin, binary64, ofBits, toBits, size, neg, add, sub, mul, div, lt, le, eq}
+use lib.Ieee.{nan, inf, ofBits, toBits, neg, add, sub, mul, div, lt, le, eq}
 use Rattle.routines.specs.Tables.{rows}
 use Rattle.routines.specs.LnTable.{lnRows}
 use Rattle.routines.specs.Held.{atLeast, atMost}
@@ -11,9 +9,9 @@ use Rattle.routines.specs.Signs.{zeroWith}
 use Rattle.routines.specs.Constants.{one, minusOne, two}
 use Rattle.routines.specs.Exp.{expOf, tee, scaledUp, scaledBy, reduced, expTail, besideOne, outOfRange}
 use Rattle.routines.specs.Ln.{lnOf, lnCore, lnTail, besideZero}
-use Rattle.routines.specs.Expm1.{expm1Of, teeM, lessOne, besideMinusOne, farOut}
-use Rattle.routines.specs.Whole.{floorOf, ceiling}
-use Rattle.routines.specs.Lgamma.{lgammaOf, aboveZero, belowZero, stirlingOf, fourUp, reflected}
+use Rattle.routines.specs.Expm1.{expm1Of, teeM, farOut}
+use Rattle.routines.specs.Whole.{floorOf}
+use Rattle.routines.specs.Lgamma.{lgammaOf, aboveZero, belowZero, stirlingOf}
 
 -- ---- exp
 pub exp-zero : (s : Bool) → expOf (zeroWith s) ≡ one

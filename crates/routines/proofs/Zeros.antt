@@ -1,7 +1,7 @@
 -- WHEN A SUM OR A PRODUCT IS -0. What is one unit of the format or more does not round to zero, and a sum or a difference of two `f64` values is a whole number of units.
 -- So a sum is -0 only where both are, and a product by 1 or more only where the other factor is. Assumes nothing.
 use mathlib.Core.Path.{_≡_, refl, sym, ap, _∙_, subst}
-use mathlib.Core.Bool.{Bool, true, false, not, _&&_, Bool·beq, cond, false≢true}
+use mathlib.Core.Bool.{Bool, true, false, _&&_, Bool·beq, cond, false≢true}
 use Prim.Native.Nat.{ℕ, zero, suc, _+_, _-_, _*_, _/_, _%_, _^_, _≤_, _<_, compare}
 use native.Mathlib.Nat.{le-trans, le-of-eq, lt-of-lt-of-le, mul-one, one-mul, mul-pos, mul-comm, mul-assoc, mul-right-comm, mul-le-mul-right, mul-le-mul-left, add-mul, mul-sub, le-div-iff-mul-le, zero-lt-suc}
 use native.Mathlib.Omega.{arith}

@@ -1,6 +1,6 @@
 -- `routines::exp::beside_one` meets its contract. Assumes nothing.
 use borrow.Author.Needs.{needs}
-use mathlib.Core.Path.{sym, ap, _∙_}
+use mathlib.Core.Path.{ap, _∙_}
 use lib.Ieee.{Float}
 use Rattle.routines.specs.Constants.{one}
 use Rattle.routines.specs.Exp.{besideOne}

@@ -10,8 +10,6 @@ use lib.Ieee.Positive.{num, den}
 use Rattle.routines.proofs.Sizes.{cut-small, ofInt-is, up-one, as-is}
 use Rattle.routines.proofs.whole.ceil_small.Statement.{statement}
 use Rattle.routines.proofs.whole.ceil_small.Tie as tie
-use Rattle.routines.proofs.whole.ceil_small.Reads as reads
-use Rattle.routines.proofs.whole.ceil_small.Lts as lts
 
 truncating-f64-to-u64-requires : tie.Need-truncating-f64-to-u64-requires
 truncating-f64-to-u64-requires c κs =

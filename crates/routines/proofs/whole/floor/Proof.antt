@@ -11,8 +11,6 @@ use Rattle.routines.proofs.Sizes.{cut-small, ofInt-is}
 use Rattle.routines.proofs.Ranges.{Small, small, small-neg, floor-small-is, floor-neg-is, floor-keeps, wide-up, wide-down, level}
 use Rattle.routines.proofs.whole.floor.Statement.{statement}
 use Rattle.routines.proofs.whole.floor.Tie as tie
-use Rattle.routines.proofs.whole.floor.Reads as reads
-use Rattle.routines.proofs.whole.floor.Lts as lts
 
 is-small : (c : tie.Then2) → Small (c .before .before .args .x)
 is-small c = small (c .before .before .args .x) (c .before .if1 .taken) (c .if2 .taken)

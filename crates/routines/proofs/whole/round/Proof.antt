@@ -7,9 +7,6 @@ use Rattle.routines.proofs.Tests.{yes}
 use Rattle.routines.proofs.Ranges.{small, small-neg, round-small-is, round-neg-is, round-keeps, wide-up, wide-down, level}
 use Rattle.routines.proofs.whole.round.Statement.{statement}
 use Rattle.routines.proofs.whole.round.Tie as tie
-use Rattle.routines.proofs.whole.round.Reads as reads
-use Rattle.routines.proofs.whole.round.Lts as lts
-use Rattle.routines.proofs.whole.round_small.Reads as round-small-reads
 
 round-small-requires : tie.Need-round-small-requires
 round-small-requires c κs = small (c .before .before .args .x) (c .before .if1 .taken) (c .if2 .taken)

@@ -5,14 +5,12 @@ use mathlib.Core.Path.{_≡_, sym, ap, _∙_, subst}
 use Prim.Native.Nat.{ℕ, _+_, _*_, _/_, _^_, _<_}
 use native.Mathlib.Omega.{arith}
 use mathlib.Core.Bool.{false}
-use lib.Ieee.{Float, binary64, fits, round}
+use lib.Ieee.{binary64, round}
 use lib.Ieee.Positive.{num, den, den-pos}
 use Rattle.routines.proofs.Tests.{yes}
 use Rattle.routines.proofs.Sizes.{cut-double, half-up-is, ofInt-is}
 use Rattle.routines.proofs.whole.round_small.Statement.{statement}
 use Rattle.routines.proofs.whole.round_small.Tie as tie
-use Rattle.routines.proofs.whole.round_small.Reads as reads
-use Rattle.routines.proofs.whole.round_small.Lts as lts
 
 truncating-f64-to-u64-requires : tie.Need-truncating-f64-to-u64-requires
 truncating-f64-to-u64-requires c κs =
