@@ -1,5 +1,7 @@
--- THE SPECIAL VALUES of exp, ln, expm1 and lgamma, to be read beside ISO C, Annex F (F.10.3.1, F.10.3.3, F.10.3.7, F.10.5.3), and then on which side of 0, 1 and -1 each value lies.
--- `nan` is every NaN, `inf true` is -inf, `zeroWith true` is -0, and `fin true m e` is -m * 2 ^ e. Every input is an `f64`, which is what `fits binary64 x` says. Assumes nothing.
+-- THE SPECIAL VALUES of exp, ln, expm1 and lgamma, to be read beside ISO C, Annex F (F.10.3.1, F.10.3.3, F.10.3.7,
+-- F.10.5.3), and then on which side of 0, 1 and -1 each value lies.
+-- `nan` is every NaN, `inf true` is -inf, `zeroWith true` is -0, and `fin true m e` is -m * 2 ^ e. Every input is an
+-- `f64`, which is what `fits binary64 x` says. Assumes nothing.
 use mathlib.Core.Path.{_≡_}
 use mathlib.Core.Bool.{Bool, true, false, not}
 use Prim.Native.Nat.{ℕ, _*_}
@@ -103,7 +105,8 @@ pub lgamma-zero : (s : Bool) → lgammaOf (zeroWith s) ≡ inf false
 lgamma-zero = poles.lgamma-zero
 
 -- every negative whole number -c
-pub lgamma-pole : (m : ℕ) (e : ℤ) (c : ℕ) → T (fits binary64 (fin true m e)) → m * up e ≡ c * down e → lgammaOf (fin true m e) ≡ inf false
+pub lgamma-pole : (m : ℕ) (e : ℤ) (c : ℕ) → T (fits binary64 (fin true m e)) → m * up e ≡ c * down e
+    → lgammaOf (fin true m e) ≡ inf false
 lgamma-pole = poles.lgamma-pole
 
 pub lgamma-inf : (s : Bool) → lgammaOf (inf s) ≡ inf false

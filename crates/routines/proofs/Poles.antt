@@ -32,16 +32,21 @@ at-most m e = go (ltb 0 (m * up e * 1 + 0 * down e)) refl
     level : (a b : ℕ) → a ≡ 0 → b ≡ 0 → (eqb a b && eqb a 0) ≡ true
     level a b p q = rw (p, q)
 
-    go : (t : Bool) → ltb 0 (m * up e * 1 + 0 * down e) ≡ t → (t || (eqb (m * up e * 1) (0 * down e) && eqb (m * up e * 1) 0)) ≡ true
+    go : (t : Bool) → ltb 0 (m * up e * 1 + 0 * down e) ≡ t
+        → (t || (eqb (m * up e * 1) (0 * down e) && eqb (m * up e * 1) 0)) ≡ true
     go true h = refl
-    go false h = level (m * up e * 1) (0 * down e) (none (m * up e * 1) (down e) (ltb-false 0 (m * up e * 1 + 0 * down e) h)) (zero-mul (down e))
+    go false h =
+        level (m * up e * 1) (0 * down e) (none (m * up e * 1) (down e) (ltb-false 0 (m * up e * 1 + 0 * down e) h))
+        (zero-mul (down e))
 
 same : (m : ℕ) (e : ℤ) → eq (fin false m e) (fin false m e) ≡ true
 unfolding eq
-same m e = ap (λ (b : Bool). b && true) (is-true (eqb (m * up e * down e) (m * up e * down e)) (eqb-refl (m * up e * down e)))
+same m e =
+    ap (λ (b : Bool). b && true) (is-true (eqb (m * up e * down e) (m * up e * down e)) (eqb-refl (m * up e * down e)))
 
 -- THE POLES: x is -m 2^e, and that is the whole number -c
-pub lgamma-pole : (m : ℕ) (e : ℤ) (c : ℕ) → T (fits binary64 (fin true m e)) → m * up e ≡ c * down e → lgammaOf (fin true m e) ≡ inf false
+pub lgamma-pole : (m : ℕ) (e : ℤ) (c : ℕ) → T (fits binary64 (fin true m e)) → m * up e ≡ c * down e
+    → lgammaOf (fin true m e) ≡ inf false
 unfolding lgammaOf belowZero floorOf neg
 lgamma-pole m e c F v = rw (at-most m e, whole, same m e)
   where

@@ -35,8 +35,12 @@ unfolding ofBits neg lt toUnsigned
 over nan a b = absurd (false≢true a)
 over (inf true) a b = absurd (false≢true a)
 over (inf false) a b = refl
-over (fin true m e) a b = absurd (some (1 * 2 ^ 64 * down e) (m * up e * 1) (mul-pos (zero-lt-suc _) (down-pos e)) (ltb-false 0 (m * up e * 1 + 1 * 2 ^ 64 * down e) b))
-over (fin false m e) a b = capped (m * up e) (down e) (2 ^ 64) (down-pos e) (zero-lt-suc _) (ltb-false (m * up e * 1) (1 * 2 ^ 64 * down e) b)
+over (fin true m e) a b =
+    absurd
+    (some (1 * 2 ^ 64 * down e) (m * up e * 1) (mul-pos (zero-lt-suc _) (down-pos e))
+    (ltb-false 0 (m * up e * 1 + 1 * 2 ^ 64 * down e) b))
+over (fin false m e) a b =
+    capped (m * up e) (down e) (2 ^ 64) (down-pos e) (zero-lt-suc _) (ltb-false (m * up e * 1) (1 * 2 ^ 64 * down e) b)
 
 pub under : (x : Float) → lt minus-one x ≡ false → 0 ≡ toUnsigned 64 x
 unfolding ofBits neg lt toUnsigned

@@ -9,7 +9,8 @@ use Rattle.routines.specs.Signs.{signClear}
 use Rattle.routines.specs.Held.{atLeast, atMost}
 use Rattle.routines.specs.Constants.{one, zero as nought}
 use Rattle.routines.specs.Exp.{expOf, tee, scaledUp, besideOne, outOfRange, LEAST, MOST}
-use Rattle.routines.proofs.Orders.{le-split, at-most-le, at-least-ge, at-most-has, at-least-has, above-clear, less-number, more-number, not-below, neither, zero-is}
+use Rattle.routines.proofs.Orders.{le-split, at-most-le, at-least-ge, at-most-has, at-least-has, above-clear}
+use Rattle.routines.proofs.Orders.{less-number, more-number, not-below, neither, zero-is}
 use Rattle.routines.proofs.Special.{exp-zero}
 
 abbrev Clear : Float → Type 0
@@ -74,10 +75,13 @@ exp-at-most-one x F h = ⊎-elim below level (le-split x nought h)
 -- NaN or sign clear: never negative, and never -0
 pub exp-clear : (x : Float) → signClear (expOf x) ≡ true
 unfolding besideOne outOfRange ofBits
-exp-clear x = exp-by x (λ (r : Float). signClear r ≡ true) (λ (v : Float). inside (lt x nought) v) (outside (lt x nought) (le nought x) refl refl)
+exp-clear x =
+    exp-by x (λ (r : Float). signClear r ≡ true) (λ (v : Float). inside (lt x nought) v)
+    (outside (lt x nought) (le nought x) refl refl)
   where
     inside : (t : Bool) (v : Float) → Clear (cond t (atMost (atLeast v nought) one) (atLeast v one))
-    inside true v = at-most-has Clear (atLeast v nought) one (λ e. at-least-has Clear v nought (above-clear 0 (pos 0) v) refl) refl
+    inside true v =
+        at-most-has Clear (atLeast v nought) one (λ e. at-least-has Clear v nought (above-clear 0 (pos 0) v) refl) refl
     inside false v = at-least-has Clear v one (above-clear 1 (pos 0) v) refl
 
     outside : (t u : Bool) → lt x nought ≡ t → le nought x ≡ u → signClear (cond t nought (cond u (inf false) x)) ≡ true

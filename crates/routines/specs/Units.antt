@@ -1,4 +1,5 @@
--- The size of a finite value, counted in units of its format's smallest value above zero: 2 ^ -1074 for an `f64`. Every finite value of a format is a whole number of units: `has-units` in proofs/Values.antt.
+-- The size of a finite value, counted in units of its format's smallest value above zero: 2 ^ -1074 for an `f64`. Every
+-- finite value of a format is a whole number of units: `has-units` in proofs/Values.antt.
 -- And how near a rounded sum, or a running sum, is to the exact one, in units. Definitions only. Assumes nothing.
 use Prim.Native.Nat.{ℕ, _+_, _*_, _/_, _^_, _≤_}
 use mathlib.Core.Bool.{Bool, true, false, not}

@@ -16,7 +16,9 @@ at-most-requires c κs = search needs
 
 returns : tie.Need-returns
 unfolding besideOne
-returns c = rw (c .before .before .if1 .taken) (c .at-most .ensures ∙ ap (λ (v : Float). atMost v one) (c .before .at-least .ensures))
+returns c =
+    rw (c .before .before .if1 .taken)
+    (c .at-most .ensures ∙ ap (λ (v : Float). atMost v one) (c .before .at-least .ensures))
 
 at-least-requires-2 : tie.Need-at-least-requires-2
 at-least-requires-2 c κs = search needs

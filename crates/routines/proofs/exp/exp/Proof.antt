@@ -15,7 +15,9 @@ beside-one-requires c κs = search needs
 
 returns : tie.Need-returns
 unfolding expOf tee
-returns c = rw (c .before .before .before .if1 .taken, c .before .before .if2 .taken) (c .beside-one .ensures ∙ ap (besideOne _) (c .before .scaled-up .ensures))
+returns c =
+    rw (c .before .before .before .if1 .taken, c .before .before .if2 .taken)
+    (c .beside-one .ensures ∙ ap (besideOne _) (c .before .scaled-up .ensures))
 
 out-of-range-requires : tie.Need-out-of-range-requires
 out-of-range-requires c κs = search needs

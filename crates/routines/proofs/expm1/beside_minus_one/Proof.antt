@@ -19,7 +19,9 @@ at-least-requires-2 c κs = search needs
 
 returns : tie.Need-returns
 unfolding besideMinusOne
-returns c = rw (c .before .before .if1 .taken) (c .at-most .ensures ∙ ap (λ (v : Float). atMost v zero) (c .before .at-least .ensures))
+returns c =
+    rw (c .before .before .if1 .taken)
+    (c .at-most .ensures ∙ ap (λ (v : Float). atMost v zero) (c .before .at-least .ensures))
 
 returns-2 : tie.Need-returns-2
 unfolding besideMinusOne
