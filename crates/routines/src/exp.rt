@@ -43,6 +43,7 @@ pub fn tail(r: f64) -> f64
 }
 
 // Steps 3 to 7: e^x from t. The power of two is put on in two parts, so that only the last product can underflow or overflow.
+// The row has T[i] and D[i], and 0x10_0000_0000_0000 is 2^52.
 fn scaled_up(x: f64, t: f64) -> f64
     requires { ⌜ T (not (isNan t)) ⌝ }
     ensures { λ r. ⌜ r ≡ scaledUp x t ⌝ }
@@ -50,7 +51,7 @@ fn scaled_up(x: f64, t: f64) -> f64
     let k = t - SHIFT;
     let r = (x - k * STEP_HIGH) - k * STEP_LOW;
     let u = f64::to_bits(t);
-    let row = power_at(u); // T[i] and D[i]
+    let row = power_at(u);
     let m = u / 32 % 4096;
     let a = f64::from_bits(m / 2 * 0x10_0000_0000_0000);
     let b = f64::from_bits((m - m / 2) * 0x10_0000_0000_0000);

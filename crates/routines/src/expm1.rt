@@ -21,7 +21,7 @@ const LEAST: f64 = 6755399441086720.0;
 const MOST: f64 = 6755399441090240.0;
 
 // Steps 4 to 9: e^x - 1 from t. `big` and `small` are the power of two and its correction; less + g is big - 1, and s + e is
-// less + y, both exactly.
+// less + y, both exactly. The row has T[i] and D[i], and 0x10_0000_0000_0000 is 2^52.
 fn less_one(x: f64, t: f64) -> f64
     requires { ⌜ T (not (isNan t)) ⌝ }
     ensures { λ r. ⌜ r ≡ lessOne x t ⌝ }
@@ -31,7 +31,7 @@ fn less_one(x: f64, t: f64) -> f64
     let l = k * STEP_LOW;
     let r = y - l;
     let u = f64::to_bits(t);
-    let row = power_at(u); // T[i] and D[i]
+    let row = power_at(u);
     let a = f64::from_bits(u / 32 % 2048 * 0x10_0000_0000_0000);
     let big = row.value * a;
     let small = big * row.rest;

@@ -49,7 +49,8 @@ fn tail(r: f64) -> f64
     (r * r) * (r * (B1 + r * (r * (B3 + r * (r * B5 - B4)) - B2)) - 0.5)
 }
 
-// Steps 3 to 8: ln w from a normal w and the offset that goes with it.
+// Steps 3 to 8: ln w from a normal w and the offset that goes with it. The piece has C[i] and B[i], and the log H[i] and L[i];
+// 0x10_0000_0000_0000 is 2^52, and 0x2000_0000_0000 is 2^45.
 fn core(w: f64, offset: u64) -> f64
     requires { ⌜ T (not (isNan w)) ⌝ ∗ ⌜ offset ≤ OFFSET ⌝ }
     ensures { λ r. ⌜ r ≡ lnCore w offset ⌝ }
@@ -58,8 +59,8 @@ fn core(w: f64, offset: u64) -> f64
     let k = f64::from_bits(0x4330_0000_0000_0000 + q / 0x10_0000_0000_0000) - BIAS;
     let digits = q % 0x10_0000_0000_0000;
     let z = f64::from_bits(digits + 0x3fe6_b000_0000_0000);
-    let piece = piece_at(digits / 0x2000_0000_0000); // C[i] and B[i]
-    let log = log_at(digits / 0x2000_0000_0000); // H[i] and L[i]
+    let piece = piece_at(digits / 0x2000_0000_0000);
+    let log = log_at(digits / 0x2000_0000_0000);
     let r = (z - piece.0) * piece.1;
     let high = k * LN2_HIGH + log.0;
     let sum = high + r;
