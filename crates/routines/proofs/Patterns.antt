@@ -13,6 +13,8 @@ use lib.Ieee.{ofBits, nanBits, isNan, le, lt, ne}
 use lib.Ieee.Compare.{nan-differs}
 use lib.Ieee.Fits.{round-is}
 use lib.Ieee.Bits.{nanBits-above}
+use Rattle.routines.specs.Constants.{zero as nought}
+use Rattle.routines.specs.Ln.{SCALE}
 use Rattle.routines.proofs.Tests.{no}
 
 pub no-nan : (n : ℕ) → n % 2 ^ 63 ≤ 2047 * 2 ^ 52 → T (not (nanBits binary64 n))
@@ -55,8 +57,7 @@ unfolding isNan
 round-no-nan f s a d = rounded-are f s a d (λ (x : Float). T (not (isNan x))) tt (λ m e. tt)
 
 -- a positive value times 2 ^ 54
-pub positive-times : (x : Float) → lt (ofBits binary64 0) x ≡ true
-    → T (not (isNan (mul binary64 x (ofBits binary64 0x4350000000000000))))
+pub positive-times : (x : Float) → lt nought x ≡ true → T (not (isNan (mul binary64 x SCALE)))
 unfolding lt ofBits mul isNan
 positive-times nan h = absurd (false≢true h)
 positive-times (inf s) h = tt

@@ -42,8 +42,8 @@ pub fn tail(r: f64) -> f64
     z * ((0.5 + r * C3) + z * ((C4 + r * C5) + z * C6))
 }
 
-// Steps 3 to 7: e^x from t. The power of two is put on in two parts, so that only the last product can underflow or overflow.
-// The row has T[i] and D[i], and 0x10_0000_0000_0000 is 2^52.
+// Steps 3 to 7: e^x from t. The power of two is put on in two parts, so that only the last product can underflow or
+// overflow. The row has T[i] and D[i], and 0x10_0000_0000_0000 is 2^52.
 fn scaled_up(x: f64, t: f64) -> f64
     requires { ⌜ T (not (isNan t)) ⌝ }
     ensures { λ r. ⌜ r ≡ scaledUp x t ⌝ }

@@ -1,4 +1,5 @@
-// expm1, in the steps of docs/ROUTINES.md and under its names: exp's table and polynomial, with 1 taken off before what is small is added.
+// expm1, in the steps of docs/ROUTINES.md and under its names: exp's table and polynomial, with 1 taken off before what is
+// small is added.
 ghost use mathlib.Core.Path.{_≡_};
 ghost use mathlib.Core.Bool.{not};
 ghost use lib.Dec.{T};
@@ -44,8 +45,8 @@ fn less_one(x: f64, t: f64) -> f64
     s + ((h + (less + small) * (r + h)) + ((e + g) + (small - l)))
 }
 
-// Step 10: below 0, v held to -1 .. 0; above 0, to 0 and above. No value was ever met that needs it; it makes the rule hold by
-// its form.
+// Step 10: below 0, v held to -1 .. 0; above 0, to 0 and above. No value was ever met that needs it; it makes the rule hold
+// by its form.
 fn beside_minus_one(x: f64, v: f64) -> f64
     ensures { λ r. ⌜ r ≡ besideMinusOne x v ⌝ }
 {

@@ -1,5 +1,5 @@
-// lgamma, in the steps of docs/ROUTINES.md and under its names: Stirling's series from 4 on; below, four steps up and a logarithm off;
-// below 0, the reflection without a sine: Gamma(f) Gamma(1-f) over Gamma(1+a).
+// lgamma, in the steps of docs/ROUTINES.md and under its names: Stirling's series from 4 on; below, four steps up and a
+// logarithm off; below 0, the reflection without a sine: Gamma(f) Gamma(1-f) over Gamma(1+a).
 ghost use mathlib.Core.Path.{_≡_};
 ghost use Rattle.routines.specs.Lgamma.{lgammaOf, stirlingOf, aboveZero, belowZero};
 use crate::ln::ln;

@@ -1,7 +1,7 @@
 // ln, in the steps of docs/ROUTINES.md and under its names.
 //
-// x = 2^k * z with z between 0.7089.. and 1.4179.., both cut out of the bits of x. The table has a c near z: z = c * (1 + r), so
-// ln x = k ln 2 + ln c + ln(1 + r), and |r| is below 1/200.
+// x = 2^k * z with z between 0.7089.. and 1.4179.., both cut out of the bits of x. The table has a c near z:
+// z = c * (1 + r), so ln x = k ln 2 + ln c + ln(1 + r), and |r| is below 1/200.
 ghost use mathlib.Core.Path.{_≡_};
 ghost use mathlib.Core.Bool.{not};
 ghost use Prim.Native.Nat.{_≤_};
@@ -49,8 +49,8 @@ fn tail(r: f64) -> f64
     (r * r) * (r * (B1 + r * (r * (B3 + r * (r * B5 - B4)) - B2)) - 0.5)
 }
 
-// Steps 3 to 8: ln w from a normal w and the offset that goes with it. The piece has C[i] and B[i], and the log H[i] and L[i];
-// 0x10_0000_0000_0000 is 2^52, and 0x2000_0000_0000 is 2^45.
+// Steps 3 to 8: ln w from a normal w and the offset that goes with it. The piece has C[i] and B[i], and the log H[i] and
+// L[i]; 0x10_0000_0000_0000 is 2^52, and 0x2000_0000_0000 is 2^45.
 fn core(w: f64, offset: u64) -> f64
     requires { ⌜ T (not (isNan w)) ⌝ ∗ ⌜ offset ≤ OFFSET ⌝ }
     ensures { λ r. ⌜ r ≡ lnCore w offset ⌝ }
