@@ -68,8 +68,8 @@ fn core(w: f64, offset: u64) -> f64
     sum + (((rest + log.1) + k * LN2_LOW) + tail(r))
 }
 
-// Step 9: v where v * x is above it, so that v lies on the side of 0 where ln x lies, and otherwise +0. Only the v at 1
-// needs it; it makes the rule hold by its form.
+// Step 9: v where v * x is above it, so that v lies on the side of 0 where ln x lies, and otherwise +0. 1 is the
+// only x that was ever met that needs it; it makes the rule hold by its form.
 fn beside_zero(x: f64, v: f64) -> f64
     ensures { λ r. ⌜ r ≡ besideZero x v ⌝ }
 {
