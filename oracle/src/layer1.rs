@@ -333,7 +333,7 @@ fn bounds() -> Vec<Call> {
             &[("r", Float)],
             |d| vec![d.between(-0.011, 0.011).to_bits()],
             |w| vec![bits(port::tail(float(w, 0)))],
-            |w| vec![bits(written::hpoly(float(w, 0)))],
+            |w| vec![bits(written::exp_tail(float(w, 0)))],
         ),
     ]
 }

@@ -42,14 +42,14 @@ impl Page {
 }
 
 struct Constants {
-    inv: f64,
-    lhi: f64,
-    llo: f64,
-    she: f64,
+    per_step: f64,
+    step_high: f64,
+    step_low: f64,
+    exp_shift: f64,
     exp_least: f64,
     exp_most: f64,
     c: [f64; 4],
-    shm: f64,
+    expm1_shift: f64,
     expm1_least: f64,
     expm1_most: f64,
     ln2: [f64; 2],
@@ -57,9 +57,11 @@ struct Constants {
     largest: f64,
     scale: f64,
     bias: f64,
+    offset: u64,
+    scaled_offset: u64,
     b: [f64; 5],
     s: [f64; 7],
-    k: f64,
+    stirling_constant: f64,
     powers: [[f64; 2]; 32],
     pieces: [[f64; 4]; 128],
 }
@@ -69,24 +71,26 @@ fn constants() -> &'static Constants {
     READ.get_or_init(|| {
         let page = Page::read(include_str!("../../docs/ROUTINES.md"));
         Constants {
-            inv: page.constant("exp", "INV"),
-            lhi: page.constant("exp", "LHI"),
-            llo: page.constant("exp", "LLO"),
-            she: page.constant("exp", "SHE"),
+            per_step: page.constant("exp", "PER_STEP"),
+            step_high: page.constant("exp", "STEP_HIGH"),
+            step_low: page.constant("exp", "STEP_LOW"),
+            exp_shift: page.constant("exp", "SHIFT"),
             exp_least: page.constant("exp", "LEAST"),
             exp_most: page.constant("exp", "MOST"),
             c: ["C3", "C4", "C5", "C6"].map(|name| page.constant("exp", name)),
-            shm: page.constant("expm1", "SHM"),
+            expm1_shift: page.constant("expm1", "SHIFT"),
             expm1_least: page.constant("expm1", "LEAST"),
             expm1_most: page.constant("expm1", "MOST"),
-            ln2: ["LN2HI", "LN2LO"].map(|name| page.constant("ln", name)),
+            ln2: ["LN2_HIGH", "LN2_LOW"].map(|name| page.constant("ln", name)),
             normal: page.constant("ln", "NORMAL"),
             largest: page.constant("ln", "LARGEST"),
             scale: page.constant("ln", "SCALE"),
             bias: page.constant("ln", "BIAS"),
+            offset: page.row("ln", "OFFSET")[0],
+            scaled_offset: page.row("ln", "SCALED_OFFSET")[0],
             b: ["B1", "B2", "B3", "B4", "B5"].map(|name| page.constant("ln", name)),
             s: ["S0", "S1", "S2", "S3", "S4", "S5", "S6"].map(|name| page.constant("lgamma", name)),
-            k: page.constant("lgamma", "K"),
+            stirling_constant: page.constant("lgamma", "STIRLING_CONSTANT"),
             powers: page.table("exp's table"),
             pieces: page.table("ln's table"),
         }
@@ -103,7 +107,7 @@ pub fn piece(i: u64) -> [f64; 4] {
     constants().pieces[(i % 128) as usize]
 }
 
-pub fn hpoly(r: f64) -> f64 {
+pub fn exp_tail(r: f64) -> f64 {
     let [c3, c4, c5, c6] = constants().c;
     let z = r * r;
     z * ((0.5 + r * c3) + z * ((c4 + r * c5) + z * c6))
@@ -129,7 +133,7 @@ const OCTAVE: u64 = 1 << 52;
 
 pub fn exp(x: f64) -> f64 {
     let c = constants();
-    let t = x * c.inv + c.she;
+    let t = x * c.per_step + c.exp_shift;
     if !(t >= c.exp_least && t <= c.exp_most) {
         return if x < 0.0 {
             0.0
@@ -139,15 +143,15 @@ pub fn exp(x: f64) -> f64 {
             x
         };
     }
-    let k = t - c.she;
-    let r = (x - k * c.lhi) - k * c.llo;
+    let k = t - c.exp_shift;
+    let r = (x - k * c.step_high) - k * c.step_low;
     let u = t.to_bits();
     let [value, rest] = power(u % 32);
     let m = (u / 32) % 4096;
     let a = f64::from_bits((m / 2) * OCTAVE);
     let b = f64::from_bits((m - m / 2) * OCTAVE);
     let y = value * a;
-    let v = (y + y * ((rest + r) + hpoly(r))) * b;
+    let v = (y + y * ((rest + r) + exp_tail(r))) * b;
     if x < 0.0 {
         held_below(held_above(v, 0.0), 1.0)
     } else {
@@ -160,7 +164,7 @@ pub fn expm1(x: f64) -> f64 {
         return x;
     }
     let c = constants();
-    let t = x * c.inv + c.shm;
+    let t = x * c.per_step + c.expm1_shift;
     if !(t >= c.expm1_least && t <= c.expm1_most) {
         return if x < 0.0 {
             -1.0
@@ -170,16 +174,16 @@ pub fn expm1(x: f64) -> f64 {
             x
         };
     }
-    let k = t - c.shm;
-    let y = x - k * c.lhi;
-    let l = k * c.llo;
+    let k = t - c.expm1_shift;
+    let y = x - k * c.step_high;
+    let l = k * c.step_low;
     let r = y - l;
     let u = t.to_bits();
     let [value, rest] = power(u % 32);
     let a = f64::from_bits(((u / 32) % 2048) * OCTAVE);
     let big = value * a;
     let small = big * rest;
-    let h = hpoly(r);
+    let h = exp_tail(r);
     let less = big - 1.0;
     let back = less - big;
     let g = (big - (less - back)) - (1.0 + back);
@@ -193,30 +197,33 @@ pub fn expm1(x: f64) -> f64 {
     }
 }
 
+fn ln_tail(r: f64) -> f64 {
+    let [b1, b2, b3, b4, b5] = constants().b;
+    (r * r) * (r * (b1 + r * (r * (b3 + r * (r * b5 - b4)) - b2)) - 0.5)
+}
+
 pub fn ln(x: f64) -> f64 {
     let c = constants();
-    let (w, o) = if x >= c.normal {
+    let (w, offset) = if x >= c.normal {
         if x > c.largest {
             return f64::INFINITY;
         }
-        (x, 0x0409500000000000)
+        (x, c.offset)
     } else if x > 0.0 {
-        (x * c.scale, 0x00a9500000000000)
+        (x * c.scale, c.scaled_offset)
     } else {
         return if x == 0.0 { f64::NEG_INFINITY } else { f64::NAN };
     };
-    let q = w.to_bits() % (1 << 63) + o;
+    let q = w.to_bits() % (1 << 63) + offset;
     let k = f64::from_bits(0x4330000000000000 + q / OCTAVE) - c.bias;
-    let n = q % OCTAVE;
-    let z = f64::from_bits(n + 0x3fe6b00000000000);
-    let [near, inverse, high, low] = piece((n / (1 << 45)) % 128);
+    let digits = q % OCTAVE;
+    let z = f64::from_bits(digits + 0x3fe6b00000000000);
+    let [near, inverse, log_high, log_low] = piece((digits / (1 << 45)) % 128);
     let r = (z - near) * inverse;
-    let a = k * c.ln2[0] + high;
-    let s = a + r;
-    let e = (a - s) + r;
-    let [b1, b2, b3, b4, b5] = c.b;
-    let p = (r * r) * (r * (b1 + r * (r * (b3 + r * (r * b5 - b4)) - b2)) - 0.5);
-    let v = s + (((e + low) + k * c.ln2[1]) + p);
+    let high = k * c.ln2[0] + log_high;
+    let sum = high + r;
+    let rest = (high - sum) + r;
+    let v = sum + (((rest + log_low) + k * c.ln2[1]) + ln_tail(r));
     if v * x > v {
         v
     } else {
@@ -229,23 +236,27 @@ fn stirling(x: f64) -> f64 {
     let i = 1.0 / x;
     let z = i * i;
     let s = s0 - z * (s1 - z * (s2 - z * (s3 - z * (s4 - z * (s5 - z * s6)))));
-    (x - 0.5) * (ln(x) - 1.0) + (constants().k + i * s)
+    (x - 0.5) * (ln(x) - 1.0) + (constants().stirling_constant + i * s)
 }
 
-fn above(x: f64) -> f64 {
+fn four_up(x: f64) -> f64 {
+    let q = x * (x + 3.0);
+    stirling(x + 4.0) - ln(q * (q + 2.0))
+}
+
+fn above_zero(x: f64) -> f64 {
     if x < 4.0 {
         if x == 1.0 || x == 2.0 {
             return 0.0;
         }
-        let q = x * (x + 3.0);
-        return stirling(x + 4.0) - ln(q * (q + 2.0));
+        return four_up(x);
     }
     stirling(x)
 }
 
 pub fn lgamma(x: f64) -> f64 {
     if !(x <= 0.0) {
-        return above(x);
+        return above_zero(x);
     }
     let a = -x;
     let n = a.floor();
@@ -253,5 +264,5 @@ pub fn lgamma(x: f64) -> f64 {
         return f64::INFINITY;
     }
     let f = a - n;
-    (above(f) + above(1.0 - f)) - above(1.0 + a)
+    (above_zero(f) + above_zero(1.0 - f)) - above_zero(1.0 + a)
 }

@@ -15,7 +15,8 @@ use lib.Ieee.Digits.{size-lt, size-le}
 use lib.Ieee.Order.{drop, kept}
 use lib.Ieee.Positive.{positive, above-of-le}
 use lib.Ieee.Scale.{grid, round-val}
-use Rattle.routines.specs.Exp.{one, expOf}
+use Rattle.routines.specs.Constants.{one}
+use Rattle.routines.specs.Exp.{expOf}
 use Rattle.routines.specs.Units.{unitsOf}
 use Rattle.routines.proofs.Rounding.{Half, scaled}
 use Rattle.routines.proofs.Values.{has-units}

@@ -11,7 +11,8 @@ use lib.Dec.{T, leb, ltb, eqb, ltb→lt, lit≤}
 use lib.Pow.{pow-pos}
 use lib.Ieee.{Float, nan, inf, fin, binary64, up, down, lt, le, fits, size}
 use lib.Ieee.Fits.{cond-fits, inf-fits, down-pos, and-r}
-use Rattle.routines.specs.Exp.{zero as nought, LEAST, MOST, tee, scaledUp, beyond, expOf}
+use Rattle.routines.specs.Constants.{zero as nought}
+use Rattle.routines.specs.Exp.{LEAST, MOST, tee, scaledUp, outOfRange, expOf}
 use Rattle.accuracy.specs.Accuracy.{L, Is, ulp, InUlps, Infinite, Answers}
 use Rattle.accuracy.specs.Around.{Double, Over, Under, Power, Around}
 use Rattle.accuracy.proofs.Units.{L-pos}
@@ -100,14 +101,14 @@ module _ (s : Bool) (X : ℕ) (v : Float) (a : Infinite s X v) where
 
 -- ---- exp's value is a double
 pub exp-fits : (x : Float) → T (fits binary64 x) → T (fits binary64 (expOf x))
-unfolding beyond
+unfolding outOfRange
 exp-fits x f =
     let up = cond (le nought x) (inf false) x in
     let up-fits : T (fits binary64 up) = cond-fits binary64 (le nought x) (inf false) x (inf-fits binary64 false) f in
-    let far : T (fits binary64 (beyond x)) = cond-fits binary64 (lt x nought) nought up zero-fits up-fits in
+    let far : T (fits binary64 (outOfRange x)) = cond-fits binary64 (lt x nought) nought up zero-fits up-fits in
     subst (λ (z : Float). T (fits binary64 z)) (sym (exp-without-step-8 x f))
-    (cond-fits binary64 (le LEAST (tee x)) (cond (le (tee x) MOST) (scaledUp x (tee x)) (beyond x)) (beyond x)
-    (cond-fits binary64 (le (tee x) MOST) (scaledUp x (tee x)) (beyond x) (scaled-fits x (tee x)) far) far)
+    (cond-fits binary64 (le LEAST (tee x)) (cond (le (tee x) MOST) (scaledUp x (tee x)) (outOfRange x)) (outOfRange x)
+    (cond-fits binary64 (le (tee x) MOST) (scaledUp x (tee x)) (outOfRange x) (scaled-fits x (tee x)) far) far)
 
 of-answers : (s : Bool) (X : ℕ) (v : Float) → T (fits binary64 v) → Answers s X v → Around s X v
 of-answers s X v f (inl a) = of-finite s X (a .W) v (f, a .is) (a .place)

@@ -8,7 +8,8 @@ use native.Mathlib.Nat.{le-refl, le-trans, le-of-eq, mul-comm, mul-le-mul-right,
 use native.Mathlib.Omega.{arith}
 use lib.Dec.{T, lit≤, lit<}
 use lib.Ieee.{Float, inf, binary64, up, down, lt, le}
-use Rattle.routines.specs.Exp.{zero as nought, beyond}
+use Rattle.routines.specs.Constants.{zero as nought}
+use Rattle.routines.specs.Exp.{outOfRange}
 use Rattle.routines.proofs.Compared.{le-is}
 use Rattle.accuracy.specs.Accuracy.{L, Is, shifted, slack, ulp, ofSmall, hundredths, ExpAtMost, ExpAtLeast, Answers}
 use Rattle.accuracy.proofs.Final.{octave}
@@ -75,9 +76,9 @@ far-inf X h = reshape true X L (1 * suc (2 ^ 80)) (2 ^ 1099 * 2 ^ 80) (suc (2 ^ 
     (le-trans (mul-le-mul-right (2 ^ 52) (far-number .1)) (le-of-eq (mul-comm (2 ^ 1099 * 2 ^ 80) (2 ^ 52)))))
     (lit≤ tt) (far-out X h)
 
-pub beyond-answers : (x : Float) (s : Bool) (X : ℕ) → Is x s X → 1099 * octave ≤ X → Answers s X (beyond x)
-unfolding beyond
-beyond-answers x s X hx h = go (lt x nought) (below-zero x s X hx) (not-below x s X hx)
+pub outOfRange-answers : (x : Float) (s : Bool) (X : ℕ) → Is x s X → 1099 * octave ≤ X → Answers s X (outOfRange x)
+unfolding outOfRange
+outOfRange-answers x s X hx h = go (lt x nought) (below-zero x s X hx) (not-below x s X hx)
   where
     never : (o X : ℕ) → 0 < o → 1099 * o ≤ X → X ≡ 0 → ⊥
     never o X p h q = omega arith

@@ -1,4 +1,4 @@
--- hpoly's ten operations one by one, on every |r| ≤ 0.011: the value of each in units, how far its rounding is from
+-- expTail's ten operations one by one, on every |r| ≤ 0.011: the value of each in units, how far its rounding is from
 -- the exact one, and a bound of its size. Then all ten together (`finish`). Assumes nothing.
 use mathlib.Core.Path.{_≡_, refl, sym, _∙_, subst}
 use Prim.Native.Nat.{ℕ, _+_, _*_, _^_, _≤_, _<_}
@@ -7,7 +7,8 @@ use native.Mathlib.Omega.{arith}
 use mathlib.Core.Bool.{Bool, false}
 use lib.Dec.{lit≤, lit<}
 use lib.Ieee.{Float, binary64, add, mul, ofBits}
-use Rattle.routines.specs.Exp.{hpoly, half, C3, C4, C5, C6}
+use Rattle.routines.specs.Constants.{half}
+use Rattle.routines.specs.Exp.{expTail, C3, C4, C5, C6}
 use Rattle.accuracy.proofs.Floats.{Close, plus, less-of, plus-le, less-le, unlike-self, unlike-plus}
 use Rattle.accuracy.proofs.Units.{L, e, L-pos, L-is, Is, power, pair-of, mul-w, add-w, fit, sized-by, small-e, halves}
 use Rattle.accuracy.proofs.Horner.{by-constant, times-z, close-weak}
@@ -75,9 +76,9 @@ f8 r = add binary64 (f2 r) (f7 r)
 abbrev f9 : Float → Float
 f9 r = mul binary64 (f0 r) (f8 r)
 
-hpoly-opened : (r : Float) → hpoly r ≡ f9 r
-unfolding hpoly
-hpoly-opened r = refl
+expTail-opened : (r : Float) → expTail r ≡ f9 r
+unfolding expTail
+expTail-opened r = refl
 
 -- ---- numbers about L and e alone
 k-z : 11 * 11 * L < 1000 * 1000 * (2 ^ 54 * (2 ^ 14 * e))
@@ -336,7 +337,7 @@ module _ (r : Float) (σ : Bool) (R : ℕ) (hr : Is r σ R) (small : 1000 * R �
   pub finish : (q6 q8 : ℕ) → Close (S * L * six .0) q6 (S * L * (2 * (2 ^ 22 * e) + 3 * (2 ^ 14 * e)))
       → ((d : ℕ) → Close (S * L * (L * L) * seven .0) (R * R * q6) (S * L * (L * L) * d) → Close
       (S * L * (L * L) * eight .0) q8 (S * L * (L * L) * (2 * (2 ^ 26 * e) + 2 ^ 18 * e + d)))
-      → Result (hpoly r) (R * R * q8)
+      → Result (expTail r) (R * R * q8)
   finish q6 q8 i6 i8 =
       let d6 = 2 * (2 ^ 22 * e) + 3 * (2 ^ 14 * e) in
       let t7 = times-z (S * L) L R (zed .0) (six .0) (seven .0) q6 (2 ^ 14 * e) (2 ^ 14 * e) d6 (2 ^ 11 * e) (zed .2)
@@ -348,7 +349,7 @@ module _ (r : Float) (σ : Bool) (R : ℕ) (hr : Is r σ R) (small : 1000 * R �
       (2 ^ 15 * e) (zed .2) (nine .2) t8 eight-le (squares d8 (2 ^ 15 * e) (n8 e)) in
       record {
         H = nine .0;
-        is = subst (λ (z : Float). Is z false (nine .0)) (sym (hpoly-opened r)) (nine .1);
+        is = subst (λ (z : Float). Is z false (nine .0)) (sym (expTail-opened r)) (nine .1);
         near = close-weak (T * nine .0) (R * R * q8) (T * (2 ^ 14 * e + 2 ^ 14 * e + 2 ^ 15 * e)) (T * (2 ^ 16 * e))
             (mul-le-mul-left T (n9 e)) t9;
         small = nine-small;

@@ -14,7 +14,8 @@ use lib.Ieee.Bits.{ofBits-toBits}
 use lib.Ieee.Fits.{down-pos, mul-fits}
 use lib.Ieee.Scale.{finite}
 use Rattle.routines.specs.Held.{atLeast, atMost}
-use Rattle.routines.specs.Exp.{zero as nought, one, LEAST, MOST, tee, scaledUp, besideOne, beyond, expOf}
+use Rattle.routines.specs.Constants.{zero as nought, one}
+use Rattle.routines.specs.Exp.{LEAST, MOST, tee, scaledUp, besideOne, outOfRange, expOf}
 use Rattle.accuracy.specs.Accuracy.{L, Is, ulp, ExpAtMost, ExpAtLeast, InUlps, Answers}
 use Rattle.accuracy.specs.Around.{Double}
 use Rattle.accuracy.proofs.Units.{L-pos}
@@ -165,13 +166,13 @@ step-8-changes-nothing x f a b =
 
 -- so exp is the same without it, at every double
 pub exp-without-step-8 : (x : Float) → T (fits binary64 x)
-    → expOf x ≡ cond (le LEAST (tee x)) (cond (le (tee x) MOST) (scaledUp x (tee x)) (beyond x)) (beyond x)
+    → expOf x ≡ cond (le LEAST (tee x)) (cond (le (tee x) MOST) (scaledUp x (tee x)) (outOfRange x)) (outOfRange x)
 unfolding expOf
 exp-without-step-8 x f =
     go (le LEAST (tee x)) (le (tee x) MOST) (besideOne x (scaledUp x (tee x))) (step-8-changes-nothing x f)
   where
     go : (a b : Bool) (v : Float) → (T a → T b → v ≡ scaledUp x (tee x))
-        → cond a (cond b v (beyond x)) (beyond x) ≡ cond a (cond b (scaledUp x (tee x)) (beyond x)) (beyond x)
+        → cond a (cond b v (outOfRange x)) (outOfRange x) ≡ cond a (cond b (scaledUp x (tee x)) (outOfRange x)) (outOfRange x)
     go true true v h = h tt tt
     go true false v h = refl
     go false b v h = refl

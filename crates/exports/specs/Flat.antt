@@ -4,7 +4,7 @@ use mathlib.Core.Bool.{cond}
 use lib.Dec.{eqb}
 use lib.Ieee.{Float}
 use Rattle.meaning.specs.Reply.{Reply, refuse, broken, give}
-use Rattle.routines.specs.Exp as exp
+use Rattle.routines.specs.Constants as constants
 use Rattle.helpers.specs.declared.shelves.Shelf.{Shelf}
 use Rattle.helpers.specs.declared.shelves.ShelfPart.{ShelfPart}
 use Rattle.helpers.specs.declared.shelves.ShelfPart.the-variants.{Absent, Present}
@@ -15,8 +15,8 @@ use Rattle.exports.specs.declared.shelf.FlatShelf.{FlatShelf}
 
 -- the number, 0 for an answer; the value, 0 for a refusal
 abbrev pub sayNumber : Reply Float → FlatNumber
-sayNumber (refuse n) = record { number = n; value = exp.zero }
-sayNumber (broken place) = record { number = 3; value = exp.zero }
+sayNumber (refuse n) = record { number = n; value = constants.zero }
+sayNumber (broken place) = record { number = 3; value = constants.zero }
 sayNumber (give x) = record { number = 0; value = x }
 
 abbrev pub sayWritten : Reply ℕ → FlatWritten

@@ -4,7 +4,7 @@ use mathlib.Core.Bool.{cond}
 use lib.Dec.{eqb}
 use lib.Ieee.{Float}
 use Rattle.meaning.specs.Reply.{Reply, refuse, broken, give}
-use Rattle.routines.specs.Exp as exp
+use Rattle.routines.specs.Constants as constants
 use Rattle.helpers.specs.declared.shelves.ShelfPart.{ShelfPart}
 use Rattle.helpers.specs.declared.shelves.ShelfPart.the-variants as part
 use Rattle.models.specs.declared.errors.ErrorParams.{ErrorParams}
@@ -80,7 +80,7 @@ shapeThere shape.Absent = 0
 shapeThere (shape.Present x) = 1
 
 abbrev pub shapeNumber : ShapePart → Float
-shapeNumber shape.Absent = exp.zero
+shapeNumber shape.Absent = constants.zero
 shapeNumber (shape.Present x) = x
 
 abbrev pub ofErrors : ErrorParams → FlatErrors
@@ -97,7 +97,7 @@ shelfThere part.Absent = 0
 shelfThere (part.Present s) = 1
 
 abbrev pub shelfNumbers : ShelfPart → FlatShelf
-shelfNumbers part.Absent = record { share = exp.zero; alpha = exp.zero; beta = exp.zero }
+shelfNumbers part.Absent = record { share = constants.zero; alpha = constants.zero; beta = constants.zero }
 shelfNumbers (part.Present s) = record { share = s .share; alpha = s .alpha; beta = s .beta }
 
 unfoldable pub ofFit : SpectrumFit → FlatFit
@@ -133,6 +133,6 @@ abbrev pub ofFitAnswer : FitAnswer → FlatFitAnswer
 ofFitAnswer a = record { number = a .number; fit = ofFit (a .fit) }
 
 abbrev pub sayHeights : Reply Heights → FlatHeights
-sayHeights (refuse n) = record { number = n; error = exp.zero; single = exp.zero; repeat = exp.zero }
-sayHeights (broken place) = record { number = 3; error = exp.zero; single = exp.zero; repeat = exp.zero }
+sayHeights (refuse n) = record { number = n; error = constants.zero; single = constants.zero; repeat = constants.zero }
+sayHeights (broken place) = record { number = 3; error = constants.zero; single = constants.zero; repeat = constants.zero }
 sayHeights (give h) = record { number = 0; error = h .error; single = h .single; repeat = h .repeat }

@@ -10,7 +10,7 @@ use lib.IntN.{ℤ}
 use lib.Ieee.{Float, nan, inf, fin, binary64, up, down, ofBits, lt, le, eq, ne, toUnsigned, fits}
 use lib.Ieee.Fits.{down-pos, and-r, sub-fits}
 use lib.Ieee.Scale.{finite}
-use Rattle.routines.specs.Exp.{zero, one}
+use Rattle.routines.specs.Constants.{zero, one}
 use Rattle.routines.proofs.Ranges.{Kept, wide, floor-keeps}
 use Rattle.helpers.specs.Lobes.{discreteNbModeOf, two64}
 use Rattle.routines.specs.Ops.{_⊖_}

@@ -5,7 +5,7 @@ use mathlib.Core.List.{List}
 use lib.Ieee.{Float, le, neg}
 use Rattle.routines.specs.Lgamma.{lgammaOf}
 use Rattle.routines.specs.Ln.{lnOf}
-use Rattle.routines.specs.Exp.{one}
+use Rattle.routines.specs.Constants.{one}
 use Rattle.routines.specs.Ops.{_⊕_, _⊖_, _⊗_}
 use Rattle.helpers.specs.Lobes.{sizeOf, logQOf, lnDpoisOf, lnDnbinomOf, nearlyPoisson, lobeOf, densityOf, poissonOf, binomialOf}
 use Rattle.helpers.specs.Shelves.{mixSingleCopyOf, shelfLogsOf, mixEntryOf}

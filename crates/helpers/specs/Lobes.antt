@@ -3,7 +3,7 @@ use Prim.Native.Nat.{ℕ}
 use mathlib.Core.Bool.{Bool, true, false, _&&_, cond}
 use lib.Ieee.{Float, binary64, ofBits, neg, lt, le, toUnsigned}
 use lib.Ieee.Scale.{finite}
-use Rattle.routines.specs.Exp.{zero, one}
+use Rattle.routines.specs.Constants.{zero, one}
 use Rattle.routines.specs.Lgamma.{lgammaOf}
 use Rattle.routines.specs.Ln.{lnOf}
 use Rattle.routines.specs.Ops.{_⊕_, _⊖_, _⊗_, _⊘_}

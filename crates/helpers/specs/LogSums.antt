@@ -2,7 +2,8 @@
 use mathlib.Core.Bool.{Bool, true, false, _||_, cond}
 use lib.Ieee.{Float, nan, inf, neg, lt, le, eq, ne}
 use lib.Ieee.Scale.{finite}
-use Rattle.routines.specs.Exp.{expOf, zero, one}
+use Rattle.routines.specs.Constants.{zero, one}
+use Rattle.routines.specs.Exp.{expOf}
 use Rattle.routines.specs.Expm1.{expm1Of}
 use Rattle.routines.specs.Ln.{lnOf}
 use Rattle.routines.specs.Ops.{_⊕_, _⊖_, _⊘_}

@@ -8,8 +8,8 @@ use lib.Ieee.{Float, inf, lt, toUnsigned}
 use Rattle.meaning.specs.Fold.{fold}
 use Rattle.meaning.specs.Over.{over}
 use Rattle.meaning.specs.Reply.{Reply, give, chain, test, onGive}
-use Rattle.routines.specs.Exp as exp
-use Rattle.routines.specs.Exp.{one}
+use Rattle.routines.specs.Constants as constants
+use Rattle.routines.specs.Constants.{one}
 use Rattle.routines.specs.Lgamma.{lgammaOf}
 use Rattle.routines.specs.Ln.{lnOf}
 use Rattle.routines.specs.Ops.{_⊕_, _⊖_, ofCount}
@@ -83,7 +83,7 @@ mixSingleCopyOf lobe count (Present s) table = mixed lobe s (entryAtOf count tab
 
 -- ---- the same from the shelf's two logs, which do not change with the count
 abbrev pub shelfLogsOf : ShelfPart → ShelfLogs
-shelfLogsOf Absent = record { rest = exp.zero; share = inf true }
+shelfLogsOf Absent = record { rest = constants.zero; share = inf true }
 shelfLogsOf (Present s) = record { rest = lnOf (one ⊖ s .share); share = lnOf (s .share) }
 
 abbrev pub mixEntryOf : Float → Float → ShelfPart → ShelfLogs → List Float → Float

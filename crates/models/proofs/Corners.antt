@@ -5,7 +5,7 @@ use lib.Ieee.{Float, nan, inf, fin, add, sub, neg, mul, lt, le, eq, ne, ofBits, 
 use lib.Ieee.Scale.{finite}
 use Rattle.meaning.specs.Reply.{give}
 use Rattle.meaning.proofs.Replies.{same-answer}
-use Rattle.routines.specs.Exp.{one}
+use Rattle.routines.specs.Constants.{one}
 use Rattle.routines.specs.Ln.{lnOf}
 use Rattle.routines.specs.Ops.{_⊕_, _⊖_, _⊗_, ofCount}
 use Rattle.routines.proofs.AnnexF.{exp-nan, ln-below-zero}

@@ -8,7 +8,7 @@ use lib.ListN.{length}
 use lib.Ieee.{Float, inf, neg, le}
 use lib.Ieee.Scale.{finite}
 use Rattle.meaning.specs.Over.{over}
-use Rattle.routines.specs.Exp.{zero}
+use Rattle.routines.specs.Constants.{zero}
 use Rattle.models.specs.Costs.{modeHeld, started, likelihoodUsable, evaluatedOf, costAt, tableAt}
 use Rattle.models.specs.Likelihoods.{likelihoodOf}
 use Rattle.models.specs.Masses.{entriesOf, windowMassesOf, massesUsable}

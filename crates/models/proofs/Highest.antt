@@ -14,7 +14,7 @@ use lib.Ieee.Fits.{add-fits, cond-fits}
 use Rattle.meaning.specs.Reply.{Reply, refuse, give, chain, test}
 use Rattle.meaning.proofs.Folds.{fold-first, fold-keeps}
 use Rattle.meaning.proofs.Replies.{answer-not-refused, same-number, gave-none, gave-answer}
-use Rattle.routines.specs.Exp.{one}
+use Rattle.routines.specs.Constants.{one}
 use Rattle.routines.specs.Ln.{lnOf}
 use Rattle.routines.specs.Ops.{_⊕_, _⊖_, ofCount}
 use Rattle.routines.proofs.ShapesLn.{ln-fits}

@@ -13,7 +13,7 @@ use lib.Pow.{pow-pos}
 use lib.Ieee.{Float, nan, inf, fin, binary64, up, down, unlike, ofBits, div, lt, eq, isNan, fits}
 use lib.Ieee.Fits.{up-pos, down-pos}
 use lib.Ieee.Scale.{finite, round-same}
-use Rattle.routines.specs.Exp.{one}
+use Rattle.routines.specs.Constants.{one}
 use Rattle.routines.specs.Ops.{_⊘_}
 use Rattle.routines.specs.Units.{unitsOf}
 use Rattle.routines.proofs.Sizes.{in-units}

@@ -6,7 +6,8 @@ use lib.ListN.{length}
 use lib.Ieee.{Float, neg}
 use Rattle.meaning.specs.Over.{over}
 use Rattle.meaning.specs.Reply.{refuse, give, firstOf}
-use Rattle.routines.specs.Exp.{expOf, zero}
+use Rattle.routines.specs.Constants.{zero}
+use Rattle.routines.specs.Exp.{expOf}
 use Rattle.routines.specs.Ln.{lnOf}
 use Rattle.routines.specs.Ops.{_⊕_, _⊗_, ofCount}
 use Rattle.models.specs.Deviances.{two, devianceOf}

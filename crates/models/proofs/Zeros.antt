@@ -17,7 +17,7 @@ use Rattle.meaning.specs.Fold.{fold}
 use Rattle.meaning.specs.Reply.{give}
 use Rattle.meaning.proofs.Folds.{fold-more, fold-keeps, fold-none}
 use Rattle.meaning.proofs.Replies.{gave-none, gave-answer}
-use Rattle.routines.specs.Exp as exp
+use Rattle.routines.specs.Constants as constants
 use Rattle.routines.specs.Ops.{_⊕_, ofCount}
 use Rattle.routines.proofs.Zeros.{sum-minus-zero, product-minus-zero}
 use Rattle.helpers.proofs.LogLaws.{lse3-fits, lse3-not-minus-zero}
@@ -50,9 +50,9 @@ point-other p m lobe second count table =
       other = lse3-not-minus-zero _ _ _ (sub-fits binary64 _ _) (sub-fits binary64 _ _) (sub-fits binary64 _ _);
     }
 
-at-least-one : (n : ℕ) → 1 ≤ n → le exp.one (ofCount n) ≡ true
+at-least-one : (n : ℕ) → 1 ≤ n → le constants.one (ofCount n) ≡ true
 unfolding ofInt ofBits
-at-least-one n h = is-true (le exp.one (ofCount n)) (unfold round in round-mono binary64 1 1 n 1 (omega arith) (omega arith) (omega arith))
+at-least-one n h = is-true (le constants.one (ofCount n)) (unfold round in round-mono binary64 1 1 n 1 (omega arith) (omega arith) (omega arith))
   where
     is-true : (b : Bool) → T b → b ≡ true
     is-true true t = refl
@@ -95,9 +95,9 @@ module _ (bins : List ℕ) (scale : Float) (term : ℕ → ℕ → Float) (terms
 
   minus-zero-none : (top : ℕ) (g : ℤ) → overObserved bins scale top term ≡ fin true 0 g → noneRecoveredOf bins scale top ≡ true
   unfolding overObserved
-  minus-zero-none top = fold-keeps (observedStep bins scale term) So 0 top (neg exp.zero) (omega arith) (λ (k : ℕ) (x : Float) (l : 0 ≤ k) (h : k < top). goes k x) begin .none
+  minus-zero-none top = fold-keeps (observedStep bins scale term) So 0 top (neg constants.zero) (omega arith) (λ (k : ℕ) (x : Float) (l : 0 ≤ k) (h : k < top). goes k x) begin .none
     where
-      begin : So 0 (neg exp.zero)
+      begin : So 0 (neg constants.zero)
       begin = record { held = unfold neg ofBits fits in tt; none = λ g z. unfold allOf in fold-none (allStep empty) 0 0 true (omega arith) }
 
 -- ---- the cost

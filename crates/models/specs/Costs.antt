@@ -8,7 +8,7 @@ use lib.Ieee.{Float, inf, neg, lt, le}
 use lib.Ieee.Scale.{finite}
 use Rattle.meaning.specs.Over.{over}
 use Rattle.meaning.specs.Reply.{Reply, give, chain, onGive}
-use Rattle.routines.specs.Exp.{zero, half}
+use Rattle.routines.specs.Constants.{zero, half}
 use Rattle.routines.specs.Ops.{ofCount}
 use Rattle.helpers.specs.declared.shelves.ShelfPart.{ShelfPart}
 use Rattle.helpers.specs.declared.shelves.ShelfPart.the-variants.{Absent, Present}

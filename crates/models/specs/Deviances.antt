@@ -3,7 +3,7 @@ use Prim.Native.Nat.{ℕ, _+_}
 use mathlib.Core.Bool.{false, cond}
 use mathlib.Core.List.{List}
 use lib.Ieee.{Float, inf, neg, binary64, ofBits, lt}
-use Rattle.routines.specs.Exp.{zero}
+use Rattle.routines.specs.Constants.{zero}
 use Rattle.routines.specs.Ln.{lnOf}
 use Rattle.routines.specs.Ops.{_⊕_, _⊗_, _⊘_, ofCount}
 use Rattle.models.specs.Heights.{heightsAt}

@@ -3,7 +3,7 @@ use Prim.Native.Nat.{ℕ}
 use mathlib.Core.Bool.{Bool, true, false, cond}
 use lib.Ieee.{Float, neg, eq}
 use Rattle.meaning.specs.Reply.{Reply}
-use Rattle.routines.specs.Exp.{zero, one}
+use Rattle.routines.specs.Constants.{zero, one}
 use Rattle.routines.specs.Expm1.{expm1Of}
 use Rattle.routines.specs.Ln.{lnOf}
 use Rattle.routines.specs.Ops.{_⊕_, _⊖_, _⊗_, _⊘_, ofCount}

@@ -3,7 +3,8 @@ use Prim.Native.Nat.{ℕ}
 use mathlib.Core.Bool.{cond}
 use lib.ListN.{getD}
 use lib.Ieee.{Float, nan, lt, eq, neg}
-use Rattle.routines.specs.Exp.{expOf, zero, one}
+use Rattle.routines.specs.Constants.{zero, one}
+use Rattle.routines.specs.Exp.{expOf}
 use Rattle.routines.specs.Ln.{lnOf}
 use Rattle.routines.specs.Ops.{_⊖_, _⊗_}
 use Rattle.helpers.specs.Lobes.{discreteNbModeOf}

@@ -6,7 +6,7 @@ use lib.Dec.{ltb, eqb}
 use lib.Ieee.{Float, inf, lt, eq, ne}
 use Rattle.meaning.specs.Fold.{fold}
 use Rattle.meaning.specs.Reply.{Reply, give, chain, test}
-use Rattle.routines.specs.Exp.{one}
+use Rattle.routines.specs.Constants.{one}
 use Rattle.routines.specs.Ops.{_⊘_, ofCount}
 use Rattle.models.specs.Errors.{logProbabilityOf}
 use Rattle.models.specs.declared.errors.ErrorParams.{ErrorParams}

@@ -6,7 +6,8 @@ use lib.Dec.{ltb, eqb}
 use lib.ListN.{length, getD}
 use lib.Ieee.{Float, nan, binary64, ofBits, neg}
 use Rattle.meaning.specs.Reply.{Reply, refuse, give, chain, test}
-use Rattle.routines.specs.Exp.{expOf, zero, half, one}
+use Rattle.routines.specs.Constants.{zero, half, one}
+use Rattle.routines.specs.Exp.{expOf}
 use Rattle.routines.specs.Ops.{_⊕_, _⊖_, _⊗_, _⊘_, ofCount}
 use Rattle.helpers.specs.LogSums.{sigmoidOf, softmax3Of}
 use Rattle.helpers.specs.declared.shelves.Shelf.{Shelf}

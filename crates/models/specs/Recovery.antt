@@ -3,7 +3,7 @@ use Prim.Native.Nat.{ℕ}
 use mathlib.Core.Bool.{Bool, true, false, _&&_, cond}
 use lib.Ieee.{Float, le, toUnsigned}
 use lib.Ieee.Scale.{finite}
-use Rattle.routines.specs.Exp.{one}
+use Rattle.routines.specs.Constants.{one}
 use Rattle.routines.specs.Ops.{_⊘_, ofCount}
 use Rattle.routines.specs.Whole.{roundOf}
 

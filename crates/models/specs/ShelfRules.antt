@@ -2,7 +2,7 @@
 use mathlib.Core.Bool.{Bool, _&&_}
 use lib.Ieee.{Float, binary64, ofBits, lt, le}
 use lib.Ieee.Scale.{finite}
-use Rattle.routines.specs.Exp.{zero, half, one}
+use Rattle.routines.specs.Constants.{zero, half, one}
 use Rattle.routines.specs.Ops.{_⊕_, _⊖_, _⊗_, _⊘_}
 use Rattle.helpers.specs.declared.shelves.Shelf.{Shelf}
 use Rattle.models.specs.declared.shelf_rules.Bounds.{Bounds}

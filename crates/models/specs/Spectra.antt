@@ -7,7 +7,7 @@ use lib.ListN.{length, getD}
 use lib.Ieee.{Float, neg}
 use Rattle.meaning.specs.Fold.{fold}
 use Rattle.routines.specs.Ops.{_⊕_, ofCount}
-use Rattle.routines.specs.Exp.{zero}
+use Rattle.routines.specs.Constants.{zero}
 use Rattle.models.specs.Recovery.{roundedQuotientOf}
 
 -- bin i over the scale, and 0 over the scale behind the bins

@@ -5,7 +5,8 @@ use lib.ListN.{length}
 use lib.Ieee.{Float, neg}
 use Rattle.meaning.specs.Over.{over}
 use Rattle.meaning.specs.Reply.{Reply, refuse, broken, give, chain, onGive}
-use Rattle.routines.specs.Exp.{expOf, zero}
+use Rattle.routines.specs.Constants.{zero}
+use Rattle.routines.specs.Exp.{expOf}
 use Rattle.routines.specs.Ln.{lnOf}
 use Rattle.routines.specs.Ops.{_⊕_, _⊖_, _⊗_, ofCount}
 use Rattle.helpers.specs.declared.shelves.ShelfPart.the-variants as shelf

@@ -2,7 +2,7 @@
 use mathlib.Core.Bool.{Bool, true, not, _&&_}
 use lib.Ieee.{Float, lt, le}
 use lib.Ieee.Scale.{finite}
-use Rattle.routines.specs.Exp.{zero, one}
+use Rattle.routines.specs.Constants.{zero, one}
 use Rattle.helpers.specs.declared.shelves.ShelfPart.{ShelfPart}
 use Rattle.helpers.specs.declared.shelves.ShelfPart.the-variants as shelf
 use Rattle.models.specs.ShelfRules.{shelfIsValidOf}

@@ -8,7 +8,7 @@ ghost use Rattle.meaning.specs.Over.{over};
 ghost use Rattle.models.specs.Costs.{roomy};
 ghost use Rattle.models.specs.Masses.{entriesOf};
 ghost use Rattle.models.specs.Unpacking.{logTotal, fitWith, withDeviance, fitAt, emptyFit, fitAnswerOf, unpackOf, unpackTable};
-ghost use Rattle.routines.specs.Exp.{zero};
+ghost use Rattle.routines.specs.Constants.{zero};
 use crate::costs::fill_table;
 use crate::deviances::conditional_deviance;
 use crate::errors::ErrorParams;

@@ -3,7 +3,7 @@ use Prim.Native.Nat.{ℕ}
 use mathlib.Core.List.{List}
 use lib.ListN.{getD}
 use lib.Ieee.{Float}
-use Rattle.routines.specs.Exp as exp
+use Rattle.routines.specs.Constants as constants
 use Rattle.routines.specs.declared.tables.Power.{Power}
 use Rattle.helpers.specs.declared.lobes.Lobe.{Lobe}
 use Rattle.helpers.specs.declared.log_sums.Logs3.{Logs3}
@@ -19,7 +19,7 @@ abbrev pub ofPower : Power → FlatPair
 ofPower p = record { first = p .value; second = p .rest }
 
 abbrev pub entryOr0 : List Float → ℕ → Float
-entryOr0 xs i = getD xs i exp.zero
+entryOr0 xs i = getD xs i constants.zero
 
 abbrev pub ofLogs3 : Logs3 → FlatLogs3
 ofLogs3 l = record { first = l .first; second = l .second; third = l .third }

@@ -1,7 +1,7 @@
 -- How C has the parameters of a list and a shelf's bounds. Definitions only. Assumes nothing.
 use Prim.Native.Nat.{ℕ}
 use Rattle.meaning.specs.Reply.{Reply, refuse, broken, give}
-use Rattle.routines.specs.Exp.{zero}
+use Rattle.routines.specs.Constants.{zero}
 use Rattle.models.specs.declared.params.Params.{Params}
 use Rattle.models.specs.declared.shelf_rules.Bounds.{Bounds}
 use Rattle.exports.specs.FlatFits.{ofErrors, shelfThere, shelfNumbers}

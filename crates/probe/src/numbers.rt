@@ -3,7 +3,7 @@ ghost use mathlib.Core.Path.{_≡_};
 ghost use lib.IntN.{pos};
 ghost use lib.Ieee.{binary64, ofInt, toUnsigned};
 ghost use lib.Ieee.Scale.{finite};
-ghost use Rattle.routines.specs.Exp.{hpoly};
+ghost use Rattle.routines.specs.Exp.{expTail};
 ghost use Rattle.routines.specs.Held.{atLeast, atMost};
 ghost use Rattle.routines.specs.Pick.{maxOf, minOf};
 ghost use Rattle.routines.specs.Whole.{roundOf, floorOf};
@@ -92,7 +92,7 @@ pub extern "C" fn fog_at_most(v: f64, bound: f64) -> f64
 // exp's polynomial.
 #[no_mangle]
 pub extern "C" fn fog_tail(r: f64) -> f64
-    ensures { λ v. ⌜ v ≡ hpoly r ⌝ }
+    ensures { λ v. ⌜ v ≡ expTail r ⌝ }
 {
     tail(r)
 }

@@ -1,18 +1,20 @@
--- THE SPECIAL VALUES of exp, ln, expm1 and lgamma, to be read beside ISO C, Annex F (F.10.3.1, F.10.3.2, F.10.3.7, F.10.5.3), and then on which side of 0, 1 and -1 each value lies.
--- `nan` is every NaN, `inf true` is -inf, `zeroWith true` is -0, and `fin true m e` is -m * 2 ^ e. Every input is an `f64`, which is what `fits binary64 x` says. Assumes nothing.
+-- THE SPECIAL VALUES of exp, ln, expm1 and lgamma, to be read beside ISO C, Annex F (F.10.3.1, F.10.3.3, F.10.3.7,
+-- F.10.5.3), and then on which side of 0, 1 and -1 each value lies.
+-- `nan` is every NaN, `inf true` is -inf, `zeroWith true` is -0, and `fin true m e` is -m * 2 ^ e. Every input is an
+-- `f64`, which is what `fits binary64 x` says. Assumes nothing.
 use mathlib.Core.Path.{_≡_}
 use mathlib.Core.Bool.{Bool, true, false, not}
 use Prim.Native.Nat.{ℕ, _*_}
 use lib.IntN.{ℤ}
 use lib.Dec.{T}
 use lib.Ieee.{Float, nan, inf, fin, binary64, up, down, lt, le, fits, isNan}
-use Rattle.routines.specs.Signs.{signClear}
-use Rattle.routines.specs.Exp.{expOf, zero, one}
+use Rattle.routines.specs.Signs.{signClear, zeroWith}
+use Rattle.routines.specs.Constants.{zero, one, minusOne, two}
+use Rattle.routines.specs.Exp.{expOf}
 use Rattle.routines.specs.Ln.{lnOf}
-use Rattle.routines.specs.Expm1.{expm1Of, minusOne}
-use Rattle.routines.specs.Lgamma.{lgammaOf, two}
+use Rattle.routines.specs.Expm1.{expm1Of}
+use Rattle.routines.specs.Lgamma.{lgammaOf}
 use Rattle.routines.proofs.Special as special
-use Rattle.routines.proofs.Special.{zeroWith}
 use Rattle.routines.proofs.Poles as poles
 use Rattle.routines.proofs.Shapes as shapes
 use Rattle.routines.proofs.ShapesExpm1 as shapes-expm1
@@ -70,7 +72,7 @@ ln-at-most-zero = shapes-ln.ln-at-most-zero
 pub ln-not-minus-zero : (x : Float) (e : ℤ) → lnOf x ≡ fin true 0 e → ⊥
 ln-not-minus-zero = shapes-ln.ln-not-minus-zero
 
--- ---- expm1 (F.10.3.2)
+-- ---- expm1 (F.10.3.3)
 pub expm1-zero : (s : Bool) → expm1Of (zeroWith s) ≡ zeroWith s
 expm1-zero = special.expm1-zero
 
@@ -103,7 +105,8 @@ pub lgamma-zero : (s : Bool) → lgammaOf (zeroWith s) ≡ inf false
 lgamma-zero = poles.lgamma-zero
 
 -- every negative whole number -c
-pub lgamma-pole : (m : ℕ) (e : ℤ) (c : ℕ) → T (fits binary64 (fin true m e)) → m * up e ≡ c * down e → lgammaOf (fin true m e) ≡ inf false
+pub lgamma-pole : (m : ℕ) (e : ℤ) (c : ℕ) → T (fits binary64 (fin true m e)) → m * up e ≡ c * down e
+    → lgammaOf (fin true m e) ≡ inf false
 lgamma-pole = poles.lgamma-pole
 
 pub lgamma-inf : (s : Bool) → lgammaOf (inf s) ≡ inf false

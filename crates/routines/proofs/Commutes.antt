@@ -1,11 +1,11 @@
--- `add` and `mul` give the same for x and y as for y and x, at every value: a NaN, the infinities and both zeros too. Assumes nothing.
+-- `add` gives the same for x and y as for y and x, at every value: a NaN, the infinities and both zeros too. Assumes nothing.
 use mathlib.Core.Path.{_≡_, refl, sym, ap, _∙_}
 use mathlib.Core.Bool.{Bool, true, false, not, cond}
 use Prim.Native.Nat.{ℕ, _-_, _*_, _≤_, _<_}
 use native.Mathlib.Nat.{add-comm, mul-comm}
 use native.Mathlib.Omega.{arith}
-use lib.Dec.{T, ltb, eqb, ltb→lt, nltb→le}
-use lib.Ieee.{Float, nan, inf, fin, Format, up, down, unlike, round, sum, add, mul}
+use lib.Dec.{T, ltb, ltb→lt, nltb→le}
+use lib.Ieee.{Float, nan, inf, fin, Format, up, down, round, sum, add}
 
 -- ---- `sum`
 -- a - b, and -b + a
@@ -27,7 +27,7 @@ sum-commutes f true a false b c = sym (opposite f b a c)
 sum-commutes f false a true b c = opposite f a b c
 sum-commutes f false a false b c = ap (λ (n : ℕ). round f false n c) (add-comm a b)
 
--- ---- THE STATEMENTS
+-- ---- THE STATEMENT
 pub add-commutes : (f : Format) (x y : Float) → add f x y ≡ add f y x
 unfolding add
 add-commutes f nan nan = refl
@@ -45,26 +45,3 @@ add-commutes f (fin s m e) (fin t n d) =
     let a = m * up e * down d in
     let b = n * up d * down e in
     sum-commutes f s a t b (down e * down d) ∙ ap (λ (c : ℕ). sum f t b s a c) (mul-comm (down e) (down d))
-
-unlike-commutes : (s t : Bool) → unlike s t ≡ unlike t s
-unlike-commutes true true = refl
-unlike-commutes true false = refl
-unlike-commutes false true = refl
-unlike-commutes false false = refl
-
-pub mul-commutes : (f : Format) (x y : Float) → mul f x y ≡ mul f y x
-unfolding mul
-mul-commutes f nan nan = refl
-mul-commutes f nan (inf t) = refl
-mul-commutes f nan (fin t n d) = refl
-mul-commutes f (inf s) nan = refl
-mul-commutes f (inf s) (inf t) = ap inf (unlike-commutes s t)
-mul-commutes f (inf s) (fin t n d) = ap (λ (u : Bool). cond (eqb n 0) nan (inf u)) (unlike-commutes s t)
-mul-commutes f (fin s m e) nan = refl
-mul-commutes f (fin s m e) (inf t) = ap (λ (u : Bool). cond (eqb m 0) nan (inf u)) (unlike-commutes s t)
-mul-commutes f (fin s m e) (fin t n d) =
-    let a = m * up e in
-    let b = n * up d in
-    ap (λ (u : Bool). round f u (a * b) (down e * down d)) (unlike-commutes s t)
-    ∙ ap (λ (p : ℕ). round f (unlike t s) p (down e * down d)) (mul-comm a b)
-    ∙ ap (λ (c : ℕ). round f (unlike t s) (b * a) c) (mul-comm (down e) (down d))

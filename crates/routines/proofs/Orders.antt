@@ -2,18 +2,17 @@
 use mathlib.Core.Path.{_≡_, refl, sym, ap, _∙_, subst}
 use mathlib.Core.Logic.{_⊎_, inl, inr, ⊎-elim}
 use mathlib.Core.Bool.{Bool, true, false, not, _&&_, _||_, Bool·beq, cond, true≢false, false≢true}
-use Prim.Native.Nat.{ℕ, zero, suc, _+_, _*_, _≤_, _<_, zero-le}
+use Prim.Native.Nat.{ℕ, _+_, _*_, _≤_, _<_}
 use native.Mathlib.Nat.{zero-mul, le-antisymm, le-of-eq, le-of-lt}
 use native.Mathlib.Omega.{arith}
 use borrow.Author.Tests.{ltb-true, ltb-false, le-ltb, lt-ltb}
 use lib.IntN.{ℤ, pos}
-use lib.Dec.{T, ltb, eqb, eqb→eq, eqb-refl}
+use lib.Dec.{T, ltb, eqb, eqb→eq}
 use lib.Ieee.{Float, nan, inf, fin, binary64, up, down, ofBits, lt, le, eq, isNan, fits}
 use lib.Ieee.Back.{whole-unique}
 use lib.Ieee.Bits.{is-true}
-use lib.Ieee.Fits.{eq→eqb, up-pos, down-pos, and-l, and-r}
-use Rattle.routines.specs.Exp.{one}
-use Rattle.routines.specs.Exp.{zero as nought}
+use lib.Ieee.Fits.{eq→eqb, down-pos, and-l, and-r}
+use Rattle.routines.specs.Constants.{one, zero as nought}
 use Rattle.routines.specs.Held.{atLeast, atMost}
 use Rattle.routines.specs.Signs.{signClear}
 use Rattle.routines.proofs.Tests.{yes}
@@ -96,7 +95,9 @@ not-below (inf true) h = absurd (false≢true h)
 not-below (inf false) h = refl
 not-below (fin false m e) h = le-ltb (m * up e * 1) (0 * down e) (no-less (m * up e * 1) (down e))
 not-below (fin true m e) h =
-    le-ltb 0 (m * up e * 1 + 0 * down e) (none (m * up e * 1) (down e) (eqb→eq (0 * down e) (m * up e * 1) (and-l (eqb (0 * down e) (m * up e * 1)) (eqb (0 * down e) 0) (yes h))))
+    le-ltb 0 (m * up e * 1 + 0 * down e)
+    (none (m * up e * 1) (down e)
+    (eqb→eq (0 * down e) (m * up e * 1) (and-l (eqb (0 * down e) (m * up e * 1)) (eqb (0 * down e) 0) (yes h))))
   where
     none : (n d : ℕ) → 0 * d ≡ n → n + 0 * d ≤ 0
     none n d h = omega arith
@@ -107,7 +108,8 @@ unfolding lt le eq ofBits
 neither nan h k = refl
 neither (inf true) h k = absurd (true≢false h)
 neither (inf false) h k = absurd (true≢false k)
-neither (fin false m e) h k = absurd (false≢true (sym k ∙ reach (0 * down e) (m * up e * 1) (no-less (m * up e * 1) (down e))))
+neither (fin false m e) h k =
+    absurd (false≢true (sym k ∙ reach (0 * down e) (m * up e * 1) (no-less (m * up e * 1) (down e))))
   where
     reach : (a b : ℕ) → a ≤ b → (ltb a b || (eqb a b && true)) ≡ true
     reach a b l = go (ltb a b) refl
@@ -115,20 +117,31 @@ neither (fin false m e) h k = absurd (false≢true (sym k ∙ reach (0 * down e)
         go : (t : Bool) → ltb a b ≡ t → (t || (eqb a b && true)) ≡ true
         go true e = refl
         go false e = ap (λ (c : Bool). c && true) (is-true (eqb a b) (eq→eqb (le-antisymm l (ltb-false a b e))))
-neither (fin true m e) h k = absurd (false≢true (sym k ∙ level-zero (0 * down e) (m * up e * 1) (zero-mul (down e)) (none (m * up e * 1) (down e) (ltb-false 0 (m * up e * 1 + 0 * down e) h))))
+neither (fin true m e) h k =
+    absurd
+    (false≢true
+    (sym k
+    ∙ level-zero (0 * down e) (m * up e * 1) (zero-mul (down e)) (none (m * up e * 1) (down e)
+    (ltb-false 0 (m * up e * 1 + 0 * down e) h))))
   where
     none : (n d : ℕ) → n + 0 * d ≤ 0 → n ≡ 0
     none n d h = omega arith
 
     level-zero : (a b : ℕ) → a ≡ 0 → b ≡ 0 → (eqb a b && eqb a 0) ≡ true
-    level-zero a b p q = subst (λ (n : ℕ). (eqb n b && eqb n 0) ≡ true) (sym p) (subst (λ (n : ℕ). (eqb 0 n && eqb 0 0) ≡ true) (sym q) refl)
+    level-zero a b p q =
+        subst (λ (n : ℕ). (eqb n b && eqb n 0) ≡ true) (sym p)
+        (subst (λ (n : ℕ). (eqb 0 n && eqb 0 0) ≡ true) (sym q) refl)
 
 -- an `f64` that is level with zero is a zero
 pub zero-is : (x : Float) → T (fits binary64 x) → eq x nought ≡ true → (s : Bool) × (x ≡ fin s 0 (pos 0))
 unfolding eq ofBits fits
 zero-is nan F h = absurd (false≢true h)
 zero-is (inf s) F h = absurd (false≢true h)
-zero-is (fin s m e) F h = (s, whole-unique binary64 (fin s m e) (fin s 0 (pos 0)) s 0 F tt (refl, eqb→eq (m * up e * 1) (0 * down e) (and-l (eqb (m * up e * 1) (0 * down e)) (same s) (yes h))) (refl, refl))
+zero-is (fin s m e) F h = (
+  s,
+  whole-unique binary64 (fin s m e) (fin s 0 (pos 0)) s 0 F tt
+      (refl, eqb→eq (m * up e * 1) (0 * down e) (and-l (eqb (m * up e * 1) (0 * down e)) (same s) (yes h))) (refl, refl),
+)
   where
     same : Bool → Bool
     same s = Bool·beq s false || eqb (m * up e * 1) 0
@@ -150,4 +163,9 @@ one-above-zero (fin true m e) h = absurd (apart (1 * down e) (m * up e * 1) (dow
         none : (d : ℕ) → 0 < d → 1 * d ≡ 0 → ⊥
         none d k h = omega arith
 one-above-zero (fin false m e) h =
-    lt-ltb (0 * down e) (m * up e * 1) (one-positive (m * up e * 1) (down e) (⊎-elim (λ l. le-of-lt (ltb-true (1 * down e) (m * up e * 1) l)) (λ l. le-of-eq (eqb→eq (1 * down e) (m * up e * 1) (and-l (eqb (1 * down e) (m * up e * 1)) true (yes l)))) (or-split (ltb (1 * down e) (m * up e * 1)) (eqb (1 * down e) (m * up e * 1) && true) h)) (down-pos e))
+    lt-ltb (0 * down e) (m * up e * 1)
+    (one-positive (m * up e * 1) (down e)
+    (⊎-elim (λ l. le-of-lt (ltb-true (1 * down e) (m * up e * 1) l))
+    (λ l. le-of-eq (eqb→eq (1 * down e) (m * up e * 1) (and-l (eqb (1 * down e) (m * up e * 1)) true (yes l))))
+    (or-split (ltb (1 * down e) (m * up e * 1)) (eqb (1 * down e) (m * up e * 1) && true) h))
+    (down-pos e))

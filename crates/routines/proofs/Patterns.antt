@@ -1,5 +1,6 @@
--- Which patterns are no NaN's, and which values are no NaN: what `f64::from_bits` and `f64::to_bits` ask. Assumes nothing.
-use mathlib.Core.Path.{_≡_, refl, sym, ap, _∙_, subst}
+-- Which patterns are no NaN's, and which values are no NaN: what `f64::from_bits` and `f64::to_bits` ask. Assumes
+-- nothing.
+use mathlib.Core.Path.{_≡_, sym, _∙_, subst}
 use mathlib.Core.Bool.{Bool, true, false, not, cond, true≢false, false≢true}
 use Prim.Native.Nat.{ℕ, zero, suc, _+_, _*_, _/_, _%_, _^_, _≤_}
 use native.Mathlib.Omega.{arith}
@@ -7,10 +8,13 @@ use borrow.Author.Tests.{le-ltb}
 use lib.Dec.{T, ltb}
 use lib.IntN.{ℤ, pos}
 use lib.Count.{trailingZeros}
-use lib.Ieee.{Float, nan, inf, fin, Format, binary64, prec, emax, low, minus, odd, units, round, unlike, up, down, mul, ofBits, nanBits, isNan, le, lt, ne}
+use lib.Ieee.{Float, nan, inf, fin, Format, binary64, prec, emax, low, minus, odd, units, round, unlike, up, down, mul}
+use lib.Ieee.{ofBits, nanBits, isNan, le, lt, ne}
 use lib.Ieee.Compare.{nan-differs}
 use lib.Ieee.Fits.{round-is}
 use lib.Ieee.Bits.{nanBits-above}
+use Rattle.routines.specs.Constants.{zero as nought}
+use Rattle.routines.specs.Ln.{SCALE}
 use Rattle.routines.proofs.Tests.{no}
 
 pub no-nan : (n : ℕ) → n % 2 ^ 63 ≤ 2047 * 2 ^ 52 → T (not (nanBits binary64 n))
@@ -33,16 +37,19 @@ least-no-nan a (inf s) h = tt
 least-no-nan a (fin s m e) h = tt
 
 -- ---- what is rounded is an infinity or a finite value with the sign given
-units-are : (f : Format) (s : Bool) (q k : ℕ) (P : Float → Type 0) → P (inf s) → ((m : ℕ) (e : ℤ) → P (fin s m e)) → P (units f s q k)
+units-are : (f : Format) (s : Bool) (q k : ℕ) (P : Float → Type 0) → P (inf s) → ((m : ℕ) (e : ℤ) → P (fin s m e))
+    → P (units f s q k)
 unfolding units odd
 units-are f s q k P i g = go (ltb (q * 2 ^ k) (2 ^ (low f + suc (emax f)))) q
   where
     go : (b : Bool) (q : ℕ) → P (cond b (odd (suc (prec f)) s q k (low f)) (inf s))
     go true zero = g zero (pos zero)
-    go true (suc q) = g (suc q / 2 ^ trailingZeros (suc (prec f)) (suc q)) (minus (k + trailingZeros (suc (prec f)) (suc q)) (low f))
+    go true (suc q) =
+        g (suc q / 2 ^ trailingZeros (suc (prec f)) (suc q)) (minus (k + trailingZeros (suc (prec f)) (suc q)) (low f))
     go false q = i
 
-pub rounded-are : (f : Format) (s : Bool) (a d : ℕ) (P : Float → Type 0) → P (inf s) → ((m : ℕ) (e : ℤ) → P (fin s m e)) → P (round f s a d)
+pub rounded-are : (f : Format) (s : Bool) (a d : ℕ) (P : Float → Type 0) → P (inf s) → ((m : ℕ) (e : ℤ) → P (fin s m e))
+    → P (round f s a d)
 rounded-are f s a d P i g = subst P (sym (round-is f s a d)) (units-are f s _ _ P i g)
 
 pub round-no-nan : (f : Format) (s : Bool) (a d : ℕ) → T (not (isNan (round f s a d)))
@@ -50,7 +57,7 @@ unfolding isNan
 round-no-nan f s a d = rounded-are f s a d (λ (x : Float). T (not (isNan x))) tt (λ m e. tt)
 
 -- a positive value times 2 ^ 54
-pub positive-times : (x : Float) → lt (ofBits binary64 0) x ≡ true → T (not (isNan (mul binary64 x (ofBits binary64 0x4350000000000000))))
+pub positive-times : (x : Float) → lt nought x ≡ true → T (not (isNan (mul binary64 x SCALE)))
 unfolding lt ofBits mul isNan
 positive-times nan h = absurd (false≢true h)
 positive-times (inf s) h = tt

@@ -21,7 +21,9 @@ takes (fin s m e) b r h = refl
 
 -- ---- `is_finite`
 zero-times : (s : Bool) (a d : ℕ) → 0 < d → round binary64 s (a * 0) (d * 1) ≡ round binary64 s 0 1
-zero-times s a d D = round-same binary64 s (a * 0) (d * 1) 0 1 (mul-pos D (zero-lt-suc 0)) (zero-lt-suc 0) (ap (λ (z : ℕ). z * 1) (mul-zero a) ∙ sym (zero-mul (d * 1)))
+zero-times s a d D =
+    round-same binary64 s (a * 0) (d * 1) 0 1 (mul-pos D (zero-lt-suc 0)) (zero-lt-suc 0)
+    (ap (λ (z : ℕ). z * 1) (mul-zero a) ∙ sym (zero-mul (d * 1)))
 
 zero-level : (s : Bool) → eq (round binary64 s 0 1) (ofBits binary64 0) ≡ true
 unfolding eq round ofBits
@@ -32,4 +34,6 @@ pub finite-is : (x : Float) → eq (mul binary64 x (ofBits binary64 0)) (ofBits 
 unfolding mul eq ofBits
 finite-is nan = refl
 finite-is (inf s) = refl
-finite-is (fin s m e) = ap (λ (z : Float). eq z (ofBits binary64 0)) (zero-times (unlike s false) (m * up e) (down e) (down-pos e)) ∙ zero-level (unlike s false)
+finite-is (fin s m e) =
+    ap (λ (z : Float). eq z (ofBits binary64 0)) (zero-times (unlike s false) (m * up e) (down e) (down-pos e))
+    ∙ zero-level (unlike s false)

@@ -1,12 +1,13 @@
--- A product v x against v itself: by a factor of 1 or more v does not come nearer to 0, and by one of at most 1 it does not go further, rounding and all. So where v x is above v, v has the sign of x - 1.
+-- A product v x against v itself: by a factor of 1 or more v does not come nearer to 0, and by one of at most 1 it does
+-- not go further, rounding and all. So where v x is above v, v has the sign of x - 1.
 -- Assumes nothing.
 use mathlib.Core.Path.{_≡_, refl, sym, ap, _∙_, subst}
-use mathlib.Core.Logic.{_⊎_, inl, inr, ⊎-elim}
-use mathlib.Core.Bool.{Bool, true, false, not, _&&_, _||_, cond, true≢false, false≢true}
-use Prim.Native.Nat.{ℕ, zero, suc, _+_, _*_, _^_, _≤_, _<_, zero-le}
-use native.Mathlib.Nat.{le-trans, le-of-eq, le-of-lt, mul-one, one-mul, zero-mul, mul-comm, mul-assoc, mul-right-comm, mul-left-comm, mul-le-mul-right, mul-le-mul-left, le-of-mul-le-mul-right, mul-pos, zero-lt-suc}
+use mathlib.Core.Bool.{Bool, true, false, _&&_, _||_, cond, true≢false, false≢true}
+use Prim.Native.Nat.{ℕ, zero, suc, _+_, _*_, _≤_, _<_}
+use native.Mathlib.Nat.{le-trans, le-of-eq, le-of-lt, zero-mul, mul-comm, mul-assoc, mul-le-mul-right, mul-le-mul-left}
+use native.Mathlib.Nat.{le-of-mul-le-mul-right, mul-pos, zero-lt-suc}
 use native.Mathlib.Omega.{arith}
-use borrow.Author.Tests.{ltb-true, ltb-false, le-ltb, lt-ltb}
+use borrow.Author.Tests.{ltb-true, le-ltb, lt-ltb}
 use lib.IntN.{ℤ, pos}
 use lib.Dec.{T, ltb, eqb, eqb→eq}
 use lib.Ieee.{Float, nan, inf, fin, binary64, up, down, unlike, ofBits, neg, lt, le, eq, mul, round, fits}
@@ -14,15 +15,15 @@ use lib.Ieee.Fits.{down-pos, up-pos, and-l}
 use lib.Ieee.Exact.{HasValue, round-exact}
 use lib.Ieee.Order.{round-mono}
 use lib.Ieee.Scale.{round-same}
-use Rattle.routines.specs.Exp.{one}
-use Rattle.routines.specs.Exp.{zero as nought}
+use Rattle.routines.specs.Constants.{one, zero as nought}
 use Rattle.routines.proofs.Tests.{yes}
 use Rattle.routines.proofs.Patterns.{rounded-are}
 use Rattle.routines.proofs.Sizes.{in-units, neg-round}
 use Rattle.routines.proofs.Orders.{one-above-zero}
 
 -- ---- the size of a value that fits, rounded, is that size
-own-size : (s : Bool) (m : ℕ) (e : ℤ) → T (fits binary64 (fin s m e)) → HasValue (round binary64 false (m * up e) (down e)) false (m * up e) (down e)
+own-size : (s : Bool) (m : ℕ) (e : ℤ) → T (fits binary64 (fin s m e))
+    → HasValue (round binary64 false (m * up e) (down e)) false (m * up e) (down e)
 own-size s m e F =
     let u = in-units s m e F in
     round-exact binary64 false (m * up e) (down e) m (u .0) (down-pos e) (u .1) (u .3) (u .2)
@@ -56,21 +57,27 @@ module _ (m : ℕ) (e : ℤ) (x : Float) (own : HasValue x false (m * up e) (dow
   unfolding le lt eq
   up-from r h k g i = go x own (subst (λ (y : Float). T (le x y)) i h)
     where
-      go : (x : Float) → HasValue x false (m * up e) (down e) → T (le x (fin false k g)) → m * up e * down g ≤ k * up g * down e
+      go : (x : Float) → HasValue x false (m * up e) (down e) → T (le x (fin false k g))
+          → m * up e * down g ≤ k * up g * down e
       go nan v t = absurd v
       go (inf s) v t = absurd v
       go (fin true a b) v t = absurd (true≢false (v .0))
-      go (fin false a b) v t = carry-up (m * up e) (down e) (a * up b) (down b) (k * up g) (down g) (down-pos b) (v .1) (or-le (a * up b * down g) (k * up g * down b) t)
+      go (fin false a b) v t =
+          carry-up (m * up e) (down e) (a * up b) (down b) (k * up g) (down g) (down-pos b) (v .1)
+          (or-le (a * up b * down g) (k * up g * down b) t)
 
   down-to : (r : Float) → T (le r x) → ((k : ℕ) (g : ℤ) → r ≡ fin false k g → k * up g * down e ≤ m * up e * down g)
   unfolding le lt eq
   down-to r h k g i = go x own (subst (λ (y : Float). T (le y x)) i h)
     where
-      go : (x : Float) → HasValue x false (m * up e) (down e) → T (le (fin false k g) x) → k * up g * down e ≤ m * up e * down g
+      go : (x : Float) → HasValue x false (m * up e) (down e) → T (le (fin false k g) x)
+          → k * up g * down e ≤ m * up e * down g
       go nan v t = absurd v
       go (inf s) v t = absurd v
       go (fin true a b) v t = absurd (true≢false (v .0))
-      go (fin false a b) v t = carry-down (m * up e) (down e) (a * up b) (down b) (k * up g) (down g) (down-pos b) (v .1) (or-le (k * up g * down b) (a * up b * down g) t)
+      go (fin false a b) v t =
+          carry-down (m * up e) (down e) (a * up b) (down b) (k * up g) (down g) (down-pos b) (v .1)
+          (or-le (k * up g * down b) (a * up b * down g) t)
 
   finite-below : (r : Float) → T (le r x) → r ≡ inf false → ⊥
   unfolding le lt eq
@@ -85,7 +92,9 @@ module _ (m : ℕ) (e : ℤ) (x : Float) (own : HasValue x false (m * up e) (dow
 module _ (m : ℕ) (e : ℤ) (n : ℕ) (d : ℤ) where
   more-size : down d ≤ n * up d → m * up e * (down e * down d) ≤ m * up e * (n * up d) * down e
   more-size h =
-      le-trans (le-of-eq (ap (λ (z : ℕ). m * up e * z) (mul-comm (down e) (down d)) ∙ sym (mul-assoc (m * up e) (down d) (down e))))
+      le-trans
+      (le-of-eq
+      (ap (λ (z : ℕ). m * up e * z) (mul-comm (down e) (down d)) ∙ sym (mul-assoc (m * up e) (down d) (down e))))
       (mul-le-mul-right (down e) (mul-le-mul-left (m * up e) h))
 
   less-size : n * up d ≤ down d → m * up e * (n * up d) * down e ≤ m * up e * (down e * down d)
@@ -94,23 +103,33 @@ module _ (m : ℕ) (e : ℤ) (n : ℕ) (d : ℤ) where
       (le-of-eq (mul-assoc (m * up e) (down d) (down e) ∙ ap (λ (z : ℕ). m * up e * z) (mul-comm (down d) (down e))))
 
   -- a negative value, by a factor of 1 or more, does not rise
-  no-rise : T (fits binary64 (fin true m e)) → down d ≤ n * up d → lt (fin true m e) (mul binary64 (fin true m e) (fin false n d)) ≡ false
+  no-rise : T (fits binary64 (fin true m e)) → down d ≤ n * up d
+      → lt (fin true m e) (mul binary64 (fin true m e) (fin false n d)) ≡ false
   unfolding mul
-  no-rise F h = subst (λ (r : Float). lt (fin true m e) r ≡ false) (neg-round binary64 (m * up e * (n * up d)) (down e * down d)) (at-neg own)
+  no-rise F h =
+      subst (λ (r : Float). lt (fin true m e) r ≡ false) (neg-round binary64 (m * up e * (n * up d)) (down e * down d))
+      (at-neg own)
     where
       x0 : Float
       x0 = round binary64 false (m * up e) (down e)
 
       own : T (le x0 (round binary64 false (m * up e * (n * up d)) (down e * down d)))
-      own = round-mono binary64 (m * up e) (down e) (m * up e * (n * up d)) (down e * down d) (down-pos e) (mul-pos (down-pos e) (down-pos d)) (more-size h)
+      own =
+          round-mono binary64 (m * up e) (down e) (m * up e * (n * up d)) (down e * down d) (down-pos e)
+          (mul-pos (down-pos e) (down-pos d)) (more-size h)
 
-      at-neg : T (le x0 (round binary64 false (m * up e * (n * up d)) (down e * down d))) → lt (fin true m e) (neg (round binary64 false (m * up e * (n * up d)) (down e * down d))) ≡ false
-      at-neg = rounded-are binary64 false (m * up e * (n * up d)) (down e * down d) (λ (r : Float). T (le x0 r) → lt (fin true m e) (neg r) ≡ false)
+      at-neg : T (le x0 (round binary64 false (m * up e * (n * up d)) (down e * down d)))
+          → lt (fin true m e) (neg (round binary64 false (m * up e * (n * up d)) (down e * down d))) ≡ false
+      at-neg =
+          rounded-are binary64 false (m * up e * (n * up d)) (down e * down d)
+          (λ (r : Float). T (le x0 r) → lt (fin true m e) (neg r) ≡ false)
           (λ t. unfold lt neg in refl)
-          (λ (k : ℕ) (g : ℤ) (t : T (le x0 (fin false k g))). unfold lt neg in le-ltb (k * up g * down e) (m * up e * down g) (up-from m e x0 (own-size true m e F) (fin false k g) t k g refl))
+          (λ (k : ℕ) (g : ℤ) (t : T (le x0 (fin false k g))). unfold lt neg in le-ltb (k * up g * down e)
+          (m * up e * down g) (up-from m e x0 (own-size true m e F) (fin false k g) t k g refl))
 
   -- a positive value, by a factor of at most 1, does not rise
-  no-growth : T (fits binary64 (fin false m e)) → n * up d ≤ down d → lt (fin false m e) (mul binary64 (fin false m e) (fin false n d)) ≡ false
+  no-growth : T (fits binary64 (fin false m e)) → n * up d ≤ down d
+      → lt (fin false m e) (mul binary64 (fin false m e) (fin false n d)) ≡ false
   unfolding mul
   no-growth F h = at-size own
     where
@@ -118,16 +137,23 @@ module _ (m : ℕ) (e : ℤ) (n : ℕ) (d : ℤ) where
       x0 = round binary64 false (m * up e) (down e)
 
       own : T (le (round binary64 false (m * up e * (n * up d)) (down e * down d)) x0)
-      own = round-mono binary64 (m * up e * (n * up d)) (down e * down d) (m * up e) (down e) (mul-pos (down-pos e) (down-pos d)) (down-pos e) (less-size h)
+      own =
+          round-mono binary64 (m * up e * (n * up d)) (down e * down d) (m * up e) (down e)
+          (mul-pos (down-pos e) (down-pos d)) (down-pos e) (less-size h)
 
-      at-size : T (le (round binary64 false (m * up e * (n * up d)) (down e * down d)) x0) → lt (fin false m e) (round binary64 false (m * up e * (n * up d)) (down e * down d)) ≡ false
-      at-size = rounded-are binary64 false (m * up e * (n * up d)) (down e * down d) (λ (r : Float). T (le r x0) → lt (fin false m e) r ≡ false)
+      at-size : T (le (round binary64 false (m * up e * (n * up d)) (down e * down d)) x0)
+          → lt (fin false m e) (round binary64 false (m * up e * (n * up d)) (down e * down d)) ≡ false
+      at-size =
+          rounded-are binary64 false (m * up e * (n * up d)) (down e * down d)
+          (λ (r : Float). T (le r x0) → lt (fin false m e) r ≡ false)
           (λ (t : T (le (inf false) x0)). absurd (finite-below m e x0 (own-size false m e F) (inf false) t refl))
-          (λ (k : ℕ) (g : ℤ) (t : T (le (fin false k g) x0)). unfold lt in le-ltb (m * up e * down g) (k * up g * down e) (down-to m e x0 (own-size false m e F) (fin false k g) t k g refl))
+          (λ (k : ℕ) (g : ℤ) (t : T (le (fin false k g) x0)). unfold lt in le-ltb (m * up e * down g)
+          (k * up g * down e) (down-to m e x0 (own-size false m e F) (fin false k g) t k g refl))
 
 -- ---- a zero, and a zero times anything finite
 pub zero-rounds : (s : Bool) (n c : ℕ) → 0 < c → n ≡ 0 → round binary64 s n c ≡ fin s 0 (pos 0)
-zero-rounds s n c C z = round-same binary64 s n c 0 1 C (zero-lt-suc 0) (ap (λ (k : ℕ). k * 1) z ∙ sym (zero-mul c)) ∙ at-zero s
+zero-rounds s n c C z =
+    round-same binary64 s n c 0 1 C (zero-lt-suc 0) (ap (λ (k : ℕ). k * 1) z ∙ sym (zero-mul c)) ∙ at-zero s
   where
     at-zero : (s : Bool) → round binary64 s 0 1 ≡ fin s 0 (pos 0)
     at-zero true = unfold round in refl
@@ -144,7 +170,9 @@ unfolding mul lt
 zero-stays s e nan = refl
 zero-stays s e (inf t) = refl
 zero-stays s e (fin t n d) =
-    subst (λ (r : Float). lt (fin s 0 e) r ≡ false) (sym (zero-product (unlike s t) (up e) (n * up d) (down e * down d) (mul-pos (down-pos e) (down-pos d)))) (level s (unlike s t))
+    subst (λ (r : Float). lt (fin s 0 e) r ≡ false)
+    (sym (zero-product (unlike s t) (up e) (n * up d) (down e * down d) (mul-pos (down-pos e) (down-pos d))))
+    (level s (unlike s t))
   where
     level : (s u : Bool) → lt (fin s 0 e) (fin u 0 (pos 0)) ≡ false
     level true true = le-ltb (0 * 1 * down e) (0 * up e * 1) (flat (down e) (up e))
@@ -199,27 +227,35 @@ some-size m u d h = more (suc m * u) d (mul-pos (zero-lt-suc m) h)
     more n d h = omega arith
 
 -- where x is at least 1, v is positive
-pub rises-from-one : (x v : Float) → T (fits binary64 v) → le one x ≡ true → lt v (mul binary64 v x) ≡ true → lt nought v ≡ true
+pub rises-from-one : (x v : Float) → T (fits binary64 v) → le one x ≡ true → lt v (mul binary64 v x) ≡ true
+    → lt nought v ≡ true
 rises-from-one x nan F h r = absurd (false≢true (unfold mul lt in r))
 rises-from-one x (inf s) F h r = absurd (false≢true (sym (inf-stays s x (one-above-zero x h)) ∙ r))
 rises-from-one x (fin s zero e) F h r = absurd (false≢true (sym (zero-stays s e x) ∙ r))
-rises-from-one x (fin false (suc m) e) F h r = unfold lt ofBits in lt-ltb (0 * down e) (suc m * up e * 1) (some-size m (up e) (down e) (up-pos e))
+rises-from-one x (fin false (suc m) e) F h r =
+    unfold lt ofBits in lt-ltb (0 * down e) (suc m * up e * 1) (some-size m (up e) (down e) (up-pos e))
 rises-from-one nan (fin true (suc m) e) F h r = absurd (false≢true (unfold le lt eq ofBits in h))
 rises-from-one (inf true) (fin true (suc m) e) F h r = absurd (false≢true (unfold le lt eq ofBits in h))
-rises-from-one (inf false) (fin true (suc m) e) F h r = absurd (false≢true (sym (falls (eqb (suc m) 0)) ∙ unfold mul in r))
+rises-from-one (inf false) (fin true (suc m) e) F h r =
+    absurd (false≢true (sym (falls (eqb (suc m) 0)) ∙ unfold mul in r))
   where
     falls : (b : Bool) → lt (fin true (suc m) e) (cond b nan (inf true)) ≡ false
     falls true = unfold lt in refl
     falls false = unfold lt in refl
-rises-from-one (fin true n d) (fin true (suc m) e) F h r = absurd (false≢true (unfold lt ofBits in one-above-zero (fin true n d) h))
-rises-from-one (fin false n d) (fin true (suc m) e) F h r = absurd (false≢true (sym (no-rise (suc m) e n d F (at-least-one n d h)) ∙ r))
+rises-from-one (fin true n d) (fin true (suc m) e) F h r =
+    absurd (false≢true (unfold lt ofBits in one-above-zero (fin true n d) h))
+rises-from-one (fin false n d) (fin true (suc m) e) F h r =
+    absurd (false≢true (sym (no-rise (suc m) e n d F (at-least-one n d h)) ∙ r))
 
 -- where x is above 0 and at most 1, v is negative
-pub rises-to-one : (x v : Float) → T (fits binary64 v) → lt nought x ≡ true → le x one ≡ true → lt v (mul binary64 v x) ≡ true → lt v nought ≡ true
+pub rises-to-one : (x v : Float) → T (fits binary64 v) → lt nought x ≡ true → le x one ≡ true
+    → lt v (mul binary64 v x) ≡ true → lt v nought ≡ true
 rises-to-one x nan F p h r = absurd (false≢true (unfold mul lt in r))
 rises-to-one x (inf s) F p h r = absurd (false≢true (sym (inf-stays s x p) ∙ r))
 rises-to-one x (fin s zero e) F p h r = absurd (false≢true (sym (zero-stays s e x) ∙ r))
-rises-to-one x (fin true (suc m) e) F p h r = unfold lt ofBits in lt-ltb 0 (suc m * up e * 1 + 0 * down e) (under (suc m * up e * 1) (down e) (some-size m (up e) (down e) (up-pos e)))
+rises-to-one x (fin true (suc m) e) F p h r =
+    unfold lt ofBits in lt-ltb 0 (suc m * up e * 1 + 0 * down e)
+    (under (suc m * up e * 1) (down e) (some-size m (up e) (down e) (up-pos e)))
   where
     under : (n d : ℕ) → 0 * d < n → 0 < n + 0 * d
     under n d h = omega arith
@@ -227,4 +263,5 @@ rises-to-one nan (fin false (suc m) e) F p h r = absurd (false≢true (unfold lt
 rises-to-one (inf true) (fin false (suc m) e) F p h r = absurd (false≢true (unfold lt ofBits in p))
 rises-to-one (inf false) (fin false (suc m) e) F p h r = absurd (false≢true (unfold le lt eq ofBits in h))
 rises-to-one (fin true n d) (fin false (suc m) e) F p h r = absurd (false≢true (unfold lt ofBits in p))
-rises-to-one (fin false n d) (fin false (suc m) e) F p h r = absurd (false≢true (sym (no-growth (suc m) e n d F (at-most-one n d h)) ∙ r))
+rises-to-one (fin false n d) (fin false (suc m) e) F p h r =
+    absurd (false≢true (sym (no-growth (suc m) e n d F (at-most-one n d h)) ∙ r))

@@ -1,13 +1,14 @@
--- The five ranges that `round` and `floor` tell apart by comparing x with 0, 2 ^ 52 and -2 ^ 52, and what each test says there.
+-- The five ranges that `round` and `floor` tell apart by comparing x with 0, 2 ^ 52 and -2 ^ 52, and what each test
+-- says there.
 -- Assumes nothing.
-use mathlib.Core.Path.{_≡_, refl, sym, ap, _∙_, subst}
-use mathlib.Core.Bool.{Bool, true, false, not, _&&_, cond, true≢false, false≢true}
-use Prim.Native.Nat.{ℕ, _+_, _-_, _*_, _/_, _^_, _≤_, _<_}
+use mathlib.Core.Path.{_≡_, refl, subst}
+use mathlib.Core.Bool.{Bool, true, false, false≢true}
+use Prim.Native.Nat.{ℕ, _+_, _*_, _/_, _^_, _≤_, _<_}
 use native.Mathlib.Nat.{mul-div-cancel}
 use native.Mathlib.Omega.{arith}
 use borrow.Author.Tests.{ltb-true, ltb-false}
 use lib.IntN.{ℤ, pos}
-use lib.Dec.{T, ltb, lt→ltb}
+use lib.Dec.{T, lt→ltb}
 use lib.Ieee.{Float, nan, inf, fin, binary64, up, down, ofBits, neg, lt, round, fits}
 use lib.Ieee.Positive.{num, den, positive, first-pos}
 use Rattle.routines.specs.Whole.{roundOf, floorOf, halfUp, ceiling}
@@ -34,7 +35,8 @@ small nan a b = absurd (false≢true a)
 small (inf true) a b = absurd (false≢true a)
 small (inf false) a b = absurd (false≢true b)
 small (fin true m e) a b = absurd (false≢true a)
-small (fin false m e) a b = (lt→ltb 0 m (first-pos m (up e) (some (m * up e) (down e) (ltb-true (0 * down e) (m * up e * 1) a))), yes b)
+small (fin false m e) a b =
+    (lt→ltb 0 m (first-pos m (up e) (some (m * up e) (down e) (ltb-true (0 * down e) (m * up e * 1) a))), yes b)
   where
     some : (n d : ℕ) → 0 * d < n * 1 → 0 < n
     some n d h = omega arith
@@ -60,19 +62,22 @@ small-neg nan a b = absurd (false≢true a)
 small-neg (inf true) a b = absurd (false≢true b)
 small-neg (inf false) a b = absurd (false≢true a)
 small-neg (fin false m e) a b = absurd (no-less (m * up e) (down e) (ltb-true (m * up e * 1) (0 * down e) a))
-small-neg (fin true m e) a b = (lt→ltb 0 m (first-pos m (up e) (some (m * up e) (down e) (ltb-true 0 (m * up e * 1 + 0 * down e) a))), yes b)
+small-neg (fin true m e) a b =
+    (lt→ltb 0 m (first-pos m (up e) (some (m * up e) (down e) (ltb-true 0 (m * up e * 1 + 0 * down e) a))), yes b)
   where
     some : (n d : ℕ) → 0 < n * 1 + 0 * d → 0 < n
     some n d h = omega arith
 
-pub round-neg-is : (x : Float) → T (positive (neg x)) → neg (round binary64 false (halfUp (num (neg x)) (den (neg x))) 1) ≡ roundOf x
+pub round-neg-is : (x : Float) → T (positive (neg x))
+    → neg (round binary64 false (halfUp (num (neg x)) (den (neg x))) 1) ≡ roundOf x
 unfolding roundOf neg
 round-neg-is nan p = absurd p
 round-neg-is (inf s) p = absurd p
 round-neg-is (fin false m e) p = absurd p
 round-neg-is (fin true m e) p = neg-round binary64 (halfUp (m * up e) (down e)) 1
 
-pub floor-neg-is : (x : Float) → T (positive (neg x)) → neg (round binary64 false (ceiling (num (neg x)) (den (neg x))) 1) ≡ floorOf x
+pub floor-neg-is : (x : Float) → T (positive (neg x))
+    → neg (round binary64 false (ceiling (num (neg x)) (den (neg x))) 1) ≡ floorOf x
 unfolding floorOf neg
 floor-neg-is nan p = absurd p
 floor-neg-is (inf s) p = absurd p
@@ -97,14 +102,16 @@ unfolding lt ofBits
 wide-up nan a b = not-a-number
 wide-up (inf s) a b = infinite s
 wide-up (fin true m e) a b = absurd (false≢true a)
-wide-up (fin false m e) a b = wide false m e (tidy (m * up e) (2 ^ 52) (down e) (ltb-false (m * up e * 1) (2 ^ 52 * down e) b))
+wide-up (fin false m e) a b =
+    wide false m e (tidy (m * up e) (2 ^ 52) (down e) (ltb-false (m * up e * 1) (2 ^ 52 * down e) b))
 
 pub wide-down : (x : Float) → lt x nil ≡ true → lt (neg top) x ≡ false → Kept x
 unfolding lt ofBits neg
 wide-down nan a b = not-a-number
 wide-down (inf s) a b = infinite s
 wide-down (fin false m e) a b = absurd (no-less (m * up e) (down e) (ltb-true (m * up e * 1) (0 * down e) a))
-wide-down (fin true m e) a b = wide true m e (tidy (m * up e) (2 ^ 52) (down e) (ltb-false (m * up e * 1) (2 ^ 52 * down e) b))
+wide-down (fin true m e) a b =
+    wide true m e (tidy (m * up e) (2 ^ 52) (down e) (ltb-false (m * up e * 1) (2 ^ 52 * down e) b))
 
 pub level : (x : Float) → lt nil x ≡ false → lt x nil ≡ false → Kept x
 unfolding lt ofBits

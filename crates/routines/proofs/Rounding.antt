@@ -1,10 +1,14 @@
--- One rounding. A fraction rounded to a format is off by at most 1 / 2 ^ prec of it in the normal range, and by at most half of the format's smallest value, a unit, below that range.
--- So n units, rounded, are off by at most n / 2 ^ prec: below the normal range a whole number of units is exact. Nothing here is about floats but the format's numbers. Assumes nothing.
+-- One rounding. A fraction rounded to a format is off by at most 1 / 2 ^ prec of it in the normal range, and by at most
+-- half of the format's smallest value, a unit, below that range.
+-- So n units, rounded, are off by at most n / 2 ^ prec: below the normal range a whole number of units is exact.
+-- Nothing here is about floats but the format's numbers. Assumes nothing.
 use mathlib.Core.Path.{_≡_, sym, ap, _∙_, subst}
 use mathlib.Core.Logic.{inl, inr}
 use mathlib.Core.Bool.{not}
-use Prim.Native.Nat.{ℕ, suc, _+_, _-_, _*_, _/_, _%_, _^_, _≤_, _<_, compare, Ordering, Ordering·lt, Ordering·eq, Ordering·gt}
-use native.Mathlib.Nat.{le-trans, le-of-eq, eq-zero-or-pos, mul-one, mul-assoc, mul-right-comm, mul-le-mul-right, le-of-mul-le-mul-right, mul-pos, le-div-iff-mul-le, div-add-mod', mod-lt, pow-succ'}
+use Prim.Native.Nat.{ℕ, suc, _+_, _-_, _*_, _/_, _%_, _^_, _≤_, _<_, compare, Ordering, Ordering·lt, Ordering·eq}
+use Prim.Native.Nat.{Ordering·gt}
+use native.Mathlib.Nat.{le-trans, le-of-eq, eq-zero-or-pos, mul-one, mul-assoc, mul-right-comm, mul-le-mul-right}
+use native.Mathlib.Nat.{le-of-mul-le-mul-right, mul-pos, le-div-iff-mul-le, div-add-mod', mod-lt, pow-succ'}
 use native.Mathlib.Omega.{arith}
 use lib.Dec.{T, isLe, isEq, eqb, leb→le, nleb→lt, eqb→eq, eqb-refl}
 use lib.Arith.{lt-of-le-ne}
@@ -15,6 +19,7 @@ use lib.Ieee.Fits.{two}
 use lib.Ieee.Nearest.{closest}
 use lib.Ieee.Order.{drop}
 use lib.Ieee.Scale.{grid}
+use Rattle.routines.specs.Units.{Off}
 
 -- ---- what `compare` says (`lib.Ieee.Nearest` has the same, private)
 abbrev Cmp : Ordering → ℕ → ℕ → Type 0
@@ -23,9 +28,12 @@ Cmp Ordering·eq a b = a ≡ b
 Cmp Ordering·gt a b = b < a
 
 cmp : (a b : ℕ) → Cmp (compare a b) a b
-cmp a b = go (compare a b) (leb→le a b) (nleb→lt a b) (eqb→eq a b) (λ (e : a ≡ b). subst (λ (x : ℕ). T (eqb a x)) e (eqb-refl a))
+cmp a b =
+    go (compare a b) (leb→le a b) (nleb→lt a b) (eqb→eq a b)
+    (λ (e : a ≡ b). subst (λ (x : ℕ). T (eqb a x)) e (eqb-refl a))
   where
-    go : (o : Ordering) → (T (isLe o) → a ≤ b) → (T (not (isLe o)) → b < a) → (T (isEq o) → a ≡ b) → (a ≡ b → T (isEq o)) → Cmp o a b
+    go : (o : Ordering) → (T (isLe o) → a ≤ b) → (T (not (isLe o)) → b < a) → (T (isEq o) → a ≡ b)
+        → (a ≡ b → T (isEq o)) → Cmp o a b
     go Ordering·lt h k e n = lt-of-le-ne (h tt) n
     go Ordering·eq h k e n = e tt
     go Ordering·gt h k e n = k tt
@@ -50,13 +58,10 @@ near q r u Ordering·gt h l = omega arith
 
 closest-near : (n u : ℕ) → 0 < u → Half (closest n u * u) n u
 closest-near n u h =
-    subst (λ (x : ℕ). Half (closest n u * u) x u) (div-add-mod' n u) (near (n / u) (n % u) u (compare (n % u * 2) u) (cmp (n % u * 2) u) (mod-lt n h))
+    subst (λ (x : ℕ). Half (closest n u * u) x u) (div-add-mod' n u)
+    (near (n / u) (n % u) u (compare (n % u * 2) u) (cmp (n % u * 2) u) (mod-lt n h))
 
 -- ---- a fraction a / c rounded: `grid f a c` units for a * 2 ^ low f / c
--- g is n up to n / P either way
-abbrev pub Off : ℕ → ℕ → ℕ → Type 0
-Off P g n = (g * P ≤ n * P + n) × (n * P ≤ g * P + n)
-
 dropped : (P H g n u : ℕ) → P ≡ 2 * H → H * u ≤ n → Half g n u → Off P g n
 dropped P H g n u e d h =
     let a : g * 2 * H ≤ (n * 2 + u) * H = mul-le-mul-right H (h .0) in
@@ -78,7 +83,8 @@ module _ (f : Format) (a c : ℕ) (C : 0 < c) where
       let N = a * 2 ^ low f in
       let k = drop (prec f) N c in
       let u = c * 2 ^ k in
-      let e : closest N u * u ≡ grid f a c * c = sym (mul-assoc (closest N u) c (2 ^ k)) ∙ mul-right-comm (closest N u) c (2 ^ k) in
+      let e : closest N u * u ≡ grid f a c * c = sym (mul-assoc (closest N u) c (2 ^ k))
+      ∙ mul-right-comm (closest N u) c (2 ^ k) in
       subst (λ (x : ℕ). Half x N u) e (closest-near N u (mul-pos C (pow-pos k)))
 
   -- in the normal range (`lib.Ieee.Scale` has two ways to know it)
@@ -87,14 +93,18 @@ module _ (f : Format) (a c : ℕ) (C : 0 < c) where
       let p = prec f in
       let N = a * 2 ^ low f in
       let k = drop p N c in
-      let w : 2 ^ (p - 1 + k) * c ≤ N = le-div-iff-mul-le C .0 (size-reaches (N / c) (p - 1 + k) (in-use (size (N / c)) p (two f) n)) in
-      let e : 2 ^ (p - 1) * (c * 2 ^ k) ≡ 2 ^ (p - 1 + k) * c = sym (mul-assoc (2 ^ (p - 1)) c (2 ^ k)) ∙ mul-right-comm (2 ^ (p - 1)) c (2 ^ k) ∙ ap (λ (x : ℕ). x * c) (sym (pow-add 2 (p - 1) k)) in
-      dropped (2 ^ p) (2 ^ (p - 1)) (grid f a c * c) N (c * 2 ^ k) (ap (λ (x : ℕ). 2 ^ x) (pred-suc p (two f)) ∙ pow-succ' 2 (p - 1)) (le-trans (le-of-eq e) w) scaled
+      let w : 2 ^ (p - 1 + k) * c ≤ N = le-div-iff-mul-le C .0
+      (size-reaches (N / c) (p - 1 + k) (in-use (size (N / c)) p (two f) n)) in
+      let e : 2 ^ (p - 1) * (c * 2 ^ k) ≡ 2 ^ (p - 1 + k) * c = sym (mul-assoc (2 ^ (p - 1)) c (2 ^ k))
+      ∙ mul-right-comm (2 ^ (p - 1)) c (2 ^ k) ∙ ap (λ (x : ℕ). x * c) (sym (pow-add 2 (p - 1) k)) in
+      dropped (2 ^ p) (2 ^ (p - 1)) (grid f a c * c) N (c * 2 ^ k)
+      (ap (λ (x : ℕ). 2 ^ x) (pred-suc p (two f)) ∙ pow-succ' 2 (p - 1)) (le-trans (le-of-eq e) w) scaled
 
   -- below it
   pub grid-absolute : size (a * 2 ^ low f / c) ≤ prec f → Half (grid f a c * c) (a * 2 ^ low f) c
   grid-absolute n =
-      subst (λ (u : ℕ). Half (grid f a c * c) (a * 2 ^ low f) u) (ap (λ (k : ℕ). c * 2 ^ k) (none-dropped (size (a * 2 ^ low f / c)) (prec f) n) ∙ mul-one c) scaled
+      subst (λ (u : ℕ). Half (grid f a c * c) (a * 2 ^ low f) u)
+      (ap (λ (k : ℕ). c * 2 ^ k) (none-dropped (size (a * 2 ^ low f / c)) (prec f) n) ∙ mul-one c) scaled
 
 -- ---- n units rounded
 unfoldable pub rounded : Format → ℕ → ℕ
@@ -104,7 +114,8 @@ exact : (P g n L : ℕ) → 0 < L → Half (g * L) (n * L) L → Off P g n
 exact P g n L l h =
     let a : g * 2 * L ≤ (n * 2 + 1) * L = omega (arith, h .0) in
     let b : n * 2 * L ≤ (g * 2 + 1) * L = omega (arith, h .1) in
-    subst (λ (x : ℕ). Off P x n) (same (le-of-mul-le-mul-right a l) (le-of-mul-le-mul-right b l)) (omega arith, omega arith)
+    subst (λ (x : ℕ). Off P x n) (same (le-of-mul-le-mul-right a l) (le-of-mul-le-mul-right b l))
+    (omega arith, omega arith)
   where
     same : g * 2 ≤ n * 2 + 1 → n * 2 ≤ g * 2 + 1 → n ≡ g
     same a b = omega arith

@@ -1,14 +1,10 @@
--- The error of a running sum of k terms, each addition rounded once: at most 2 * k / 2 ^ 53 of the exact sum, for k up to 65535.
+-- The error of a running sum of k terms, each addition rounded once: at most 2 * k / 2 ^ 53 of the exact sum, for k up
+-- to 65535.
 -- Only natural numbers. Assumes nothing.
 use Prim.Native.Nat.{ℕ, suc, _+_, _*_, _^_, _≤_, _<_}
 use native.Mathlib.Nat.{le-trans, mul-le-mul-right}
 use native.Mathlib.Omega.{arith}
-use Rattle.routines.proofs.Rounding.{Off}
-
--- s is e up to 2 * k * e / 2 ^ 53
-pub record Near (k s e : ℕ) : Type 0 where
-  pub over : s * 2 ^ 53 ≤ e * 2 ^ 53 + 2 * (k * e)
-  pub under : e * 2 ^ 53 ≤ s * 2 ^ 53 + 2 * (k * e)
+use Rattle.routines.specs.Units.{Off, Near}
 
 pub near-start : (s : ℕ) → Near 1 s s
 near-start s = record { over = omega arith; under = omega arith }
@@ -21,17 +17,23 @@ double s e w h m = omega arith
 near-double : (k s e : ℕ) → k ≤ 65535 → Near k s e → s ≤ 2 * e
 near-double k s e K h = double s e (k * e) (h .over) (mul-le-mul-right e K)
 
-step-over : (P k s e x g : ℕ) → s ≤ 2 * e → s * P ≤ e * P + 2 * (k * e) → g * P ≤ (s + x) * P + (s + x) → g * P ≤ (e + x) * P + 2 * (suc k * (e + x))
+step-over : (P k s e x g : ℕ) → s ≤ 2 * e → s * P ≤ e * P + 2 * (k * e) → g * P ≤ (s + x) * P + (s + x)
+    → g * P ≤ (e + x) * P + 2 * (suc k * (e + x))
 step-over P k s e x g d h o = omega arith
 
-step-under : (P k s e x g : ℕ) → s ≤ 2 * e → e * P ≤ s * P + 2 * (k * e) → (s + x) * P ≤ g * P + (s + x) → (e + x) * P ≤ g * P + 2 * (suc k * (e + x))
+step-under : (P k s e x g : ℕ) → s ≤ 2 * e → e * P ≤ s * P + 2 * (k * e) → (s + x) * P ≤ g * P + (s + x)
+    → (e + x) * P ≤ g * P + 2 * (suc k * (e + x))
 step-under P k s e x g d h o = omega arith
 
 -- the term x, and g is the rounded sum
 pub near-step : (k s e x g : ℕ) → k ≤ 65535 → Near k s e → Off (2 ^ 53) g (s + x) → Near (suc k) g (e + x)
 near-step k s e x g K h o =
     let d : s ≤ 2 * e = near-double k s e K h in
-    record { over = step-over (2 ^ 53) k s e x g d (h .over) (o .0); under = step-under (2 ^ 53) k s e x g d (h .under) (o .1) }
+    record {
+      over = step-over (2 ^ 53) k s e x g d (h .over) (o .0);
+      under = step-under (2 ^ 53) k s e x g d (h .under)
+          (o .1);
+    }
 
 -- ---- against a bound a, up to 2 ^ -36
 split : (a e : ℕ) → e * 2 ^ 53 ≤ a * 2 ^ 53 + 131070 * e → e * 2 ^ 36 ≤ a * (2 ^ 36 + 1)

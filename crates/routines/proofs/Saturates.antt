@@ -7,6 +7,7 @@ use native.Mathlib.Omega.{arith}
 use borrow.Author.Tests.{ltb-false}
 use lib.Ieee.{Float, nan, inf, fin, binary64, up, down, ofBits, neg, lt, toUnsigned}
 use lib.Ieee.Fits.{down-pos}
+use Rattle.routines.specs.Constants.{minusOne}
 
 -- ---- `to_u64`
 capped : (n d p : ℕ) → 0 < d → 0 < p → 1 * p * d ≤ n * 1 → p - 1 ≡ min (n / d) (p - 1)
@@ -24,21 +25,22 @@ capped n d p D P h =
 some : (d n : ℕ) → 0 < d → n + d ≤ 0 → ⊥
 some d n D h = omega arith
 
-abbrev minus-one : Float
-minus-one = neg (ofBits binary64 0x3ff0_0000_0000_0000)
-
 abbrev two-to-64 : Float
 two-to-64 = ofBits binary64 0x43f0_0000_0000_0000
 
-pub over : (x : Float) → lt minus-one x ≡ true → lt x two-to-64 ≡ false → 18446744073709551615 ≡ toUnsigned 64 x
+pub over : (x : Float) → lt minusOne x ≡ true → lt x two-to-64 ≡ false → 18446744073709551615 ≡ toUnsigned 64 x
 unfolding ofBits neg lt toUnsigned
 over nan a b = absurd (false≢true a)
 over (inf true) a b = absurd (false≢true a)
 over (inf false) a b = refl
-over (fin true m e) a b = absurd (some (1 * 2 ^ 64 * down e) (m * up e * 1) (mul-pos (zero-lt-suc _) (down-pos e)) (ltb-false 0 (m * up e * 1 + 1 * 2 ^ 64 * down e) b))
-over (fin false m e) a b = capped (m * up e) (down e) (2 ^ 64) (down-pos e) (zero-lt-suc _) (ltb-false (m * up e * 1) (1 * 2 ^ 64 * down e) b)
+over (fin true m e) a b =
+    absurd
+    (some (1 * 2 ^ 64 * down e) (m * up e * 1) (mul-pos (zero-lt-suc _) (down-pos e))
+    (ltb-false 0 (m * up e * 1 + 1 * 2 ^ 64 * down e) b))
+over (fin false m e) a b =
+    capped (m * up e) (down e) (2 ^ 64) (down-pos e) (zero-lt-suc _) (ltb-false (m * up e * 1) (1 * 2 ^ 64 * down e) b)
 
-pub under : (x : Float) → lt minus-one x ≡ false → 0 ≡ toUnsigned 64 x
+pub under : (x : Float) → lt minusOne x ≡ false → 0 ≡ toUnsigned 64 x
 unfolding ofBits neg lt toUnsigned
 under nan a = refl
 under (inf true) a = refl

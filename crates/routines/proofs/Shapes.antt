@@ -1,16 +1,16 @@
 -- On which side of 0, 1 and -1 exp, ln and expm1 lie, for every input. Assumes nothing.
 use mathlib.Core.Path.{_≡_, refl, sym, ap, _∙_, subst}
-use mathlib.Core.Logic.{_⊎_, inl, inr, ⊎-elim}
-use mathlib.Core.Bool.{Bool, true, false, not, cond, false≢true}
-use Prim.Native.Nat.{ℕ}
-use lib.IntN.{ℤ, pos}
+use mathlib.Core.Logic.{⊎-elim}
+use mathlib.Core.Bool.{Bool, true, false, not, cond}
+use lib.IntN.{pos}
 use lib.Dec.{T}
-use lib.Ieee.{Float, nan, inf, fin, binary64, ofBits, neg, lt, le, eq, isNan, fits}
+use lib.Ieee.{Float, inf, binary64, ofBits, lt, le, eq, isNan, fits}
 use Rattle.routines.specs.Signs.{signClear}
 use Rattle.routines.specs.Held.{atLeast, atMost}
-use Rattle.routines.specs.Exp.{expOf, tee, scaledUp, besideOne, beyond, one, LEAST, MOST}
-use Rattle.routines.specs.Exp.{zero as nought}
-use Rattle.routines.proofs.Orders.{less-le, le-split, at-most-le, at-least-ge, at-most-has, at-least-has, above-clear, less-number, more-number, not-below, neither, zero-is}
+use Rattle.routines.specs.Constants.{one, zero as nought}
+use Rattle.routines.specs.Exp.{expOf, tee, scaledUp, besideOne, outOfRange, LEAST, MOST}
+use Rattle.routines.proofs.Orders.{le-split, at-most-le, at-least-ge, at-most-has, at-least-has, above-clear}
+use Rattle.routines.proofs.Orders.{less-number, more-number, not-below, neither, zero-is}
 use Rattle.routines.proofs.Special.{exp-zero}
 
 abbrev Clear : Float → Type 0
@@ -21,11 +21,11 @@ Number r = T (not (isNan r))
 
 -- ---- exp
 -- what holds of the last step, whatever it is given, and out of range, holds of exp
-exp-by : (x : Float) (P : Float → Type 0) → ((v : Float) → P (besideOne x v)) → P (beyond x) → P (expOf x)
+exp-by : (x : Float) (P : Float → Type 0) → ((v : Float) → P (besideOne x v)) → P (outOfRange x) → P (expOf x)
 unfolding expOf
 exp-by x P inside outside = go (le LEAST (tee x)) (le (tee x) MOST)
   where
-    go : (a b : Bool) → P (cond a (cond b (besideOne x (scaledUp x (tee x))) (beyond x)) (beyond x))
+    go : (a b : Bool) → P (cond a (cond b (besideOne x (scaledUp x (tee x))) (outOfRange x)) (outOfRange x))
     go true true = inside (scaledUp x (tee x))
     go true false = outside
     go false b = outside
@@ -52,8 +52,8 @@ exp-at-least-one x h = exp-by x (λ (r : Float). le one r ≡ true) inside outsi
     inside : (v : Float) → le one (besideOne x v) ≡ true
     inside v = unfold besideOne in rw (not-below x h) (at-least-ge v one one-level)
 
-    outside : le one (beyond x) ≡ true
-    outside = unfold beyond in rw (not-below x h, h) one-below-inf
+    outside : le one (outOfRange x) ≡ true
+    outside = unfold outOfRange in rw (not-below x h, h) one-below-inf
 
 pub exp-at-most-one : (x : Float) → T (fits binary64 x) → le x nought ≡ true → le (expOf x) one ≡ true
 exp-at-most-one x F h = ⊎-elim below level (le-split x nought h)
@@ -64,8 +64,8 @@ exp-at-most-one x F h = ⊎-elim below level (le-split x nought h)
         inside : (v : Float) → le (besideOne x v) one ≡ true
         inside v = unfold besideOne in rw l (at-most-le (atLeast v nought) one one-level)
 
-        outside : le (beyond x) one ≡ true
-        outside = unfold beyond in rw l zero-below-one
+        outside : le (outOfRange x) one ≡ true
+        outside = unfold outOfRange in rw l zero-below-one
 
     level : eq x nought ≡ true → le (expOf x) one ≡ true
     level l =
@@ -74,11 +74,14 @@ exp-at-most-one x F h = ⊎-elim below level (le-split x nought h)
 
 -- NaN or sign clear: never negative, and never -0
 pub exp-clear : (x : Float) → signClear (expOf x) ≡ true
-unfolding besideOne beyond ofBits
-exp-clear x = exp-by x (λ (r : Float). signClear r ≡ true) (λ (v : Float). inside (lt x nought) v) (outside (lt x nought) (le nought x) refl refl)
+unfolding besideOne outOfRange ofBits
+exp-clear x =
+    exp-by x (λ (r : Float). signClear r ≡ true) (λ (v : Float). inside (lt x nought) v)
+    (outside (lt x nought) (le nought x) refl refl)
   where
     inside : (t : Bool) (v : Float) → Clear (cond t (atMost (atLeast v nought) one) (atLeast v one))
-    inside true v = at-most-has Clear (atLeast v nought) one (λ e. at-least-has Clear v nought (above-clear 0 (pos 0) v) refl) refl
+    inside true v =
+        at-most-has Clear (atLeast v nought) one (λ e. at-least-has Clear v nought (above-clear 0 (pos 0) v) refl) refl
     inside false v = at-least-has Clear v one (above-clear 1 (pos 0) v) refl
 
     outside : (t u : Bool) → lt x nought ≡ t → le nought x ≡ u → signClear (cond t nought (cond u (inf false) x)) ≡ true
@@ -88,7 +91,7 @@ exp-clear x = exp-by x (λ (r : Float). signClear r ≡ true) (λ (v : Float). i
 
 -- a NaN comes only of a NaN
 pub exp-number : (x : Float) → T (not (isNan x)) → T (not (isNan (expOf x)))
-unfolding besideOne beyond ofBits isNan
+unfolding besideOne outOfRange ofBits isNan
 exp-number x n = exp-by x Number (λ (v : Float). inside (lt x nought) v) (outside (lt x nought) (le nought x))
   where
     inside : (t : Bool) (v : Float) → Number (cond t (atMost (atLeast v nought) one) (atLeast v one))

@@ -1,38 +1,34 @@
 -- The special values of the four routines, as ISO C Annex F lists them. Assumes nothing.
-use mathlib.Core.Path.{_≡_, refl, sym, ap, _∙_, subst}
+use mathlib.Core.Path.{_≡_, refl}
 use mathlib.Core.Bool.{Bool, true, false}
-use Prim.Native.Nat.{ℕ}
-use lib.IntN.{pos}
-use lib.Ieee.{Float, nan, inf, fin, binary64, ofBits, toBits, size, neg, add, sub, mul, div, lt, le, eq}
+use lib.Ieee.{nan, inf, ofBits, toBits, neg, add, sub, mul, div, lt, le, eq}
 use Rattle.routines.specs.Tables.{rows}
 use Rattle.routines.specs.LnTable.{lnRows}
 use Rattle.routines.specs.Held.{atLeast, atMost}
-use Rattle.routines.specs.Exp.{expOf, tee, scaledUp, scaledBy, reduced, hpoly, besideOne, beyond, one}
+use Rattle.routines.specs.Signs.{zeroWith}
+use Rattle.routines.specs.Constants.{one, minusOne, two}
+use Rattle.routines.specs.Exp.{expOf, tee, scaledUp, scaledBy, reduced, expTail, besideOne, outOfRange}
 use Rattle.routines.specs.Ln.{lnOf, lnCore, lnTail, besideZero}
-use Rattle.routines.specs.Expm1.{expm1Of, teeM, lessOne, besideMinusOne, farOut, minusOne}
-use Rattle.routines.specs.Whole.{floorOf, ceiling}
-use Rattle.routines.specs.Lgamma.{lgammaOf, aboveZero, belowZero, stirlingOf, fourUp, reflected, two}
-
--- the zero with the sign s, and one
-abbrev pub zeroWith : Bool → Float
-zeroWith s = fin s 0 (pos 0)
+use Rattle.routines.specs.Expm1.{expm1Of, teeM, farOut}
+use Rattle.routines.specs.Whole.{floorOf}
+use Rattle.routines.specs.Lgamma.{lgammaOf, aboveZero, belowZero, stirlingOf}
 
 -- ---- exp
 pub exp-zero : (s : Bool) → expOf (zeroWith s) ≡ one
-unfolding expOf tee scaledUp scaledBy reduced hpoly besideOne atLeast atMost rows toBits ofBits add sub mul lt le
+unfolding expOf tee scaledUp scaledBy reduced expTail besideOne atLeast atMost rows toBits ofBits add sub mul lt le
 exp-zero true = refl
 exp-zero false = refl
 
 pub exp-inf : expOf (inf false) ≡ inf false
-unfolding expOf tee beyond ofBits add mul lt le
+unfolding expOf tee outOfRange ofBits add mul lt le
 exp-inf = refl
 
 pub exp-minus-inf : expOf (inf true) ≡ zeroWith false
-unfolding expOf tee beyond ofBits add mul lt le
+unfolding expOf tee outOfRange ofBits add mul lt le
 exp-minus-inf = refl
 
 pub exp-nan : expOf nan ≡ nan
-unfolding expOf tee beyond ofBits add mul lt le
+unfolding expOf tee outOfRange ofBits add mul lt le
 exp-nan = refl
 
 -- ---- ln
@@ -60,7 +56,7 @@ expm1-zero true = refl
 expm1-zero false = refl
 
 pub expm1-inf : expm1Of (inf false) ≡ inf false
-unfolding expm1Of teeM farOut expOf tee beyond ofBits add mul lt le eq
+unfolding expm1Of teeM farOut expOf tee outOfRange ofBits add mul lt le eq
 expm1-inf = refl
 
 pub expm1-minus-inf : expm1Of (inf true) ≡ minusOne

@@ -1,9 +1,12 @@
--- Values of a format in units of its smallest value: a finite value that fits is exactly `unitsIn` of them, and a sum of two that are not negative holds their units' sum, rounded once.
+-- Values of a format in units of its smallest value: a finite value that fits is exactly `unitsIn` of them, and a sum
+-- of two that are not negative holds their units' sum, rounded once.
 -- -0 holds 0 units. Assumes nothing.
 use mathlib.Core.Path.{_≡_, refl, sym, ap, _∙_, subst}
 use mathlib.Core.Bool.{Bool, true, false, not, _&&_, cond}
 use Prim.Native.Nat.{ℕ, zero, suc, _+_, _-_, _*_, _/_, _%_, _^_, _≤_, _<_}
-use native.Mathlib.Nat.{le-trans, le-of-eq, le-of-suc-le-suc, lt-of-le-of-lt, lt-of-not-le, not-le-of-lt, zero-mul, mul-one, one-mul, mul-assoc, mul-le-mul-left, mul-le-mul-right, le-of-mul-le-mul-right, eq-of-mul-eq-mul-right, mul-div-cancel, mul-pos}
+use native.Mathlib.Nat.{le-trans, le-of-eq, le-of-suc-le-suc, lt-of-le-of-lt, lt-of-not-le, not-le-of-lt, zero-mul}
+use native.Mathlib.Nat.{mul-one, one-mul, mul-assoc, mul-le-mul-left, mul-le-mul-right, le-of-mul-le-mul-right}
+use native.Mathlib.Nat.{eq-of-mul-eq-mul-right, mul-div-cancel, mul-pos}
 use native.Mathlib.Omega.{arith}
 use lib.IntN.{ℤ, pos, negsuc}
 use lib.Dec.{T, leb, ltb, eqb, leb→le, ltb→lt, nltb→le, eqb→eq, not-T}
@@ -15,8 +18,8 @@ use lib.Ieee.Exact.{HasValue, units-val}
 use lib.Ieee.Order.{drop, kept}
 use lib.Ieee.Scale.{finite, grid, overflow, round-same}
 use lib.Ieee.Positive.{num, den, den-pos}
-use Rattle.routines.specs.Units.{unitsIn, negative, NonNegative}
-use Rattle.routines.proofs.Rounding.{Off, rounded, rounded-off}
+use Rattle.routines.specs.Units.{unitsIn, negative, NonNegative, Off}
+use Rattle.routines.proofs.Rounding.{rounded, rounded-off}
 
 -- x is a units: finite and not negative, but perhaps -0
 pub record Holds (f : Format) (x : Float) (a : ℕ) : Type 0 where
@@ -30,7 +33,9 @@ pow-le-back i p h = le-of-suc-le-suc (lt-of-not-le (λ (g : suc p ≤ i). not-le
 
 down-le : (f : Format) (s : Bool) (m : ℕ) (e : ℤ) → T (fits f (fin s m e)) → down e ≤ 2 ^ low f
 unfolding fits
-down-le f s zero e h = le-trans (le-trans (le-of-eq (sym (one-mul (down e)))) (mul-le-mul-right (down e) (up-pos e))) (le-trans (le-of-eq (eqb→eq (up e * down e) 1 h)) (pow-pos (low f)))
+down-le f s zero e h =
+    le-trans (le-trans (le-of-eq (sym (one-mul (down e)))) (mul-le-mul-right (down e) (up-pos e)))
+    (le-trans (le-of-eq (eqb→eq (up e * down e) 1 h)) (pow-pos (low f)))
 down-le f s (suc m) e h =
     let a : Bool = eqb (suc m % 2) 1 && ltb (suc m) (2 ^ prec f) in
     let b : Bool = leb (down e) (2 ^ low f) in
@@ -38,7 +43,11 @@ down-le f s (suc m) e h =
 
 divides : (l : ℕ) (e : ℤ) → down e ≤ 2 ^ l → (q : ℕ) × (2 ^ l ≡ q * down e)
 divides l (pos k) h = (2 ^ l, sym (mul-one (2 ^ l)))
-divides l (negsuc k) h = (2 ^ (l - suc k), ap (λ (x : ℕ). 2 ^ x) (sym (back l (suc k) (pow-le-back (suc k) l h))) ∙ pow-add 2 (l - suc k) (suc k))
+divides l (negsuc k) h = (
+  2 ^ (l - suc k),
+  ap (λ (x : ℕ). 2 ^ x) (sym (back l (suc k) (pow-le-back (suc k) l h)))
+      ∙ pow-add 2 (l - suc k) (suc k),
+)
 
 whole : (n L q d : ℕ) → 0 < d → L ≡ q * d → n * L ≡ n * L / d * d
 whole n L q d D e = rw (e, ← mul-assoc, mul-div-cancel (n * q) D)
@@ -74,7 +83,8 @@ signless true m e w n t = none m (up e) w (nltb→le 0 m n)
 abbrev Summed : Format → Float → ℕ → ℕ → Type 0
 Summed f x n c = (r : Bool) × (x ≡ round f r n c) × (T r → n ≡ 0)
 
-sum-is : (f : Format) (s : Bool) (A : ℕ) (t : Bool) (B c : ℕ) → (T s → A ≡ 0) → (T t → B ≡ 0) → Summed f (sum f s A t B c) (A + B) c
+sum-is : (f : Format) (s : Bool) (A : ℕ) (t : Bool) (B c : ℕ) → (T s → A ≡ 0) → (T t → B ≡ 0)
+    → Summed f (sum f s A t B c) (A + B) c
 unfolding sum
 sum-is f false A false B c h k = (false, refl, (λ (w : ⊥). absurd w))
 sum-is f true A true B c h k = (true, refl, (λ w. omega (arith, h tt, k tt)))
@@ -83,7 +93,8 @@ sum-is f true A false B c h k = go (ltb A B) (nltb→le A B)
     z : A ≡ 0
     z = h tt
 
-    go : (b : Bool) → (T (not b) → B ≤ A) → Summed f (cond b (round f false (B - A) c) (round f (ltb B A) (A - B) c)) (A + B) c
+    go : (b : Bool) → (T (not b) → B ≤ A)
+        → Summed f (cond b (round f false (B - A) c) (round f (ltb B A) (A - B) c)) (A + B) c
     go true v = (false, ap (λ (n : ℕ). round f false n c) (omega (arith, z)), (λ (w : ⊥). absurd w))
     go false v = (ltb B A, ap (λ (n : ℕ). round f (ltb B A) n c) (omega (arith, z, v tt)), (λ w. omega (arith, z, v tt)))
 sum-is f false A true B c h k = go (ltb A B) (ltb→lt A B)
@@ -95,7 +106,8 @@ sum-is f false A true B c h k = go (ltb A B) (ltb→lt A B)
     go true u = absurd (omega (arith, z, u tt))
     go false u = (false, ap (λ (n : ℕ). round f false n c) (omega (arith, z)), (λ (w : ⊥). absurd w))
 
-opened : (f : Format) (s : Bool) (m : ℕ) (e : ℤ) (t : Bool) (n : ℕ) (d : ℤ) → add f (fin s m e) (fin t n d) ≡ sum f s (m * up e * down d) t (n * up d * down e) (down e * down d)
+opened : (f : Format) (s : Bool) (m : ℕ) (e : ℤ) (t : Bool) (n : ℕ) (d : ℤ)
+    → add f (fin s m e) (fin t n d) ≡ sum f s (m * up e * down d) t (n * up d * down e) (down e * down d)
 unfolding add
 opened f s m e t n d = refl
 
@@ -119,7 +131,8 @@ add-is f (fin s m e) (fin t n d) a b h k =
     let c = down e * down d in
     let q : N * L ≡ (a + b) * c = cross (m * up e) (n * up d) a b (down e) (down d) L (h .value) (k .value) in
     let C : 0 < c = mul-pos (down-pos e) (down-pos d) in
-    let r = sum-is f s (m * up e * down d) t (n * up d * down e) c (signless s m e (down d) (h .sign)) (signless t n d (down e) (k .sign)) in (
+    let r = sum-is f s (m * up e * down d) t (n * up d * down e) c (signless s m e (down d) (h .sign))
+    (signless t n d (down e) (k .sign)) in (
       r .0,
       opened f s m e t n d ∙ r .1 ∙ round-same f (r .0) N c (a + b) L C (pow-pos (low f)) q,
       (λ (w : T (r .0)). zero-of (a + b) c N L C (sym q) (r .2 w)),
@@ -141,11 +154,13 @@ of-value f (fin true m e) s a h z =
     some : (n : ℕ) → 0 < n → n ≡ 0 → ⊥
     some n h e = omega arith
 
-round-has : (f : Format) (s : Bool) (n : ℕ) → rounded f n < overflow f → HasValue (round f s n (2 ^ low f)) s (rounded f n) (2 ^ low f)
+round-has : (f : Format) (s : Bool) (n : ℕ) → rounded f n < overflow f
+    → HasValue (round f s n (2 ^ low f)) s (rounded f n) (2 ^ low f)
 unfolding rounded
 round-has f s n h =
     let l = 2 ^ low f in
-    subst (λ (z : Float). HasValue z s (grid f n l) l) (sym (round-is f s n l)) (units-val f s (kept (prec f) (n * l) l) (drop (prec f) (n * l) l) h)
+    subst (λ (z : Float). HasValue z s (grid f n l) l) (sym (round-is f s n l))
+    (units-val f s (kept (prec f) (n * l) l) (drop (prec f) (n * l) l) h)
 
 twice-at-most : (P g n : ℕ) → 0 < P → Off P g n → g ≤ n * 2
 twice-at-most P g n p h =
@@ -154,13 +169,15 @@ twice-at-most P g n p h =
     le-of-mul-le-mul-right l p
 
 -- THE ADDITION: a + b units that do not overflow are rounded once
-pub add-holds : (f : Format) (x y : Float) (a b : ℕ) → Holds f x a → Holds f y b → (a + b) * 2 < overflow f → Holds f (add f x y) (rounded f (a + b))
+pub add-holds : (f : Format) (x y : Float) (a b : ℕ) → Holds f x a → Holds f y b → (a + b) * 2 < overflow f
+    → Holds f (add f x y) (rounded f (a + b))
 add-holds f x y a b h k o =
     let n = a + b in
     let r = add-is f x y a b h k in
     let l : rounded f n ≤ n * 2 = twice-at-most (2 ^ prec f) (rounded f n) n (pow-pos (prec f)) (rounded-off f n) in
     subst (λ (z : Float). Holds f z (rounded f n)) (sym (r .1))
-    (of-value f (round f (r .0) n (2 ^ low f)) (r .0) (rounded f n) (round-has f (r .0) n (lt-of-le-of-lt l o)) (λ (t : T (r .0)). none (rounded f n) n l (r .2 t)))
+    (of-value f (round f (r .0) n (2 ^ low f)) (r .0) (rounded f n) (round-has f (r .0) n (lt-of-le-of-lt l o))
+    (λ (t : T (r .0)). none (rounded f n) n l (r .2 t)))
   where
     none : (g n : ℕ) → g ≤ n * 2 → n ≡ 0 → g ≡ 0
     none g n l z = omega arith

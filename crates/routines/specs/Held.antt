@@ -1,4 +1,5 @@
--- A value held to one side of a bound: the bound itself where the value is level with it, so no -0 against +0, and for a NaN. Definitions only. Assumes nothing.
+-- A value held to one side of a bound: the bound itself where the value is level with it, so no -0 against +0, and for
+-- a NaN. Definitions only. Assumes nothing.
 use mathlib.Core.Bool.{cond}
 use lib.Ieee.{Float, lt}
 

@@ -3,6 +3,7 @@ pub mod Tables
 pub mod Starts
 pub mod Powers
 pub mod Whole
+pub mod Constants
 pub mod Held
 pub mod Exp
 pub mod LnTable

@@ -1,86 +1,105 @@
--- ln, step by step: docs/ROUTINES.md says the same in words. Each operation is rounded once. Definitions only. Assumes nothing.
-use Prim.Native.Nat.{ℕ, _+_, _/_, _%_}
-use mathlib.Core.Bool.{Bool, true, false, cond}
-use lib.Ieee.{Float, nan, inf, binary64, add, sub, mul, div, lt, le, eq, ofBits, toBits}
-use Rattle.routines.specs.Exp.{zero, half}
+-- ln, step by step as docs/ROUTINES.md has it and under its names, with `-` for `_`. Each of ⊕ ⊖ ⊗ is rounded once.
+-- Definitions only. Assumes nothing.
+use Prim.Native.Nat.{ℕ, _+_, _/_, _%_, _^_}
+use mathlib.Core.Bool.{true, cond}
+use lib.Ieee.{Float, nan, inf, binary64, lt, le, eq, ofBits, toBits}
+use Rattle.routines.specs.Constants.{zero, half}
 use Rattle.routines.specs.LnTable.{pieceOf, logOf}
+use Rattle.routines.specs.Ops.{_⊕_, _⊖_, _⊗_}
 
--- ln 2 in two parts
-abbrev pub LN2HI : Float
-LN2HI = ofBits binary64 0x3fe62e42fefa3800
+-- 0.6931471805598903: ln 2 to a whole number of 2 ^ -42
+abbrev pub LN2-HIGH : Float
+LN2-HIGH = ofBits binary64 0x3fe62e42fefa3800
 
-abbrev pub LN2LO : Float
-LN2LO = ofBits binary64 0x3d2ef35793c76730
+-- 5.497923018708371e-14: ln 2 - LN2-HIGH
+abbrev pub LN2-LOW : Float
+LN2-LOW = ofBits binary64 0x3d2ef35793c76730
 
--- 2^-1022, the largest value, 2^54, 2^52 + 1023 + 64
+-- 2.2250738585072014e-308: 2 ^ -1022, the least normal value
 abbrev pub NORMAL : Float
 NORMAL = ofBits binary64 0x0010000000000000
 
+-- 1.7976931348623157e+308: the largest finite value
 abbrev pub LARGEST : Float
 LARGEST = ofBits binary64 0x7fefffffffffffff
 
+-- 1.8014398509481984e+16: 2 ^ 54
 abbrev pub SCALE : Float
 SCALE = ofBits binary64 0x4350000000000000
 
+-- 4503599627371583.0: 2 ^ 52 + 1023 + 64
 abbrev pub BIAS : Float
 BIAS = ofBits binary64 0x433000000000043f
 
-abbrev pub B1 : Float
-B1 = ofBits binary64 0x3fd555555555555c
-
-abbrev pub B2 : Float
-B2 = ofBits binary64 0x3fcfffffffe8a415
-
-abbrev pub B3 : Float
-B3 = ofBits binary64 0x3fc999999964b5dc
-
-abbrev pub B4 : Float
-B4 = ofBits binary64 0x3fc5557e58146e41
-
-abbrev pub B5 : Float
-B5 = ofBits binary64 0x3fc249579a2f17e8
-
--- a + r b, and r b - a
-abbrev pub more : Float → Float → Float → Float
-more r a b = add binary64 a (mul binary64 r b)
-
-abbrev pub less : Float → Float → Float → Float
-less r b a = sub binary64 (mul binary64 r b) a
-
--- ln(1 + r) - r
-unfoldable pub lnTail : Float → Float
-lnTail r = mul binary64 (mul binary64 r r) (less r (more r B1 (less r (more r B3 (less r B5 B4)) B2)) half)
-
--- ln x from a normal x and the offset that goes with it
-unfoldable pub lnCore : Float → ℕ → Float
-lnCore x offset =
-    let q = toBits binary64 x % 0x8000000000000000 + offset in
-    let k = sub binary64 (ofBits binary64 (0x4330000000000000 + q / 0x10000000000000)) BIAS in
-    let digits = q % 0x10000000000000 in
-    let z = ofBits binary64 (digits + 0x3fe6b00000000000) in
-    let piece = pieceOf (digits / 0x200000000000 % 128) in
-    let log = logOf (digits / 0x200000000000 % 128) in
-    let r = mul binary64 (sub binary64 z (piece .0)) (piece .1) in
-    let high = add binary64 (mul binary64 k LN2HI) (log .0) in
-    let sum = add binary64 high r in
-    let rest = add binary64 (sub binary64 high sum) r in
-    add binary64 sum (add binary64 (add binary64 (add binary64 rest (log .1)) (mul binary64 k LN2LO)) (lnTail r))
-
--- v where v x is above it, and otherwise +0
-unfoldable pub besideZero : Float → Float → Float
-besideZero x v = cond (lt v (mul binary64 v x)) v zero
-
--- the offsets of x and of 2^54 x: the octave starts at z's least value, and 64 octaves, or 10, are in hand
+-- 290851611872329728, a whole number: 64 octaves, and what 1's pattern is above that of z's least value
 abbrev pub OFFSET : ℕ
 OFFSET = 0x0409500000000000
 
-abbrev pub SCALEDOFFSET : ℕ
-SCALEDOFFSET = 0x00a9500000000000
+-- 47657231994322944, a whole number: the same with 10 octaves
+abbrev pub SCALED-OFFSET : ℕ
+SCALED-OFFSET = 0x00a9500000000000
 
+-- 0.3333333333333337
+abbrev pub B1 : Float
+B1 = ofBits binary64 0x3fd555555555555c
+
+-- 0.24999999995751013
+abbrev pub B2 : Float
+B2 = ofBits binary64 0x3fcfffffffe8a415
+
+-- 0.19999999990379436
+abbrev pub B3 : Float
+B3 = ofBits binary64 0x3fc999999964b5dc
+
+-- 0.16667155552646487
+abbrev pub B4 : Float
+B4 = ofBits binary64 0x3fc5557e58146e41
+
+-- 0.14286322620881653
+abbrev pub B5 : Float
+B5 = ofBits binary64 0x3fc249579a2f17e8
+
+-- the table: C[i], B[i], H[i] and L[i]
+abbrev pub C : ℕ → Float
+C i = pieceOf i .0
+
+abbrev pub B : ℕ → Float
+B i = pieceOf i .1
+
+abbrev pub H : ℕ → Float
+H i = logOf i .0
+
+abbrev pub L : ℕ → Float
+L i = logOf i .1
+
+-- ln(1 + r) - r
+unfoldable pub lnTail : Float → Float
+lnTail r = (r ⊗ r) ⊗ (r ⊗ (B1 ⊕ r ⊗ (r ⊗ (B3 ⊕ r ⊗ (r ⊗ B5 ⊖ B4)) ⊖ B2)) ⊖ half)
+
+-- steps 3 to 8: v. The pattern 0x3fe6b00000000000 is z's least value, 0.708984375, and 0x4330000000000000 is 2 ^ 52
+unfoldable pub lnCore : Float → ℕ → Float
+lnCore w offset =
+    let q = toBits binary64 w % 2 ^ 63 + offset in
+    let k = ofBits binary64 (0x4330000000000000 + q / 2 ^ 52) ⊖ BIAS in
+    let digits = q % 2 ^ 52 in
+    let z = ofBits binary64 (digits + 0x3fe6b00000000000) in
+    let i = digits / 2 ^ 45 % 128 in
+    let r = (z ⊖ C i) ⊗ B i in
+    let high = k ⊗ LN2-HIGH ⊕ H i in
+    let sum = high ⊕ r in
+    let rest = (high ⊖ sum) ⊕ r in
+    sum ⊕ (((rest ⊕ L i) ⊕ k ⊗ LN2-LOW) ⊕ lnTail r)
+
+-- step 9: v where v x is above it, and otherwise +0
+unfoldable pub besideZero : Float → Float → Float
+besideZero x v = cond (lt v (v ⊗ x)) v zero
+
+-- step 2 for an x that is not above 0
 abbrev pub notAboveZero : Float → Float
 notAboveZero x = cond (eq x zero) (inf true) nan
 
+-- steps 1 and 2, and the others
 unfoldable pub lnOf : Float → Float
 lnOf x =
     cond (le NORMAL x) (cond (lt LARGEST x) x (besideZero x (lnCore x OFFSET)))
-    (cond (lt zero x) (besideZero x (lnCore (mul binary64 x SCALE) SCALEDOFFSET)) (notAboveZero x))
+    (cond (lt zero x) (besideZero x (lnCore (x ⊗ SCALE) SCALED-OFFSET)) (notAboveZero x))

@@ -1,4 +1,5 @@
--- Rust's + - * / on `f64`, each rounded once, as ⊕ ⊖ ⊗ ⊘. They bind as Rust's do: from the left, products first. Definitions only. Assumes nothing.
+-- Rust's + - * / on `f64`, each rounded once, as ⊕ ⊖ ⊗ ⊘. They bind as Rust's do: from the left, products first.
+-- Definitions only. Assumes nothing.
 use Prim.Native.Nat.{ℕ}
 use lib.IntN.{pos}
 use lib.Ieee.{Float, binary64, add, sub, mul, div, ofInt}

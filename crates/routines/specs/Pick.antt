@@ -1,4 +1,5 @@
--- Rust's `f64::max` and `f64::min`: the other where one is a NaN, and the first where the two are level (Rust leaves open which of two zeros it is). Definitions only. Assumes nothing.
+-- Rust's `f64::max` and `f64::min`: the other where one is a NaN, and the first where the two are level (Rust leaves
+-- open which of two zeros it is). Definitions only. Assumes nothing.
 use mathlib.Core.Bool.{cond}
 use lib.Ieee.{Float, nan, inf, fin, lt}
 

@@ -1,5 +1,6 @@
--- The size of a finite value, counted in units of its format's smallest value above zero: 2 ^ -1074 for an `f64`. Every finite value of a format is a whole number of units: `has-units` in proofs/Values.antt.
--- And how near a rounded sum is to the exact one, in units. Definitions only. Assumes nothing.
+-- The size of a finite value, counted in units of its format's smallest value above zero: 2 ^ -1074 for an `f64`. Every
+-- finite value of a format is a whole number of units: `has-units` in proofs/Values.antt.
+-- And how near a rounded sum, or a running sum, is to the exact one, in units. Definitions only. Assumes nothing.
 use Prim.Native.Nat.{ℕ, _+_, _*_, _/_, _^_, _≤_}
 use mathlib.Core.Bool.{Bool, true, false, not}
 use lib.Dec.{T, ltb}
@@ -32,3 +33,12 @@ pub record Within (exact : ℕ) (s : Float) : Type 0 where
   pub value : NonNegative binary64 s
   pub over : unitsOf s * 2 ^ 53 ≤ exact * 2 ^ 53 + exact
   pub under : exact * 2 ^ 53 ≤ unitsOf s * 2 ^ 53 + exact
+
+-- g is n up to n / P either way
+abbrev pub Off : ℕ → ℕ → ℕ → Type 0
+Off P g n = (g * P ≤ n * P + n) × (n * P ≤ g * P + n)
+
+-- s is e up to 2 * k * e / 2 ^ 53: a running sum of k terms and the exact one
+pub record Near (k s e : ℕ) : Type 0 where
+  pub over : s * 2 ^ 53 ≤ e * 2 ^ 53 + 2 * (k * e)
+  pub under : e * 2 ^ 53 ≤ s * 2 ^ 53 + 2 * (k * e)

@@ -1,5 +1,7 @@
--- Rust's `f64::round` and `f64::floor`, on a binary64 value: `nan`, `inf s`, or `fin s m e`, which is m * 2 ^ e, negative where s is true. Its size is the fraction m * up e / down e.
--- `Ieee.round binary64 s n 1` is the whole number n with the sign s as a binary64 value (for n = 0 a zero with that sign). It loses nothing here: `round-exactly` and `floor-exactly` in proofs/Exact.antt.
+-- Rust's `f64::round` and `f64::floor`, on a binary64 value: `nan`, `inf s`, or `fin s m e`, which is m * 2 ^ e,
+-- negative where s is true. Its size is the fraction m * up e / down e.
+-- `Ieee.round binary64 s n 1` is the whole number n with the sign s as a binary64 value (for n = 0 a zero with that
+-- sign). It loses nothing here: `round-exactly` and `floor-exactly` in proofs/Exact.antt.
 -- Definitions only. Assumes nothing.
 use Prim.Native.Nat.{ℕ, _+_, _-_, _*_, _/_}
 use mathlib.Core.Bool.{Bool, true, false}

@@ -1,5 +1,5 @@
-// lgamma, in the steps of docs/ROUTINES.md: Stirling's series from 4 on; below, four steps up and a logarithm off;
-// below 0, the reflection without a sine: Gamma(f) Gamma(1-f) over Gamma(1+a).
+// lgamma, in the steps of docs/ROUTINES.md and under its names: Stirling's series from 4 on; below, four steps up and a
+// logarithm off; below 0, the reflection without a sine: Gamma(f) Gamma(1-f) over Gamma(1+a).
 ghost use mathlib.Core.Path.{_≡_};
 ghost use Rattle.routines.specs.Lgamma.{lgammaOf, stirlingOf, aboveZero, belowZero};
 use crate::ln::ln;
@@ -21,7 +21,7 @@ const S5: f64 = 0.0016464537495094853;
 const S6: f64 = 0.0027324238438044194;
 
 // ln(2 pi)/2 - 1/2.
-const HALF_LN_2PI: f64 = 0.4189385332046727;
+const STIRLING_CONSTANT: f64 = 0.4189385332046727;
 
 // ln Gamma(x) for x from 4 on.
 fn stirling(x: f64) -> f64
@@ -30,7 +30,7 @@ fn stirling(x: f64) -> f64
     let i = 1.0 / x;
     let z = i * i;
     let s = S0 - z * (S1 - z * (S2 - z * (S3 - z * (S4 - z * (S5 - z * S6)))));
-    (x - 0.5) * (ln(x) - 1.0) + (HALF_LN_2PI + i * s)
+    (x - 0.5) * (ln(x) - 1.0) + (STIRLING_CONSTANT + i * s)
 }
 
 // ln Gamma(x) for x above 0; a NaN and +inf go through.
@@ -50,7 +50,7 @@ fn above_zero(x: f64) -> f64
     stirling(x)
 }
 
-// ln |Gamma(x)| for x at or below 0.
+// Steps 2 to 4: ln |Gamma(x)| for x at or below 0.
 fn below_zero(x: f64) -> f64
     ensures { λ r. ⌜ r ≡ belowZero x ⌝ }
 {

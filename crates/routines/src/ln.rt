@@ -1,15 +1,13 @@
-// ln, in the steps of docs/ROUTINES.md.
+// ln, in the steps of docs/ROUTINES.md and under its names.
 //
-// x = 2^k * z with z between 0.7089.. and 1.4179.., both cut out of the bits of x. The table has a c near z: z = c * (1 + r), so
-// ln x = k ln 2 + ln c + ln(1 + r), and |r| is below 0.0048.
+// x = 2^k * z with z between 0.7089.. and 1.4179.., both cut out of the bits of x. The table has a c near z:
+// z = c * (1 + r), so ln x = k ln 2 + ln c + ln(1 + r), and |r| is below 1/200.
 ghost use mathlib.Core.Path.{_≡_};
 ghost use mathlib.Core.Bool.{not};
 ghost use Prim.Native.Nat.{_≤_};
 ghost use lib.Dec.{T};
 ghost use lib.Ieee.{isNan};
-ghost use Rattle.routines.specs.Ln.{lnOf, lnCore, lnTail, besideZero, notAboveZero};
-use crate::held::at_least;
-use crate::held::at_most;
+ghost use Rattle.routines.specs.Ln.{lnOf, lnCore, lnTail, besideZero, notAboveZero, OFFSET};
 use crate::ln_table::log_at;
 use crate::ln_table::piece_at;
 
@@ -25,6 +23,14 @@ const LARGEST: f64 = 1.7976931348623157e308;
 
 const SCALE: f64 = 18014398509481984.0;
 
+// 2^52 + 1023 + 64.
+const BIAS: f64 = 4503599627371583.0;
+
+// The offset moves the octave's start from 1 to z's least value, and keeps 64 octaves in hand, of which a scaled x uses 54.
+const OFFSET: u64 = 0x409_5000_0000_0000;
+
+const SCALED_OFFSET: u64 = 0xa9_5000_0000_0000;
+
 // The coefficients, without their signs.
 const B1: f64 = 0.3333333333333337;
 
@@ -36,29 +42,20 @@ const B4: f64 = 0.16667155552646487;
 
 const B5: f64 = 0.14286322620881653;
 
-// The offset moves the octave's start from 1 to z's least value, and keeps 64 octaves in hand, of which a scaled x uses 54.
-const OFFSET: u64 = 0x409_5000_0000_0000;
-
-const SCALED_OFFSET: u64 = 0xa9_5000_0000_0000;
-
-// 2^52 + 1023 + 64.
-const BIAS: f64 = 4503599627371583.0;
-
-const SCALED_BIAS: f64 = 4503599627371573.0;
-
-// ln(1 + r) - r for |r| below 0.0053.
+// ln(1 + r) - r for |r| below 1/200.
 fn tail(r: f64) -> f64
     ensures { λ v. ⌜ v ≡ lnTail r ⌝ }
 {
     (r * r) * (r * (B1 + r * (r * (B3 + r * (r * B5 - B4)) - B2)) - 0.5)
 }
 
-// ln x from a normal x and the offset that goes with it.
-fn core(x: f64, offset: u64) -> f64
-    requires { ⌜ T (not (isNan x)) ⌝ ∗ ⌜ offset ≤ 0x409500000000000 ⌝ }
-    ensures { λ r. ⌜ r ≡ lnCore x offset ⌝ }
+// Steps 3 to 8: ln w from a normal w and the offset that goes with it. The piece has C[i] and B[i], and the log H[i] and
+// L[i]; 0x10_0000_0000_0000 is 2^52, and 0x2000_0000_0000 is 2^45.
+fn core(w: f64, offset: u64) -> f64
+    requires { ⌜ T (not (isNan w)) ⌝ ∗ ⌜ offset ≤ OFFSET ⌝ }
+    ensures { λ r. ⌜ r ≡ lnCore w offset ⌝ }
 {
-    let q = f64::to_bits(x) % 0x8000_0000_0000_0000 + offset;
+    let q = f64::to_bits(w) % 0x8000_0000_0000_0000 + offset;
     let k = f64::from_bits(0x4330_0000_0000_0000 + q / 0x10_0000_0000_0000) - BIAS;
     let digits = q % 0x10_0000_0000_0000;
     let z = f64::from_bits(digits + 0x3fe6_b000_0000_0000);
@@ -71,15 +68,15 @@ fn core(x: f64, offset: u64) -> f64
     sum + (((rest + log.1) + k * LN2_LOW) + tail(r))
 }
 
-// The last step: v where v * x is above it, so that v lies on the side of 0 where ln x lies, and otherwise +0. Only the v at 1
-// needs it; it makes the rule hold by its form.
+// Step 9: v where v * x is above it, so that v lies on the side of 0 where ln x lies, and otherwise +0. 1 is the
+// only x that was ever met that needs it; it makes the rule hold by its form.
 fn beside_zero(x: f64, v: f64) -> f64
     ensures { λ r. ⌜ r ≡ besideZero x v ⌝ }
 {
     if v * x > v { v } else { 0.0 }
 }
 
-// ln x for an x that is not above 0, or a NaN.
+// Step 2 for an x that is not above 0, or a NaN.
 fn not_above_zero(x: f64) -> f64
     ensures { λ r. ⌜ r ≡ notAboveZero x ⌝ }
 {
@@ -90,7 +87,7 @@ fn not_above_zero(x: f64) -> f64
 pub fn ln(x: f64) -> f64
     ensures { λ r. ⌜ r ≡ lnOf x ⌝ }
 {
-    let mut value = x;
+    let mut w = x;
     let mut offset = OFFSET;
     if x >= NORMAL {
         if x > LARGEST {
@@ -98,13 +95,13 @@ pub fn ln(x: f64) -> f64
         }
     } else {
         if x > 0.0 {
-            value = x * SCALE;
+            w = x * SCALE;
             offset = SCALED_OFFSET;
         } else {
             return not_above_zero(x);
         }
     }
-    beside_zero(x, core(value, offset))
+    beside_zero(x, core(w, offset))
 }
 
 #[no_mangle]

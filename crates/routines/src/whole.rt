@@ -1,6 +1,6 @@
 // Rust's `f64::round` and `f64::floor`, on every `f64`.
 ghost use mathlib.Core.Path.{_≡_};
-ghost use mathlib.Core.Bool.{true, false};
+ghost use mathlib.Core.Bool.{false};
 ghost use lib.IntN.{pos};
 ghost use lib.Dec.{T};
 ghost use lib.Ieee as Ieee;

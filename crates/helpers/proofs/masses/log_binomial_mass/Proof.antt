@@ -4,7 +4,7 @@ use mathlib.Core.Path.{_≡_, refl}
 use Prim.Native.Nat.{_+_, _-_}
 use native.Mathlib.Omega.{arith}
 use lib.Ieee.{div, neg, ofBits}
-use Rattle.routines.specs.Exp.{one}
+use Rattle.routines.specs.Constants.{one}
 use Rattle.helpers.specs.Lobes.{lnDnbinomOf, sizeOf, logQOf}
 use Rattle.helpers.specs.Masses.{binomialMassOf, binomialRatio}
 use Rattle.helpers.proofs.Recurrences.{Summed, begins, goes-on, ends}

@@ -4,7 +4,7 @@ use mathlib.Core.Path.{_≡_, refl}
 use Prim.Native.Nat.{_+_, _-_}
 use native.Mathlib.Omega.{arith}
 use lib.Ieee.{div, neg, ofBits}
-use Rattle.routines.specs.Exp.{one}
+use Rattle.routines.specs.Constants.{one}
 use Rattle.routines.specs.Ln.{lnOf}
 use Rattle.helpers.specs.Lobes.{lnDpoisOf}
 use Rattle.helpers.specs.Masses.{poissonMassOf, poissonRatio}

@@ -4,7 +4,7 @@ use mathlib.Core.Path.{_≡_, sym}
 use Prim.Native.Nat.{_-_}
 use native.Mathlib.Omega.{arith}
 use lib.Ieee.{neg, ofBits}
-use Rattle.routines.specs.Exp.{zero}
+use Rattle.routines.specs.Constants.{zero}
 use Rattle.models.proofs.Loops.{Folded, begins, goes-on, ends}
 use Rattle.models.specs.Spectra.{observedStep, overObserved}
 use Rattle.models.specs.Likelihoods.{steadyOf, pointTerm, likelihoodOf}

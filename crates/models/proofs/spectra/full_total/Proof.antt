@@ -5,7 +5,7 @@ use Prim.Native.Nat.{_-_}
 use native.Mathlib.Omega.{arith}
 use lib.ListN.{length}
 use lib.Ieee.{neg, ofBits}
-use Rattle.routines.specs.Exp.{zero}
+use Rattle.routines.specs.Constants.{zero}
 use Rattle.models.proofs.Loops.{Folded, begins, goes-on, ends}
 use Rattle.models.specs.Spectra.{fullStep, fullTotalOf}
 use Rattle.models.proofs.spectra.full_total.Statement.{statement}

@@ -1,4 +1,5 @@
--- `routines::casts::to_u64` meets its contract. The two tests are what `truncating_f64_to_u64` requires, and where one fails `Tests` says which end of the range it is.
+-- `routines::casts::to_u64` meets its contract. The two tests are what `truncating_f64_to_u64` requires, and where one
+-- fails `Tests` says which end of the range it is.
 -- Assumes nothing.
 use borrow.Author.Needs.{needs}
 use lib.Ieee.{ofBits, neg}

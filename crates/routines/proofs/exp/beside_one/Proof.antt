@@ -1,8 +1,9 @@
 -- `routines::exp::beside_one` meets its contract. Assumes nothing.
 use borrow.Author.Needs.{needs}
-use mathlib.Core.Path.{sym, ap, _∙_}
+use mathlib.Core.Path.{ap, _∙_}
 use lib.Ieee.{Float}
-use Rattle.routines.specs.Exp.{besideOne, one}
+use Rattle.routines.specs.Constants.{one}
+use Rattle.routines.specs.Exp.{besideOne}
 use Rattle.routines.specs.Held.{atMost}
 use Rattle.routines.proofs.exp.beside_one.Statement.{statement}
 use Rattle.routines.proofs.exp.beside_one.Tie as tie
@@ -15,7 +16,9 @@ at-most-requires c κs = search needs
 
 returns : tie.Need-returns
 unfolding besideOne
-returns c = rw (c .before .before .if1 .taken) (c .at-most .ensures ∙ ap (λ (v : Float). atMost v one) (c .before .at-least .ensures))
+returns c =
+    rw (c .before .before .if1 .taken)
+    (c .at-most .ensures ∙ ap (λ (v : Float). atMost v one) (c .before .at-least .ensures))
 
 at-least-requires-2 : tie.Need-at-least-requires-2
 at-least-requires-2 c κs = search needs

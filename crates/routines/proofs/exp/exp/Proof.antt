@@ -6,11 +6,6 @@ use Rattle.routines.proofs.Patterns.{least-no-nan}
 use borrow.Author.Needs.{needs}
 use Rattle.routines.proofs.exp.exp.Statement.{statement}
 use Rattle.routines.proofs.exp.exp.Tie as tie
-use Rattle.routines.proofs.exp.exp.Reads as reads
-use Rattle.routines.proofs.exp.exp.Lts as lts
-use Rattle.routines.proofs.exp.beside_one.Reads as beside-one-reads
-use Rattle.routines.proofs.exp.out_of_range.Reads as out-of-range-reads
-use Rattle.routines.proofs.exp.scaled_up.Reads as scaled-up-reads
 
 scaled-up-requires : tie.Need-scaled-up-requires
 scaled-up-requires c κs = least-no-nan _ _ (c .before .if1 .taken)
@@ -20,7 +15,9 @@ beside-one-requires c κs = search needs
 
 returns : tie.Need-returns
 unfolding expOf tee
-returns c = rw (c .before .before .before .if1 .taken, c .before .before .if2 .taken) (c .beside-one .ensures ∙ ap (besideOne _) (c .before .scaled-up .ensures))
+returns c =
+    rw (c .before .before .before .if1 .taken, c .before .before .if2 .taken)
+    (c .beside-one .ensures ∙ ap (besideOne _) (c .before .scaled-up .ensures))
 
 out-of-range-requires : tie.Need-out-of-range-requires
 out-of-range-requires c κs = search needs

@@ -1,19 +1,19 @@
 -- `routines::exp::out_of_range` meets its contract. Assumes nothing.
 use lib.Ieee.{div, ofBits}
-use Rattle.routines.specs.Exp.{beyond}
+use Rattle.routines.specs.Exp.{outOfRange}
 use Rattle.routines.proofs.exp.out_of_range.Statement.{statement}
 use Rattle.routines.proofs.exp.out_of_range.Tie as tie
 
 returns : tie.Need-returns
-unfolding beyond
+unfolding outOfRange
 returns c = rw (c .if1 .taken)
 
 returns-2 : tie.Need-returns-2
-unfolding beyond div ofBits
+unfolding outOfRange div ofBits
 returns-2 c = rw (c .before .if1 .left, c .if2 .taken)
 
 returns-3 : tie.Need-returns-3
-unfolding beyond
+unfolding outOfRange
 returns-3 c = rw (c .before .if1 .left, c .if2 .left)
 
 pub out-of-range-spec : {M : Type 1} → statement M

@@ -1,7 +1,7 @@
 -- `routines::expm1::beside_minus_one` meets its contract. Assumes nothing.
 use mathlib.Core.Path.{ap, _∙_}
 use lib.Ieee.{Float}
-use Rattle.routines.specs.Exp.{zero}
+use Rattle.routines.specs.Constants.{zero}
 use Rattle.routines.specs.Expm1.{besideMinusOne}
 use Rattle.routines.specs.Held.{atMost}
 use borrow.Author.Needs.{needs}
@@ -19,7 +19,9 @@ at-least-requires-2 c κs = search needs
 
 returns : tie.Need-returns
 unfolding besideMinusOne
-returns c = rw (c .before .before .if1 .taken) (c .at-most .ensures ∙ ap (λ (v : Float). atMost v zero) (c .before .at-least .ensures))
+returns c =
+    rw (c .before .before .if1 .taken)
+    (c .at-most .ensures ∙ ap (λ (v : Float). atMost v zero) (c .before .at-least .ensures))
 
 returns-2 : tie.Need-returns-2
 unfolding besideMinusOne

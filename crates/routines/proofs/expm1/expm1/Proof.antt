@@ -21,7 +21,8 @@ returns-2 : tie.Need-returns-2
 unfolding expm1Of teeM
 returns-2 c =
     let test = c .before .before in
-    rw (test .before .before .if1 .left, test .before .if2 .taken, test .if3 .taken) (c .beside-minus-one .ensures ∙ ap (besideMinusOne _) (c .before .less-one .ensures))
+    rw (test .before .before .if1 .left, test .before .if2 .taken, test .if3 .taken)
+    (c .beside-minus-one .ensures ∙ ap (besideMinusOne _) (c .before .less-one .ensures))
 
 far-out-requires : tie.Need-far-out-requires
 far-out-requires c κs = search needs

@@ -1,4 +1,5 @@
--- `routines::lgamma::above_zero` meets its contract: each arm returns what the definition picks where the tests are as the arm found them. Assumes nothing.
+-- `routines::lgamma::above_zero` meets its contract: each arm returns what the definition picks where the tests are as
+-- the arm found them. Assumes nothing.
 use Rattle.routines.specs.Lgamma.{aboveZero, fourUp}
 use borrow.Author.Needs.{needs}
 use Rattle.routines.proofs.lgamma.above_zero.Statement.{statement}
@@ -22,7 +23,8 @@ returns-3 : tie.Need-returns-3
 unfolding aboveZero fourUp
 returns-3 c =
     let test = c .before .before in
-    rw (test .before .before .if1 .taken, test .before .if2 .left, test .if3 .left) (rw (c .before .stirling .ensures, c .ln .ensures))
+    rw (test .before .before .if1 .taken, test .before .if2 .left, test .if3 .left)
+    (rw (c .before .stirling .ensures, c .ln .ensures))
 
 stirling-requires-2 : tie.Need-stirling-requires-2
 stirling-requires-2 c κs = search needs

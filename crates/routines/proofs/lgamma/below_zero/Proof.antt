@@ -29,7 +29,8 @@ unfolding belowZero reflected
 returns-2 c =
     let test = c .before .before .before in
     let same = sym (test .before .floor .ensures) in
-    rw (same, test .if1 .left) (rw (c .above-zero3 .ensures, c .before .above-zero2 .ensures, c .before .before .above-zero .ensures))
+    rw (same, test .if1 .left)
+    (rw (c .above-zero3 .ensures, c .before .above-zero2 .ensures, c .before .before .above-zero .ensures))
 
 pub below-zero-spec : {M : Type 1} → statement M
 below-zero-spec =

@@ -9,7 +9,8 @@ use borrow.Author.Needs.{needs}
 use Rattle.routines.proofs.ln.core.Statement.{statement}
 use Rattle.routines.proofs.ln.core.Tie as tie
 
-exponent : (q o : ℕ) → o ≤ 290851611872329728 → (4841369599423283200 + (q % 9223372036854775808 + o) / 4503599627370496) % 2 ^ 63 ≤ 2047 * 2 ^ 52
+exponent : (q o : ℕ) → o ≤ 290851611872329728
+    → (4841369599423283200 + (q % 9223372036854775808 + o) / 4503599627370496) % 2 ^ 63 ≤ 2047 * 2 ^ 52
 exponent q o h = omega arith
 
 digits : (q : ℕ) → (q % 4503599627370496 + 4604561183079399424) % 2 ^ 63 ≤ 2047 * 2 ^ 52
@@ -48,7 +49,14 @@ returns c =
     let made = c .before .before .before .before .before in
     let logs = made .log-at .ensures in
     let pieces = made .before .piece-at .ensures in
-    rw (c .tail .ensures, ap (λ (t : Float × Float). t .0) logs, ap (λ (t : Float × Float). t .1) logs, ap (λ (t : Float × Float). t .0) pieces, ap (λ (t : Float × Float). t .1) pieces)
+    rw (
+      c .tail .ensures,
+      ap (λ (t : Float × Float). t .0) logs,
+      ap (λ (t : Float × Float). t .1) logs,
+      ap
+          (λ (t : Float × Float). t .0) pieces,
+      ap (λ (t : Float × Float). t .1) pieces,
+    )
 
 pub core-spec : {M : Type 1} → statement M
 core-spec =

@@ -1,4 +1,5 @@
--- `routines::ln::ln` meets its contract: each arm returns what the definition picks where the tests are as the arm found them. Assumes nothing.
+-- `routines::ln::ln` meets its contract: each arm returns what the definition picks where the tests are as the arm
+-- found them. Assumes nothing.
 use mathlib.Core.Path.{_≡_, sym, ap, _∙_, subst}
 use mathlib.Core.Bool.{not}
 use mathlib.Core.Logic.{⊎-elim}
@@ -23,7 +24,8 @@ unfolding lnOf
 returns-2 c = rw (c .before .before .if1 .left, c .before .if3 .left) (c .not-above-zero .ensures)
 
 -- what `core` asks of a value and an offset that are known
-few-of : {y : Float} {k : ℕ} (v : Float) (o : ℕ) → v ≡ y → o ≡ k → T (not (isNan y)) → k ≤ OFFSET → T (not (isNan v)) × (o ≤ OFFSET)
+few-of : {y : Float} {k : ℕ} (v : Float) (o : ℕ) → v ≡ y → o ≡ k → T (not (isNan y)) → k ≤ OFFSET
+    → T (not (isNan v)) × (o ≤ OFFSET)
 few-of v o p q n l = (subst (λ (x : Float). T (not (isNan x))) (sym p) n, subst (λ (x : ℕ). x ≤ OFFSET) (sym q) l)
 
 core-requires : tie.Need-core-requires
@@ -40,7 +42,8 @@ unfolding lnOf
 returns-3 c =
     c .beside-zero .ensures
     ∙ ap (besideZero _) (c .before .core .ensures)
-    ∙ ⊎-elim (λ w. rw (w .0 .taken, w .1 .left, w .2, w .3)) (λ w. rw (w .0 .left, w .1 .taken, w .2, w .3)) (c .before .before .if1 .came)
+    ∙ ⊎-elim (λ w. rw (w .0 .taken, w .1 .left, w .2, w .3)) (λ w. rw (w .0 .left, w .1 .taken, w .2, w .3))
+    (c .before .before .if1 .came)
 
 pub ln-spec : {M : Type 1} → statement M
 ln-spec =

@@ -1,5 +1,5 @@
--- `routines::pick::max` meets its contract. Each arm returns what `maxOf` picks where the tests are as the arm found them. Assumes nothing.
-use mathlib.Core.Path.{_∙_}
+-- `routines::pick::max` meets its contract. Each arm returns what `maxOf` picks where the tests are as the arm found
+-- them. Assumes nothing.
 use Rattle.routines.specs.Pick.{maxOf}
 use Rattle.routines.proofs.Picks.{skips, takes}
 use Rattle.routines.proofs.pick.max.Statement.{statement}

@@ -1,5 +1,5 @@
--- `routines::pick::min` meets its contract. Each arm returns what `minOf` picks where the tests are as the arm found them. Assumes nothing.
-use mathlib.Core.Path.{_∙_}
+-- `routines::pick::min` meets its contract. Each arm returns what `minOf` picks where the tests are as the arm found
+-- them. Assumes nothing.
 use Rattle.routines.specs.Pick.{minOf}
 use Rattle.routines.proofs.Picks.{skips, takes}
 use Rattle.routines.proofs.pick.min.Statement.{statement}

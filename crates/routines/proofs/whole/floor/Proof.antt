@@ -8,11 +8,10 @@ use mathlib.Core.Logic.{⊎-elim}
 use lib.Ieee.{neg, binary64, round}
 use Rattle.routines.proofs.Tests.{yes}
 use Rattle.routines.proofs.Sizes.{cut-small, ofInt-is}
-use Rattle.routines.proofs.Ranges.{Small, small, small-neg, floor-small-is, floor-neg-is, floor-keeps, wide-up, wide-down, level}
+use Rattle.routines.proofs.Ranges.{Small, small, small-neg, floor-small-is, floor-neg-is, floor-keeps, wide-up}
+use Rattle.routines.proofs.Ranges.{wide-down, level}
 use Rattle.routines.proofs.whole.floor.Statement.{statement}
 use Rattle.routines.proofs.whole.floor.Tie as tie
-use Rattle.routines.proofs.whole.floor.Reads as reads
-use Rattle.routines.proofs.whole.floor.Lts as lts
 
 is-small : (c : tie.Then2) → Small (c .before .before .args .x)
 is-small c = small (c .before .before .args .x) (c .before .if1 .taken) (c .if2 .taken)
@@ -35,11 +34,14 @@ returns c =
     let x = test .before .before .args .x in
     c .nearest-u64-to-f64 .ensures
     ∙ ofInt-is _
-    ∙ ap (λ (n : ℕ). round binary64 false n 1) (cast .truncating-f64-to-u64 .ensures ∙ cut-small x (is-small test .0) (is-small test .1) .2)
+    ∙ ap (λ (n : ℕ). round binary64 false n 1)
+    (cast .truncating-f64-to-u64 .ensures ∙ cut-small x (is-small test .0) (is-small test .1) .2)
     ∙ floor-small-is x (is-small test .0)
 
 returns-2 : tie.Need-returns-2
-returns-2 c = ap neg (c .ceil-small .ensures) ∙ floor-neg-is (c .before .before .before .before .args .x) (ceil-small-requires (c .before) tt .0)
+returns-2 c =
+    ap neg (c .ceil-small .ensures)
+    ∙ floor-neg-is (c .before .before .before .before .args .x) (ceil-small-requires (c .before) tt .0)
 
 -- the last arm, reached by either test of each `&&` that failed
 returns-3 : tie.Need-returns-3
@@ -52,4 +54,6 @@ returns-3 c =
     (c .if3 .came))
 
 pub floor-spec : {M : Type 1} → statement M
-floor-spec = tie.close (tie.spec truncating-f64-to-u64-requires nearest-u64-to-f64-requires ceil-small-requires returns returns-2 returns-3)
+floor-spec =
+    tie.close
+    (tie.spec truncating-f64-to-u64-requires nearest-u64-to-f64-requires ceil-small-requires returns returns-2 returns-3)
