@@ -4,7 +4,7 @@ use histogram::reader::FileRead;
 use histogram::reader::LONGEST_FILE;
 use histogram::reader::MAX_FILE_BINS;
 use histogram::reader::read_histogram;
-use histogram::writer::Written;
+use meaning::answers::Written;
 use histogram::writer::write_histogram;
 use listing::text::LONGEST_LISTING;
 use listing::text::list_histogram;

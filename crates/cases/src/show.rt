@@ -1,6 +1,6 @@
 // A line for a case: the call's name, its arguments and its answer, floats as 16 hexadecimal digits of their bits.
 use histogram::reader::FileRead;
-use histogram::writer::Written;
+use meaning::answers::Written;
 use libc::STDOUT_FILENO;
 
 pub(crate) fn bits(x: f64) {

@@ -10,12 +10,12 @@ use histogram::reader::FileRead;
 use histogram::reader::LONGEST_FILE;
 use histogram::reader::MAX_FILE_BINS;
 use histogram::reader::read_histogram;
-use histogram::writer::Written;
 use libc::STDIN_FILENO;
 use libc::STDOUT_FILENO;
 use listing::text::LONGEST_LISTING;
 use listing::text::list_histogram;
 use listing::text::list_refusal;
+use meaning::answers::Written;
 
 // One byte more than the longest accepted file has.
 const ENOUGH: usize = LONGEST_FILE + 1;

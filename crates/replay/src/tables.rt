@@ -5,7 +5,6 @@ use crate::layer2::answers;
 use crate::words::number;
 use crate::words::same;
 use crate::words::word;
-use helpers::answers::Written;
 use helpers::masses::single_copy_log_mass;
 use helpers::masses::single_copy_log_mass_to;
 use helpers::shelves::Shelf;
@@ -14,6 +13,7 @@ use helpers::shelves::ShelfPart;
 use helpers::shelves::mix_entry;
 use helpers::shelves::mix_single_copy;
 use helpers::shelves::shelf_log_table;
+use meaning::answers::Written;
 
 // The place behind i, or i where there is none.
 pub(crate) fn next(i: usize) -> usize {
