@@ -4,11 +4,11 @@ use histogram::reader::FileRead;
 use histogram::reader::LONGEST_FILE;
 use histogram::reader::MAX_FILE_BINS;
 use histogram::reader::read_histogram;
-use histogram::writer::Written;
 use histogram::writer::write_histogram;
 use listing::text::LONGEST_LISTING;
 use listing::text::list_histogram;
 use listing::text::list_refusal;
+use meaning::answers::Written;
 
 const ENOUGH: usize = LONGEST_FILE + 1;
 

@@ -1,7 +1,7 @@
 // A line for a case: the call's name, its arguments and its answer, floats as 16 hexadecimal digits of their bits.
 use histogram::reader::FileRead;
-use histogram::writer::Written;
 use libc::STDOUT_FILENO;
+use meaning::answers::Written;
 
 pub(crate) fn bits(x: f64) {
     if x != x {

@@ -1,12 +1,13 @@
 // Answers that can refuse, as C has them: a number, 0 for an answer, and the value beside it, 0 for a refusal.
 ghost use mathlib.Core.Path.{_≡_};
-ghost use Rattle.helpers.specs.Answers.{numberSays, writtenSays, countSays};
+ghost use Rattle.meaning.specs.Answers.{writtenSays};
+ghost use Rattle.helpers.specs.Answers.{numberSays, countSays};
 ghost use Rattle.models.specs.Heights.{heightsSays};
 ghost use Rattle.exports.specs.Flat.{sayNumber, sayWritten, sayCount};
 ghost use Rattle.exports.specs.FlatFits.{sayHeights};
 use helpers::answers::Count;
 use helpers::answers::Number;
-use helpers::answers::Written;
+use meaning::answers::Written;
 use models::heights::HeightsAnswer;
 
 #[repr(C)]

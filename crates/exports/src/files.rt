@@ -1,15 +1,15 @@
 // The histogram file: reading it into lent bins and writing it into lent bytes.
 ghost use mathlib.Core.Path.{_≡_};
 ghost use lib.ListN.{length};
-ghost use Rattle.histogram.specs.Lent.{laid, counted};
+ghost use Rattle.meaning.specs.Lent.{laid, counted};
 ghost use Rattle.histogram.specs.Read.{readHistogramOf, fileSays};
-ghost use Rattle.histogram.specs.Write.{writeHistogramOf, writtenSays};
+ghost use Rattle.histogram.specs.Write.{writeHistogramOf};
 ghost use Rattle.exports.specs.Flat.{sayWritten};
 ghost use Rattle.exports.specs.FlatFile.{sayFile};
 use crate::answers::FlatWritten;
+use crate::answers::flat_written;
 use histogram::reader::FileRead;
 use histogram::reader::read_histogram;
-use histogram::writer::Written;
 use histogram::writer::write_histogram;
 
 // `place` is the place of the first fault where the number is 3, and 0 otherwise.
@@ -42,15 +42,6 @@ pub fn flat_file(answer: FileRead) -> FlatFile
     }
 }
 
-pub fn flat_bytes(answer: Written) -> FlatWritten
-    ensures { λ r. ⌜ r ≡ sayWritten (writtenSays answer) ⌝ }
-{
-    match answer {
-        Written::Items(items) => FlatWritten { number: 0, items },
-        Written::Refused(number) => FlatWritten { number, items: 0 },
-    }
-}
-
 #[no_mangle]
 pub extern "C" fn fog_read_histogram(file: &[u8], bins: &mut [u32]) -> FlatFile
     ensures { λ r. ⌜ r ≡ sayFile (counted (readHistogramOf (now (file .entry)) (length (now (bins .entry))))) ⌝ }
@@ -64,5 +55,5 @@ pub extern "C" fn fog_write_histogram(bins: &[u32], file: &mut [u8]) -> FlatWrit
     ensures { λ r. ⌜ r ≡ sayWritten (counted (writeHistogramOf (now (bins .entry)) (length (now (file .entry))))) ⌝ }
     ensures { λ _. ⌜ now (file .exit) ≡ laid (writeHistogramOf (now (bins .entry)) (length (now (file .entry)))) (now (file .entry)) ⌝ }
 {
-    flat_bytes(write_histogram(bins, file))
+    flat_written(write_histogram(bins, file))
 }

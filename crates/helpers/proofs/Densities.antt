@@ -7,8 +7,9 @@ use Rattle.routines.specs.Lgamma.{lgammaOf}
 use Rattle.routines.specs.Ln.{lnOf}
 use Rattle.routines.specs.Constants.{one}
 use Rattle.routines.specs.Ops.{_⊕_, _⊖_, _⊗_}
-use Rattle.helpers.specs.Lobes.{sizeOf, logQOf, lnDpoisOf, lnDnbinomOf, nearlyPoisson, lobeOf, densityOf, poissonOf, binomialOf}
-use Rattle.helpers.specs.Shelves.{mixSingleCopyOf, shelfLogsOf, mixEntryOf}
+use Rattle.helpers.specs.Lobes.{sizeOf, logQOf, lnDpoisOf, lnDnbinomOf, nearlyPoisson}
+use Rattle.helpers.specs.Hoists.{lobeOf, densityOf, poissonOf, binomialOf, shelfLogsOf, mixEntryOf}
+use Rattle.helpers.specs.Shelves.{mixSingleCopyOf}
 use Rattle.helpers.specs.declared.shelves.ShelfPart.{ShelfPart}
 use Rattle.helpers.specs.declared.shelves.ShelfPart.the-variants.{Absent, Present}
 

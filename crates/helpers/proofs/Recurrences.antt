@@ -1,42 +1,34 @@
--- A loop that adds up terms, each from the one before: the invariant, and its laws, one for each need of the loop. Assumes nothing.
-use mathlib.Core.Path.{_≡_, refl, sym, ap, _∙_}
+-- The loops of the window masses, on the invariant of the loops over counts: one that adds up terms, each from the one before, and one over the table's entries. Assumes nothing.
+use mathlib.Core.Path.{_≡_, sym, ap, _∙_}
 use mathlib.Core.Bool.{true}
+use mathlib.Core.Logic.{_⊎_, inl, inr}
 use Prim.Native.Nat.{ℕ, _+_, _≤_, _<_}
 use native.Mathlib.Omega.{arith}
 use mathlib.Core.List.{List}
-use mathlib.Core.Logic.{_⊎_, inl, inr}
 use lib.ListN.{length, getD}
 use lib.Ieee.{Float, inf}
 use Rattle.meaning.specs.Fold.{fold}
 use Rattle.meaning.proofs.Folds.{fold-more, fold-none}
+use Rattle.meaning.proofs.Loops.{Folded, begins, goes-on, ends}
+use Rattle.meaning.proofs.Overs.{getD-any}
 use Rattle.routines.specs.Ops.{_⊕_}
 use Rattle.helpers.specs.LogSums.{lse2Of}
-use Rattle.meaning.proofs.Overs.{getD-any}
 use Rattle.helpers.specs.Masses.{recurrenceStep, recurrence, shelfStep}
 
--- the terms of the counts before `count` are added up, and `term` is the one at it
-pub record Summed (ratio : ℕ → Float) (first : Float) (top : ℕ) (total term : Float) (count : ℕ) : Type 0 where
-  pub from : 1 ≤ count
-  pub upto : count ≤ top + 1
-  pub state : (total, term) ≡ fold (recurrenceStep ratio) 1 count (inf true, first)
-
+-- ---- the terms of the counts before `count` are added up, and `term` is the one at it
 module _ (ratio : ℕ → Float) (first : Float) (top : ℕ) where
-  pub begins : (total term : Float) → total ≡ inf true → term ≡ first → Summed ratio first top total term 1
-  begins total term p q = record { from = omega arith; upto = omega arith; state = rw (p, q) (sym (fold-none (recurrenceStep ratio) 1 1 (inf true, first) (omega arith))) }
+  abbrev pub Summed : Float → Float → ℕ → Type 0
+  Summed total term count = Folded (recurrenceStep ratio) (inf true, first) 1 (top + 1) (total, term) count
 
-  module _ {total term : Float} {count : ℕ} (s : Summed ratio first top total term count) where
-    pub goes-on : (total' term' : Float) → count ≤ top → total' ≡ lse2Of total term → term' ≡ term ⊕ ratio count → Summed ratio first top total' term' (count + 1)
-    goes-on total' term' h p q =
-        record {
-          from = omega arith;
-          upto = omega arith;
-          state = rw (p, q) (ap (recurrenceStep ratio count) (s .state) ∙ sym (fold-more (recurrenceStep ratio) 1 count (inf true, first) (s .from)));
-        }
+  pub sum-begins : (total term : Float) → total ≡ inf true → term ≡ first → Summed total term 1
+  sum-begins total term p q = begins (recurrenceStep ratio) (inf true, first) 1 (top + 1) (total, term) (omega arith) (rw (p, q))
 
-    pub ends : top < count → total ≡ recurrence ratio first top .0
-    ends h =
-        let e : count ≡ top + 1 = omega arith in
-        ap (λ (x : Float × Float). x .0) (s .state ∙ ap (λ (n : ℕ). fold (recurrenceStep ratio) 1 n (inf true, first)) e)
+  module _ {total term : Float} {count : ℕ} (s : Summed total term count) where
+    pub sum-goes-on : (total' term' : Float) → count ≤ top → total' ≡ lse2Of total term → term' ≡ term ⊕ ratio count → Summed total' term' (count + 1)
+    sum-goes-on total' term' h p q = goes-on (recurrenceStep ratio) (inf true, first) 1 (top + 1) s (total', term') (omega arith) (rw (p, q))
+
+    pub sum-ends : top < count → total ≡ recurrence ratio first top .0
+    sum-ends h = ap (λ (x : Float × Float). x .0) (ends (recurrenceStep ratio) (inf true, first) 1 (top + 1) s (omega arith))
 
 -- ---- the sum over the table's entries
 pub shelf-begins : (table : List Float) → inf true ≡ fold (shelfStep table) 1 1 (inf true)

@@ -1,12 +1,9 @@
 -- Answers that say the same are the same: the maps of specs/Answers.antt are injective. Assumes nothing.
 use mathlib.Core.Path.{_≡_}
-use Rattle.helpers.specs.Answers.{numberSays, writtenSays, countSays}
+use Rattle.helpers.specs.Answers.{numberSays, countSays}
 use Rattle.helpers.specs.declared.answers.Number.{Number}
 use Rattle.helpers.specs.declared.answers.Number.the-variants.{Value}
 use Rattle.helpers.specs.declared.answers.Number.the-variants as number
-use Rattle.helpers.specs.declared.answers.Written.{Written}
-use Rattle.helpers.specs.declared.answers.Written.the-variants.{Items}
-use Rattle.helpers.specs.declared.answers.Written.the-variants as written
 use Rattle.helpers.specs.declared.answers.Count.{Count}
 use Rattle.helpers.specs.declared.answers.Count.the-variants.{Whole}
 use Rattle.helpers.specs.declared.answers.Count.the-variants as count
@@ -16,12 +13,6 @@ number-same (Value x) (Value y) e = cc
 number-same (Value x) (number.Refused n) e = cc
 number-same (number.Refused n) (Value x) e = cc
 number-same (number.Refused n) (number.Refused m) e = cc
-
-pub written-same : (a b : Written) → writtenSays a ≡ writtenSays b → a ≡ b
-written-same (Items x) (Items y) e = cc
-written-same (Items x) (written.Refused n) e = cc
-written-same (written.Refused n) (Items x) e = cc
-written-same (written.Refused n) (written.Refused m) e = cc
 
 pub count-same : (a b : Count) → countSays a ≡ countSays b → a ≡ b
 count-same (Whole x) (Whole y) e = cc

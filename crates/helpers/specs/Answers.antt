@@ -5,9 +5,6 @@ use Rattle.meaning.specs.Reply.{Reply, refuse, give}
 use Rattle.helpers.specs.declared.answers.Number.{Number}
 use Rattle.helpers.specs.declared.answers.Number.the-variants.{Value}
 use Rattle.helpers.specs.declared.answers.Number.the-variants as number
-use Rattle.helpers.specs.declared.answers.Written.{Written}
-use Rattle.helpers.specs.declared.answers.Written.the-variants.{Items}
-use Rattle.helpers.specs.declared.answers.Written.the-variants as written
 use Rattle.helpers.specs.declared.answers.Count.{Count}
 use Rattle.helpers.specs.declared.answers.Count.the-variants.{Whole}
 use Rattle.helpers.specs.declared.answers.Count.the-variants as count
@@ -15,10 +12,6 @@ use Rattle.helpers.specs.declared.answers.Count.the-variants as count
 abbrev pub numberSays : Number → Reply Float
 numberSays (Value x) = give x
 numberSays (number.Refused n) = refuse n
-
-abbrev pub writtenSays : Written → Reply ℕ
-writtenSays (Items n) = give n
-writtenSays (written.Refused n) = refuse n
 
 abbrev pub countSays : Count → Reply ℕ
 countSays (Whole n) = give n

@@ -3,3 +3,4 @@ pub mod Lobes
 pub mod Answers
 pub mod Shelves
 pub mod Masses
+pub mod Hoists

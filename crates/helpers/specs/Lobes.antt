@@ -9,7 +9,6 @@ use Rattle.routines.specs.Ln.{lnOf}
 use Rattle.routines.specs.Ops.{_⊕_, _⊖_, _⊗_, _⊘_}
 use Rattle.routines.specs.Pick.{minOf}
 use Rattle.routines.specs.Whole.{floorOf}
-use Rattle.helpers.specs.declared.lobes.Lobe.{Lobe}
 
 -- 1.0 + 1e-9
 abbrev pub nearlyPoisson : Float
@@ -31,23 +30,6 @@ lnDnbinomOf x mean dispersion =
     cond (le dispersion nearlyPoisson) (lnDpoisOf x mean)
     (let r = sizeOf mean dispersion in
     lgammaOf (x ⊕ r) ⊖ lgammaOf (x ⊕ one) ⊖ lgammaOf r ⊕ r ⊗ neg (lnOf dispersion) ⊕ x ⊗ logQOf dispersion)
-
--- ---- the same density with what does not change with x worked out before (`density-is` in proofs/Densities.antt)
-abbrev pub poissonOf : Float → Lobe
-poissonOf mean = record { poisson = true; mean = mean; rate = lnOf mean; size = zero; gamma = zero; start = zero; slope = zero }
-
-abbrev pub binomialOf : Float → Float → Lobe
-binomialOf mean dispersion =
-    let r = sizeOf mean dispersion in
-    record { poisson = false; mean = mean; rate = zero; size = r; gamma = lgammaOf r; start = r ⊗ neg (lnOf dispersion); slope = logQOf dispersion }
-
-unfoldable pub lobeOf : Float → Float → Lobe
-lobeOf mean dispersion = cond (le dispersion nearlyPoisson) (poissonOf mean) (binomialOf mean dispersion)
-
-unfoldable pub densityOf : Lobe → Float → Float
-densityOf l x =
-    cond (l .poisson) (x ⊗ l .rate ⊖ lgammaOf (x ⊕ one) ⊖ l .mean)
-    (lgammaOf (x ⊕ l .size) ⊖ lgammaOf (x ⊕ one) ⊖ l .gamma ⊕ l .start ⊕ x ⊗ l .slope)
 
 -- 2^64: Rust's usize::MAX as f64
 abbrev pub two64 : Float

@@ -8,7 +8,6 @@ use lib.Ieee.{Float, inf, lt, toUnsigned}
 use Rattle.meaning.specs.Fold.{fold}
 use Rattle.meaning.specs.Over.{over}
 use Rattle.meaning.specs.Reply.{Reply, give, chain, test, onGive}
-use Rattle.routines.specs.Constants as constants
 use Rattle.routines.specs.Constants.{one}
 use Rattle.routines.specs.Lgamma.{lgammaOf}
 use Rattle.routines.specs.Ln.{lnOf}
@@ -18,7 +17,6 @@ use Rattle.routines.specs.Whole.{roundOf}
 use Rattle.helpers.specs.LogSums.{lse2Of}
 use Rattle.helpers.specs.Lobes.{lnDnbinomOf}
 use Rattle.helpers.specs.declared.shelves.Shelf.{Shelf}
-use Rattle.helpers.specs.declared.shelves.ShelfLogs.{ShelfLogs}
 use Rattle.helpers.specs.declared.shelves.ShelfPart.{ShelfPart}
 use Rattle.helpers.specs.declared.shelves.ShelfPart.the-variants.{Absent, Present}
 
@@ -80,12 +78,3 @@ entryAtOf count table = getD table (toUnsigned 64 count) (inf true)
 unfoldable pub mixSingleCopyOf : Float → Float → ShelfPart → List Float → Float
 mixSingleCopyOf lobe count Absent table = lobe
 mixSingleCopyOf lobe count (Present s) table = mixed lobe s (entryAtOf count table)
-
--- ---- the same from the shelf's two logs, which do not change with the count
-abbrev pub shelfLogsOf : ShelfPart → ShelfLogs
-shelfLogsOf Absent = record { rest = constants.zero; share = inf true }
-shelfLogsOf (Present s) = record { rest = lnOf (one ⊖ s .share); share = lnOf (s .share) }
-
-abbrev pub mixEntryOf : Float → Float → ShelfPart → ShelfLogs → List Float → Float
-mixEntryOf lobe count Absent logs table = lobe
-mixEntryOf lobe count (Present s) logs table = lse2Of (logs .rest ⊕ lobe) (logs .share ⊕ entryAtOf count table)

@@ -4,12 +4,6 @@ pub enum Number {
     Refused(u8),
 }
 
-// How many entries were written.
-pub enum Written {
-    Items(usize),
-    Refused(u8),
-}
-
 // A count, or a mode.
 pub enum Count {
     Whole(u64),

@@ -3,11 +3,13 @@ ghost use mathlib.Core.Path.{_≡_};
 ghost use Prim.Native.Nat.{_+_, _<_};
 ghost use lib.ListN.{length};
 ghost use Rattle.meaning.specs.Over.{over};
-ghost use Rattle.helpers.specs.Shelves.{shelfTrialsOf, lnDbetabinomOf, tableStart, tableStep, tableOf, lastOf, shelfLogTableOf, tableAfter, entryAtOf, mixed, lnSingleCopyOf, shelfLogsOf, mixEntryOf, mixSingleCopyOf};
-ghost use Rattle.helpers.specs.Answers.{writtenSays};
-use crate::answers::Written;
+ghost use Rattle.helpers.specs.Shelves.{shelfTrialsOf, lnDbetabinomOf, tableStart, tableStep, tableOf, lastOf, shelfLogTableOf, tableAfter, entryAtOf, mixed, lnSingleCopyOf, mixSingleCopyOf};
+ghost use Rattle.meaning.specs.Answers.{writtenSays};
+use crate::hoists::mix_entry;
+use crate::hoists::shelf_logs;
 use crate::lobes::ln_dnbinom;
 use crate::log_sums::lse2;
+use meaning::answers::Written;
 use routines::casts::to_u64;
 use routines::lgamma::lgamma;
 use routines::ln::ln;
@@ -128,7 +130,7 @@ pub fn ln_single_copy(count: f64, mean: f64, dispersion: f64, shelf: ShelfPart) 
 }
 
 // The table's entry at a count, and -inf behind its end.
-fn entry_at(count: f64, table: &[f64]) -> f64
+pub(crate) fn entry_at(count: f64, table: &[f64]) -> f64
     ensures { λ r. ⌜ r ≡ entryAtOf count (now (table .entry)) ⌝ }
 {
     let i = to_u64(count) as usize;
@@ -139,41 +141,7 @@ fn entry_at(count: f64, table: &[f64]) -> f64
     }
 }
 
-// ln(1 - share) and ln(share), which do not change with the count; 0 and -inf where there is no shelf.
-pub struct ShelfLogs {
-    pub rest: f64,
-    pub share: f64,
-}
-
-pub fn shelf_logs(shelf: ShelfPart) -> ShelfLogs
-    ensures { λ r. ⌜ r ≡ shelfLogsOf shelf ⌝ }
-{
-    match shelf {
-        ShelfPart::Absent => ShelfLogs {
-            rest: 0.0,
-            share: -1.0 / 0.0,
-        },
-        ShelfPart::Present(s) => ShelfLogs {
-            rest: ln(1.0 - s.share),
-            share: ln(s.share),
-        },
-    }
-}
-
-// The single-copy log density from its lobe's, with the shelf's logs at hand and the shelf read from its table.
-pub fn mix_entry(lobe: f64, count: f64, shelf: ShelfPart, logs: ShelfLogs, table: &[f64]) -> f64
-    ensures { λ r. ⌜ r ≡ mixEntryOf lobe count shelf logs (now (table .entry)) ⌝ }
-{
-    match shelf {
-        ShelfPart::Absent => lobe,
-        ShelfPart::Present(_) => {
-            let entry = entry_at(count, table);
-            lse2(logs.rest + lobe, logs.share + entry)
-        }
-    }
-}
-
-// The same from the shelf alone.
+// The single-copy log density from its lobe's, with the shelf read from its table.
 pub fn mix_single_copy(lobe: f64, count: f64, shelf: ShelfPart, table: &[f64]) -> f64
     ensures { λ r. ⌜ r ≡ mixSingleCopyOf lobe count shelf (now (table .entry)) ⌝ }
 {

@@ -12,7 +12,7 @@ use Rattle.meaning.proofs.Replies.{same-answer, answer-not-refused, answer-not-
 use Rattle.histogram.specs.declared.reader.FileRead.{FileRead}
 use Rattle.histogram.specs.declared.reader.FileRead.the-variants.{Bins, Broken, Refused}
 use Rattle.meaning.specs.Over.{over}
-use Rattle.histogram.specs.Lent.{laid, counted}
+use Rattle.meaning.specs.Lent.{laid, counted}
 use Rattle.histogram.specs.Read.{fitsIn, fileSays, heldSays, keptOf}
 use Rattle.meaning.proofs.Overs.{over-none}
 

@@ -9,14 +9,11 @@ use Rattle.meaning.specs.Reply.{refuse, broken, give}
 use Rattle.meaning.proofs.Replies.{same-answer}
 use Rattle.histogram.specs.declared.reader.FileRead.{FileRead}
 use Rattle.histogram.specs.declared.reader.FileRead.the-variants.{Bins, Broken, Refused}
-use Rattle.histogram.specs.declared.writer.Written.{Written}
-use Rattle.histogram.specs.declared.writer.Written.the-variants as Written
 use Rattle.histogram.specs.declared.number.Number.{Number}
 use Rattle.histogram.specs.declared.number.Number.the-variants as Number
 use Rattle.histogram.specs.Number.{Found, numberSays, numberBytes, numbersBytes}
 use Rattle.histogram.specs.File.{State, form, rangeOf, reading, stopped, stepsOf, readOf, writeOf}
 use Rattle.histogram.specs.Read.{fileSays}
-use Rattle.histogram.specs.Write.{writtenSays}
 use Rattle.histogram.specs.Claims.{Below, Histogram, Continued, In, Allowed, behind, Complete, FirstFault, longestFile, Continues, Stops}
 use Rattle.histogram.proofs.Steps as steps
 use Rattle.histogram.proofs.RoundTrip as round-trip
@@ -115,9 +112,3 @@ number-says-injective (Number.Is n p) (Number.Is m q) e = number-same n p m q (s
 number-says-injective (Number.Is n p) (Number.Broken q) e = cc
 number-says-injective (Number.Broken p) (Number.Is m q) e = cc
 number-says-injective (Number.Broken p) (Number.Broken q) e = cc
-
-pub written-says-injective : (a b : Written) → writtenSays a ≡ writtenSays b → a ≡ b
-written-says-injective (Written.Items n) (Written.Items m) e = cc
-written-says-injective (Written.Items n) (Written.Refused k) e = cc
-written-says-injective (Written.Refused k) (Written.Items m) e = cc
-written-says-injective (Written.Refused k) (Written.Refused l) e = cc

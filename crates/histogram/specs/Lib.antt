@@ -1,6 +1,5 @@
 pub mod Number
 pub mod File
-pub mod Lent
 pub mod Read
 pub mod Write
 pub mod Claims

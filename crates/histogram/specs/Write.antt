@@ -4,15 +4,8 @@ use mathlib.Core.List.{List, [], _∷_}
 use lib.Dec.{ltb}
 use lib.ListN.{length}
 use Rattle.meaning.specs.Reply.{Reply, refuse, give, chain, test}
-use Rattle.histogram.specs.declared.writer.Written.{Written}
-use Rattle.histogram.specs.declared.writer.Written.the-variants.{Items, Refused}
 use Rattle.histogram.specs.File.{mostBins, writeOf}
 
 -- into a slice of so many bytes
 unfoldable pub writeHistogramOf : List ℕ → ℕ → Reply (List ℕ)
 writeHistogramOf xs room = chain (test (ltb (length xs) 2) 1 ∷ test (ltb mostBins (length xs)) 2 ∷ test (ltb room (length (writeOf xs))) 10 ∷ []) (give (writeOf xs))
-
--- the paper's number and values for each answer
-abbrev pub writtenSays : Written → Reply ℕ
-writtenSays (Items n) = give n
-writtenSays (Refused n) = refuse n

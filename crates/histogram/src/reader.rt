@@ -6,7 +6,7 @@ ghost use lib.ListN.{length, take, getD};
 ghost use Rattle.histogram.specs.Number.{between, numberAtOf, numberSays};
 ghost use Rattle.histogram.specs.File.{mostBins, bins as Bins, readFrom};
 ghost use Rattle.meaning.specs.Over.{over};
-ghost use Rattle.histogram.specs.Lent.{laid, counted};
+ghost use Rattle.meaning.specs.Lent.{laid, counted};
 ghost use Rattle.histogram.specs.Read.{fitsIn, readHistogramOf, fileSays, heldSays, keptOf};
 use crate::number::Number;
 use crate::number::number_at;

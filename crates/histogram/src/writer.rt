@@ -5,16 +5,12 @@ ghost use lib.ListN.{length};
 ghost use Rattle.histogram.specs.Number.{numberBytes, numbersBytes};
 ghost use Rattle.histogram.specs.File.{mostBins, writeOf};
 ghost use Rattle.meaning.specs.Over.{over};
-ghost use Rattle.histogram.specs.Lent.{laid, counted};
-ghost use Rattle.histogram.specs.Write.{writeHistogramOf, writtenSays};
+ghost use Rattle.meaning.specs.Lent.{laid, counted};
+ghost use Rattle.histogram.specs.Write.{writeHistogramOf};
+ghost use Rattle.meaning.specs.Answers.{writtenSays};
 use crate::number::number_size;
 use crate::reader::MAX_FILE_BINS;
-
-// How many bytes were written, or the number of the refusal.
-pub enum Written {
-    Items(usize),
-    Refused(u8),
-}
+use meaning::answers::Written;
 
 fn wide(n: u32) -> u64
     ensures { λ r. ⌜ r ≡ n ⌝ }

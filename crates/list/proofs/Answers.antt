@@ -11,14 +11,14 @@ use borrow.Author.Tests.{le-ltb}
 use Rattle.io.specs.Counts.{Counts}
 use Rattle.meaning.specs.Reply.{Reply, refuse, broken, give, unless}
 use Rattle.meaning.proofs.Replies.{same-answer, same-place, answer-not-refused, answer-not-broken, refused-not-broken}
-use Rattle.histogram.specs.declared.writer.Written.{Written}
-use Rattle.histogram.specs.declared.writer.Written.the-variants.{Items, Refused}
+use Rattle.meaning.specs.declared.answers.Written.{Written}
+use Rattle.meaning.specs.declared.answers.Written.the-variants.{Items, Refused}
 use Rattle.histogram.specs.Claims.{Below, Histogram}
 use Rattle.histogram.specs.File.{mostBins, readOf}
 use Rattle.meaning.specs.Over.{over}
-use Rattle.histogram.specs.Lent.{laid, counted}
+use Rattle.meaning.specs.Lent.{laid, counted}
 use Rattle.histogram.specs.Read.{fitsIn, readHistogramOf}
-use Rattle.histogram.specs.Write.{writtenSays}
+use Rattle.meaning.specs.Answers.{writtenSays}
 use Rattle.meaning.proofs.Overs.{over-length}
 use Rattle.histogram.proofs.Theorems.{accepted-holds, never-refused}
 use Rattle.listing.specs.Listing.{listedOf, listOf, listingOf, refusalOf, listHistogramOf, listRefusalOf, longestListing}

@@ -4,11 +4,11 @@ ghost use Prim.Native.Nat.{_≤_};
 ghost use lib.ListN.{length};
 ghost use Rattle.listing.specs.Decimal.{decimalOf};
 ghost use Rattle.meaning.specs.Over.{over};
-ghost use Rattle.histogram.specs.Lent.{laid, counted};
+ghost use Rattle.meaning.specs.Lent.{laid, counted};
 ghost use Rattle.listing.specs.Listing.{lineOf, rowOf, rowsOf, listHistogramOf, listRefusalOf};
-ghost use Rattle.histogram.specs.Write.{writtenSays};
+ghost use Rattle.meaning.specs.Answers.{writtenSays};
 use histogram::reader::MAX_FILE_BINS;
-use histogram::writer::Written;
+use meaning::answers::Written;
 
 // No file's listing is longer: ten bytes for the first line, and for each bin four digits, ten digits, a space and the end of the line.
 pub const LONGEST_LISTING: usize = 10 + 16 * MAX_FILE_BINS;

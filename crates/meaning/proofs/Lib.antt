@@ -3,3 +3,5 @@ pub mod Replies
 pub mod Folds
 pub mod Rules
 pub mod Overs
+pub mod Says
+pub mod Loops

@@ -2,3 +2,5 @@ pub mod Reply
 pub mod Fold
 pub mod Table
 pub mod Over
+pub mod Lent
+pub mod Answers

@@ -13,10 +13,10 @@ use Rattle.meaning.specs.Over.{over}
 use Rattle.meaning.specs.Reply.{refuse, give}
 use Rattle.meaning.proofs.Overs.{over-length}
 use Rattle.meaning.proofs.Replies.{same-answer, answer-not-refused}
-use Rattle.helpers.specs.Answers.{writtenSays}
+use Rattle.meaning.specs.Answers.{writtenSays}
 use Rattle.helpers.specs.Shelves.{shelfTrialsOf, lastOf, shelfLogTableOf, tableAfter}
-use Rattle.helpers.specs.declared.answers.Written.{Written}
-use Rattle.helpers.specs.declared.answers.Written.the-variants.{Items, Refused}
+use Rattle.meaning.specs.declared.answers.Written.{Written}
+use Rattle.meaning.specs.declared.answers.Written.the-variants.{Items, Refused}
 use Rattle.helpers.specs.declared.shelves.Shelf.{Shelf}
 use Rattle.helpers.specs.declared.shelves.ShelfPart.{ShelfPart}
 use Rattle.helpers.specs.declared.shelves.ShelfPart.the-variants.{Absent, Present}

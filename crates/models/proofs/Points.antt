@@ -3,12 +3,12 @@ use mathlib.Core.Path.{_≡_}
 use mathlib.Core.List.{List}
 use lib.Ieee.{Float}
 use Rattle.routines.specs.Ops.{_⊕_, _⊖_}
-use Rattle.helpers.specs.Lobes.{densityOf}
+use Rattle.helpers.specs.Hoists.{densityOf, mixEntryOf}
 use Rattle.helpers.specs.LogSums.{lse3Of}
-use Rattle.helpers.specs.Shelves.{mixEntryOf}
 use Rattle.helpers.proofs.Densities.{density-is, mix-entry-is}
 use Rattle.models.specs.Errors.{logProbabilityOf}
-use Rattle.models.specs.Likelihoods.{steadyOf, pointWith, pointOf}
+use Rattle.models.specs.Likelihoods.{pointWith, pointOf}
+use Rattle.models.specs.Hoists.{steadyOf}
 use Rattle.models.specs.declared.likelihoods.Steady.{Steady}
 use Rattle.models.specs.declared.params.Params.{Params}
 use Rattle.models.specs.declared.window_masses.WindowMasses.{WindowMasses}

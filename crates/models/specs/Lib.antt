@@ -11,6 +11,7 @@ pub mod Refusals
 pub mod Usable
 pub mod Masses
 pub mod Likelihoods
+pub mod Hoists
 pub mod Costs
 pub mod Deviances
 pub mod Unpacking

@@ -3,12 +3,11 @@ use Prim.Native.Nat.{ℕ, _+_}
 use mathlib.Core.List.{List}
 use lib.Ieee.{Float}
 use Rattle.routines.specs.Ops.{_⊕_, _⊖_, _⊗_, ofCount}
-use Rattle.helpers.specs.Lobes.{lnDnbinomOf, lobeOf}
+use Rattle.helpers.specs.Lobes.{lnDnbinomOf}
 use Rattle.helpers.specs.LogSums.{lse3Of}
-use Rattle.helpers.specs.Shelves.{mixSingleCopyOf, shelfLogsOf}
-use Rattle.models.specs.Errors.{lnTailOf, logProbabilityOf}
+use Rattle.helpers.specs.Shelves.{mixSingleCopyOf}
+use Rattle.models.specs.Errors.{logProbabilityOf}
 use Rattle.models.specs.Spectra.{overObserved}
-use Rattle.models.specs.declared.likelihoods.Steady.{Steady}
 use Rattle.models.specs.declared.params.Params.{Params}
 use Rattle.models.specs.declared.window_masses.WindowMasses.{WindowMasses}
 
@@ -27,12 +26,3 @@ pointTerm p m table n i = ofCount n ⊗ pointOf p m table (ofCount (i + 1))
 
 unfoldable pub likelihoodOf : List ℕ → Float → ℕ → Params → WindowMasses → List Float → Float
 likelihoodOf bins scale end p m table = overObserved bins scale end (pointTerm p m table)
-
--- what does not change with the count, worked out before the loop: `steady-point` in proofs/Points.antt shows that it changes nothing
-abbrev pub steadyOf : Params → Steady
-steadyOf p = record {
-  lobe = lobeOf (p .mean) (p .dispersion);
-  second = lobeOf (p .«repeat_ratio» ⊗ p .mean) (p .dispersion);
-  «ln_tail» = lnTailOf (p .«error_params»);
-  logs = shelfLogsOf (p .shelf);
-}

@@ -20,9 +20,9 @@ use crate::usable::params_usable;
 use crate::window_masses::masses_of;
 use crate::window_masses::masses_usable;
 use helpers::answers::Number;
-use helpers::answers::Written;
 use helpers::shelves::ShelfPart;
 use helpers::shelves::shelf_log_table;
+use meaning::answers::Written;
 use routines::pick::is_finite;
 
 // The mode that the mean gives back may lie this far from the mode it was made of.

@@ -1,18 +1,19 @@
 // The log-likelihood of the window. Ported from src/preprocessing/models.rs of bacpop/sparrowhawk-asm, f1f8af1232, Apache-2.0; ported and changed.
 ghost use mathlib.Core.Path.{_≡_};
-ghost use Rattle.models.specs.Likelihoods.{steadyOf, pointOf, likelihoodOf};
+ghost use Rattle.models.specs.Likelihoods.{pointOf, likelihoodOf};
+ghost use Rattle.models.specs.Hoists.{steadyOf};
 ghost use Rattle.models.specs.Spectra.{seenTerm};
 ghost use Rattle.routines.specs.Ops.{ofCount, _⊗_};
 use crate::params::Params;
 use crate::spectra::recovered_at;
 use crate::window_masses::WindowMasses;
-use helpers::lobes::Lobe;
-use helpers::lobes::density;
-use helpers::lobes::lobe_of;
+use helpers::hoists::Lobe;
+use helpers::hoists::ShelfLogs;
+use helpers::hoists::density;
+use helpers::hoists::lobe_of;
+use helpers::hoists::mix_entry;
+use helpers::hoists::shelf_logs;
 use helpers::log_sums::lse3;
-use helpers::shelves::ShelfLogs;
-use helpers::shelves::mix_entry;
-use helpers::shelves::shelf_logs;
 
 // What does not change with the count.
 struct Steady {

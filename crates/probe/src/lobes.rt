@@ -1,11 +1,12 @@
 // The Poisson, and a lobe as a value.
 ghost use mathlib.Core.Path.{_≡_};
-ghost use Rattle.helpers.specs.Lobes.{lnDpoisOf, lobeOf, densityOf};
+ghost use Rattle.helpers.specs.Lobes.{lnDpoisOf};
+ghost use Rattle.helpers.specs.Hoists.{lobeOf, densityOf};
 ghost use Rattle.probe.specs.Flat.{ofLobe, toLobe};
-use helpers::lobes::Lobe;
-use helpers::lobes::density;
+use helpers::hoists::Lobe;
+use helpers::hoists::density;
+use helpers::hoists::lobe_of;
 use helpers::lobes::ln_dpois;
-use helpers::lobes::lobe_of;
 
 #[repr(C)]
 pub struct FlatLobe {

@@ -1,14 +1,14 @@
 // The parts of the single-copy mixture: the shelf's logs, and one entry mixed with them.
 ghost use mathlib.Core.Path.{_≡_};
 ghost use Rattle.exports.specs.Flat.{partOf};
-ghost use Rattle.helpers.specs.Shelves.{shelfLogsOf, mixEntryOf};
+ghost use Rattle.helpers.specs.Hoists.{shelfLogsOf, mixEntryOf};
 ghost use Rattle.probe.specs.Flat.{ofShelfLogs, toShelfLogs};
 use crate::tables::FlatPair;
 use exports::shelf::FlatShelf;
 use exports::shelf::part_of;
-use helpers::shelves::ShelfLogs;
-use helpers::shelves::mix_entry;
-use helpers::shelves::shelf_logs;
+use helpers::hoists::ShelfLogs;
+use helpers::hoists::mix_entry;
+use helpers::hoists::shelf_logs;
 
 // The log of the rest, then that of the share.
 #[no_mangle]

@@ -4,12 +4,13 @@ use crate::words::number;
 use crate::words::same;
 use crate::words::word;
 use helpers::answers::Number;
-use helpers::lobes::Lobe;
-use helpers::lobes::density;
+use helpers::hoists::Lobe;
+use helpers::hoists::density;
+use helpers::hoists::lobe_of;
+use helpers::hoists::shelf_logs;
 use helpers::lobes::discrete_nb_mode;
 use helpers::lobes::ln_dnbinom;
 use helpers::lobes::ln_dpois;
-use helpers::lobes::lobe_of;
 use helpers::log_sums::ln_softmax3;
 use helpers::log_sums::ln_sub_exp;
 use helpers::log_sums::lse2;
@@ -20,7 +21,6 @@ use helpers::masses::log_nb_mass_to;
 use helpers::shelves::ln_dbetabinom;
 use helpers::shelves::ln_single_copy;
 use helpers::shelves::mix_shelf;
-use helpers::shelves::shelf_logs;
 use helpers::shelves::shelf_trials;
 
 fn softmax_holds(row: &[u64]) -> bool {

@@ -5,15 +5,15 @@ use crate::layer2::answers;
 use crate::words::number;
 use crate::words::same;
 use crate::words::word;
-use helpers::answers::Written;
+use helpers::hoists::ShelfLogs;
+use helpers::hoists::mix_entry;
 use helpers::masses::single_copy_log_mass;
 use helpers::masses::single_copy_log_mass_to;
 use helpers::shelves::Shelf;
-use helpers::shelves::ShelfLogs;
 use helpers::shelves::ShelfPart;
-use helpers::shelves::mix_entry;
 use helpers::shelves::mix_single_copy;
 use helpers::shelves::shelf_log_table;
+use meaning::answers::Written;
 
 // The place behind i, or i where there is none.
 pub(crate) fn next(i: usize) -> usize {

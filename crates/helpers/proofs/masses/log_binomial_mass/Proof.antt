@@ -7,7 +7,7 @@ use lib.Ieee.{div, neg, ofBits}
 use Rattle.routines.specs.Constants.{one}
 use Rattle.helpers.specs.Lobes.{lnDnbinomOf, sizeOf, logQOf}
 use Rattle.helpers.specs.Masses.{binomialMassOf, binomialRatio}
-use Rattle.helpers.proofs.Recurrences.{Summed, begins, goes-on, ends}
+use Rattle.helpers.proofs.Recurrences.{Summed, sum-begins, sum-goes-on, sum-ends}
 use Rattle.helpers.proofs.masses.log_binomial_mass.Statement.{statement}
 use Rattle.helpers.proofs.masses.log_binomial_mass.Tie as tie
 
@@ -25,7 +25,7 @@ ln-dnbinom-requires : tie.Need-ln-dnbinom-requires Inv-loop μ-loop
 ln-dnbinom-requires c κs = search needs
 
 loop-holds : tie.Need-loop-holds Inv-loop μ-loop
-loop-holds c = (refl, c .before .ln .ensures, begins _ _ _ _ _ (unfold div neg ofBits in refl) (c .ln-dnbinom .ensures))
+loop-holds c = (refl, c .before .ln .ensures, sum-begins _ _ _ _ _ (unfold div neg ofBits in refl) (c .ln-dnbinom .ensures))
 
 lse2-requires : tie.Need-lse2-requires Inv-loop μ-loop
 lse2-requires c κs = search needs
@@ -56,11 +56,11 @@ loop-again c =
     let second = c .before .before in
     let summed = second .before .before in
     let inv = summed .before .before .loop .inv in
-    (inv .0, inv .1, goes-on _ _ _ (inv .2) _ _ (omega arith) (summed .lse2 .ensures) (rw (c .ln3 .ensures, second .ln2 .ensures, inv .0, inv .1)))
+    (inv .0, inv .1, sum-goes-on _ _ _ (inv .2) _ _ (omega arith) (summed .lse2 .ensures) (rw (c .ln3 .ensures, second .ln2 .ensures, inv .0, inv .1)))
 
 returns : tie.Need-returns Inv-loop μ-loop
 unfolding binomialMassOf
-returns c = ends _ _ _ (c .before .loop .inv .2) (omega arith)
+returns c = sum-ends _ _ _ (c .before .loop .inv .2) (omega arith)
 
 pub log-binomial-mass-spec : {M : Type 1} → statement M
 log-binomial-mass-spec =

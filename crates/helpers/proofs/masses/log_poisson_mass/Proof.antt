@@ -8,7 +8,7 @@ use Rattle.routines.specs.Constants.{one}
 use Rattle.routines.specs.Ln.{lnOf}
 use Rattle.helpers.specs.Lobes.{lnDpoisOf}
 use Rattle.helpers.specs.Masses.{poissonMassOf, poissonRatio}
-use Rattle.helpers.proofs.Recurrences.{Summed, begins, goes-on, ends}
+use Rattle.helpers.proofs.Recurrences.{Summed, sum-begins, sum-goes-on, sum-ends}
 use Rattle.helpers.proofs.masses.log_poisson_mass.Statement.{statement}
 use Rattle.helpers.proofs.masses.log_poisson_mass.Tie as tie
 
@@ -26,7 +26,7 @@ ln-dpois-requires c κs = search needs
 
 loop-holds : tie.Need-loop-holds Inv-loop μ-loop
 unfolding div neg ofBits
-loop-holds c = (c .before .ln .ensures, begins _ _ _ _ _ refl (c .ln-dpois .ensures))
+loop-holds c = (c .before .ln .ensures, sum-begins _ _ _ _ _ refl (c .ln-dpois .ensures))
 
 lse2-requires : tie.Need-lse2-requires Inv-loop μ-loop
 lse2-requires c κs = search needs
@@ -49,11 +49,11 @@ loop-less c = omega arith
 loop-again : tie.Need-loop-again Inv-loop μ-loop
 loop-again c =
     let inv = c .before .before .before .before .loop .inv in
-    (inv .0, goes-on _ _ _ (inv .1) _ _ (omega arith) (c .before .before .lse2 .ensures) (rw (c .ln2 .ensures, inv .0)))
+    (inv .0, sum-goes-on _ _ _ (inv .1) _ _ (omega arith) (c .before .before .lse2 .ensures) (rw (c .ln2 .ensures, inv .0)))
 
 returns : tie.Need-returns Inv-loop μ-loop
 unfolding poissonMassOf
-returns c = ends _ _ _ (c .before .loop .inv .1) (omega arith)
+returns c = sum-ends _ _ _ (c .before .loop .inv .1) (omega arith)
 
 pub log-poisson-mass-spec : {M : Type 1} → statement M
 log-poisson-mass-spec =

@@ -8,7 +8,7 @@ use borrow.Author.Needs.{needs}
 use Rattle.meaning.specs.Over.{over}
 use Rattle.meaning.specs.Reply.{Reply}
 use Rattle.histogram.specs.File.{bins as Bins, readFrom}
-use Rattle.histogram.specs.Lent.{laid, counted}
+use Rattle.meaning.specs.Lent.{laid, counted}
 use Rattle.histogram.specs.Read.{fitsIn, heldSays, keptOf}
 use Rattle.histogram.proofs.Rooms.{kept-fits, says-counted, kept-laid}
 use Rattle.histogram.proofs.reader.hand_over.Statement.{statement}

@@ -8,7 +8,7 @@ use Rattle.meaning.specs.Reply.{Reply}
 use Rattle.histogram.specs.declared.number.Number.{Number}
 use Rattle.histogram.specs.declared.number.Number.the-variants as Number
 use Rattle.histogram.specs.File.{mostBins, count, bins as Bins, readFrom, readOf}
-use Rattle.histogram.specs.Lent.{laid, counted}
+use Rattle.meaning.specs.Lent.{laid, counted}
 use Rattle.histogram.specs.Number.{between, numberAtOf, numberSays}
 use Rattle.histogram.specs.Read.{fitsIn, readHistogramOf}
 use Rattle.histogram.proofs.Bins.{form-read, form-broken, count-fits, count-read, count-broken}

@@ -7,7 +7,8 @@ use lib.Ieee.{neg, ofBits}
 use Rattle.routines.specs.Constants.{zero}
 use Rattle.models.proofs.Loops.{Folded, begins, goes-on, ends}
 use Rattle.models.specs.Spectra.{observedStep, overObserved}
-use Rattle.models.specs.Likelihoods.{steadyOf, pointTerm, likelihoodOf}
+use Rattle.models.specs.Likelihoods.{pointTerm, likelihoodOf}
+use Rattle.models.specs.Hoists.{steadyOf}
 use Rattle.models.proofs.likelihoods.likelihood.Statement.{statement}
 use Rattle.models.proofs.likelihoods.likelihood.Tie as tie
 

@@ -1,8 +1,8 @@
--- `helpers::lobes::lobe_of` meets its contract. Assumes nothing.
-use Rattle.helpers.specs.Lobes.{lobeOf}
+-- `helpers::hoists::lobe_of` meets its contract. Assumes nothing.
+use Rattle.helpers.specs.Hoists.{lobeOf}
 use borrow.Author.Needs.{needs}
-use Rattle.helpers.proofs.lobes.lobe_of.Statement.{statement}
-use Rattle.helpers.proofs.lobes.lobe_of.Tie as tie
+use Rattle.helpers.proofs.hoists.lobe_of.Statement.{statement}
+use Rattle.helpers.proofs.hoists.lobe_of.Tie as tie
 
 ln-requires : tie.Need-ln-requires
 ln-requires c κs = search needs

@@ -1,8 +1,8 @@
--- `helpers::shelves::shelf_logs` meets its contract. Assumes nothing.
+-- `helpers::hoists::shelf_logs` meets its contract. Assumes nothing.
 use lib.Ieee.{neg, div, ofBits}
 use borrow.Author.Needs.{needs}
-use Rattle.helpers.proofs.shelves.shelf_logs.Statement.{statement}
-use Rattle.helpers.proofs.shelves.shelf_logs.Tie as tie
+use Rattle.helpers.proofs.hoists.shelf_logs.Statement.{statement}
+use Rattle.helpers.proofs.hoists.shelf_logs.Tie as tie
 
 enum-told : tie.Need-enum-told
 enum-told c = search needs

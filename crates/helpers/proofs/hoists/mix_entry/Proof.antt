@@ -1,7 +1,7 @@
--- `helpers::shelves::mix_entry` meets its contract. Assumes nothing.
+-- `helpers::hoists::mix_entry` meets its contract. Assumes nothing.
 use borrow.Author.Needs.{needs}
-use Rattle.helpers.proofs.shelves.mix_entry.Statement.{statement}
-use Rattle.helpers.proofs.shelves.mix_entry.Tie as tie
+use Rattle.helpers.proofs.hoists.mix_entry.Statement.{statement}
+use Rattle.helpers.proofs.hoists.mix_entry.Tie as tie
 
 enum-told : tie.Need-enum-told
 enum-told c = search needs

@@ -1,8 +1,8 @@
--- `helpers::lobes::density` meets its contract. Assumes nothing.
-use Rattle.helpers.specs.Lobes.{densityOf}
+-- `helpers::hoists::density` meets its contract. Assumes nothing.
+use Rattle.helpers.specs.Hoists.{densityOf}
 use borrow.Author.Needs.{needs}
-use Rattle.helpers.proofs.lobes.density.Statement.{statement}
-use Rattle.helpers.proofs.lobes.density.Tie as tie
+use Rattle.helpers.proofs.hoists.density.Statement.{statement}
+use Rattle.helpers.proofs.hoists.density.Tie as tie
 
 lgamma-requires : tie.Need-lgamma-requires
 lgamma-requires c κs = search needs

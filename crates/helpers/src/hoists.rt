@@ -1,0 +1,92 @@
+// What does not change with the count, worked out once: for speed alone. proofs/Densities.antt shows each equal to the plain form.
+ghost use mathlib.Core.Path.{_≡_};
+ghost use Rattle.helpers.specs.Hoists.{lobeOf, densityOf, shelfLogsOf, mixEntryOf};
+use crate::lobes::NEARLY_POISSON;
+use crate::log_sums::lse2;
+use crate::shelves::ShelfPart;
+use crate::shelves::entry_at;
+use routines::lgamma::lgamma;
+use routines::ln::ln;
+
+// What a negative binomial's density has in common at every count: ln(mean); r, its log-gamma, r ln(p); ln(1-p).
+// As a Poisson it reads the mean and its log alone.
+pub struct Lobe {
+    pub poisson: bool,
+    pub mean: f64,
+    pub rate: f64,
+    pub size: f64,
+    pub gamma: f64,
+    pub start: f64,
+    pub slope: f64,
+}
+
+// The lobe with this mean and variance `dispersion` * mean: r = mean / (dispersion - 1), p = 1 / dispersion.
+pub fn lobe_of(mean: f64, dispersion: f64) -> Lobe
+    ensures { λ r. ⌜ r ≡ lobeOf mean dispersion ⌝ }
+{
+    if dispersion <= NEARLY_POISSON {
+        return Lobe {
+            poisson: true,
+            mean,
+            rate: ln(mean),
+            size: 0.0,
+            gamma: 0.0,
+            start: 0.0,
+            slope: 0.0,
+        };
+    }
+    let r = mean / (dispersion - 1.0);
+    Lobe {
+        poisson: false,
+        mean,
+        rate: 0.0,
+        size: r,
+        gamma: lgamma(r),
+        start: r * -ln(dispersion),
+        slope: ln(1.0 - 1.0 / dispersion),
+    }
+}
+
+// The log density of a lobe at x.
+pub fn density(lobe: Lobe, x: f64) -> f64
+    ensures { λ r. ⌜ r ≡ densityOf lobe x ⌝ }
+{
+    if lobe.poisson {
+        return x * lobe.rate - lgamma(x + 1.0) - lobe.mean;
+    }
+    lgamma(x + lobe.size) - lgamma(x + 1.0) - lobe.gamma + lobe.start + x * lobe.slope
+}
+
+// ln(1 - share) and ln(share), which do not change with the count; 0 and -inf where there is no shelf.
+pub struct ShelfLogs {
+    pub rest: f64,
+    pub share: f64,
+}
+
+pub fn shelf_logs(shelf: ShelfPart) -> ShelfLogs
+    ensures { λ r. ⌜ r ≡ shelfLogsOf shelf ⌝ }
+{
+    match shelf {
+        ShelfPart::Absent => ShelfLogs {
+            rest: 0.0,
+            share: -1.0 / 0.0,
+        },
+        ShelfPart::Present(s) => ShelfLogs {
+            rest: ln(1.0 - s.share),
+            share: ln(s.share),
+        },
+    }
+}
+
+// The single-copy log density from its lobe's, with the shelf's logs at hand and the shelf read from its table.
+pub fn mix_entry(lobe: f64, count: f64, shelf: ShelfPart, logs: ShelfLogs, table: &[f64]) -> f64
+    ensures { λ r. ⌜ r ≡ mixEntryOf lobe count shelf logs (now (table .entry)) ⌝ }
+{
+    match shelf {
+        ShelfPart::Absent => lobe,
+        ShelfPart::Present(_) => {
+            let entry = entry_at(count, table);
+            lse2(logs.rest + lobe, logs.share + entry)
+        }
+    }
+}
