@@ -23,7 +23,7 @@ use Rattle.routines.proofs.Values.{has-units}
 use Rattle.routines.proofs.Compared.{le-is}
 use Rattle.routines.proofs.Commutes.{add-commutes}
 use Rattle.accuracy.specs.Accuracy.{L, Is, ulp}
-use Rattle.accuracy.specs.Around.{Double}
+use Rattle.accuracy.specs.Faithful.{Double}
 use Rattle.accuracy.specs.Far.{MINUS40}
 use Rattle.accuracy.proofs.Floats.{Sg, add-is}
 use Rattle.accuracy.proofs.Units.{L-pos, pair-of}
@@ -31,7 +31,7 @@ use Rattle.accuracy.proofs.Last.{digits-of}
 use Rattle.accuracy.proofs.Beside.{size-mono, ulp-mono, ulp-L, one-is, holds}
 use Rattle.accuracy.proofs.Spacing.{Digits, Multiple, power-digits, multiple, gap-above}
 use Rattle.accuracy.proofs.Unchanged.{same-double}
-use Rattle.accuracy.proofs.Around.{under-top, top-power}
+use Rattle.accuracy.proofs.Faithful.{under-top, top-power}
 use Rattle.accuracy.proofs.Far.{Far, far-units}
 
 -- ---- S + W units, rounded, are S units, where W is less than half an ulp of S

@@ -21,12 +21,12 @@ far-number : (suc (2 ^ 80) * (2 * L) ≤ 2 ^ 1099 * 2 ^ 80) × (suc (2 ^ 80) * 2
 unfolding L
 far-number = (lit≤ tt, lit≤ tt)
 
-octave-pos : 0 < octave
+pub octave-pos : 0 < octave
 unfolding octave
 octave-pos = lit< tt
 
 -- e ^ x is at most half a unit
-tiny : (X : ℕ) → 1099 * octave ≤ X → ExpAtMost true X L 1 (2 * L)
+pub tiny : (X : ℕ) → 1099 * octave ≤ X → ExpAtMost true X L 1 (2 * L)
 tiny X h = reshape true X L (1 * suc (2 ^ 80)) (2 ^ 1099 * 2 ^ 80) 1 (2 * L) 1 (suc (2 ^ 80)) (lit< tt)
     (le-trans (far-number .0) (le-of-eq (sym (one-mul (2 ^ 1099 * 2 ^ 80))))) (le-of-eq (turn (suc (2 ^ 80))))
     (far-out X h)

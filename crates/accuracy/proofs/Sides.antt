@@ -1,8 +1,8 @@
--- On which side of e ^ x a number of units lies that is an ulp away from exp's value, or an ulp below 2 ^ 1024 where that
--- value is +inf: a whole ulp is more than the claim allows. Assumes nothing.
+-- On which side of e ^ x a number of units lies that is an ulp away from exp's value: a whole ulp is more than the claim
+-- allows. Assumes nothing.
 use mathlib.Core.Path.{_≡_}
 use mathlib.Core.Bool.{Bool, not}
-use Prim.Native.Nat.{ℕ, suc, _+_, _-_, _*_, _^_, _≤_, _<_}
+use Prim.Native.Nat.{ℕ, _+_, _-_, _*_, _^_, _≤_, _<_}
 use native.Mathlib.Nat.{le-trans, le-of-eq, le-of-lt, lt-of-le-of-lt, lt-of-lt-of-le, not-le-of-lt}
 use native.Mathlib.Nat.{mul-comm, mul-pos, mul-le-mul-right, mul-lt-mul-of-pos-right}
 use native.Mathlib.Omega.{arith}
@@ -10,7 +10,7 @@ use lib.Dec.{lit≤, lit<}
 use lib.Pow.{pow-pos}
 use lib.Ieee.{size}
 use Rattle.accuracy.specs.Accuracy.{L, ulp, hundredths, ExpAtMost, ExpAtLeast, InUlps}
-use Rattle.accuracy.specs.Around.{Over, Under}
+use Rattle.accuracy.specs.Faithful.{Over, Under}
 use Rattle.accuracy.proofs.Units.{L-pos}
 use Rattle.accuracy.proofs.Bounds.{reshape}
 use Rattle.accuracy.proofs.Claims.{by-size}
@@ -75,16 +75,3 @@ ulp-below s X W Y k h =
 
     times : (L a Y : ℕ) → 0 < L → 100 * Y < a → Y * (100 * L) < a * L
     times L a Y p h = lt-of-le-of-lt (le-of-eq (turn L Y)) (mul-lt-mul-of-pos-right h p)
-
--- ---- +inf: 2 ^ 1024, which is 2 ^ 52 of its ulp u
-pub huge-below : (s : Bool) (X Y u : ℕ) → ExpAtLeast s X L (2 ^ 1024 * 2 ^ 52) (suc (2 ^ 52)) → 0 < u
-    → 2 ^ 1024 * L ≡ 2 ^ 52 * u → Y + u ≤ 2 ^ 1024 * L → Under s X Y
-huge-below s X Y u low p e h =
-    under-of s X (2 ^ 1024 * 2 ^ 52) (suc (2 ^ 52)) Y (lit< tt)
-    (lt-of-lt-of-le (less (2 ^ 1024 * L) u Y p e h) (le-of-eq (turn (2 ^ 1024) (2 ^ 52) L))) low
-  where
-    less : (t u Y : ℕ) → 0 < u → t ≡ 2 ^ 52 * u → Y + u ≤ t → Y * suc (2 ^ 52) < 2 ^ 52 * t
-    less t u Y p e h = omega arith
-
-    turn : (t k l : ℕ) → k * (t * l) ≡ t * k * l
-    turn t k l = omega arith

@@ -125,50 +125,29 @@ doubled k h = ap (λ (z : ℕ). 2 ^ z) (again k h) ∙ pow-add 2 1 (k - 1)
     again : (k : ℕ) → 52 < k → k ≡ 1 + (k - 1)
     again k h = omega arith
 
--- and its `ulp` is twice that of its half
-ulp-doubled : (k : ℕ) → 52 < k → ulp (2 ^ k) ≡ 2 * ulp (2 ^ (k - 1))
-ulp-doubled k h =
-    let t = 2 ^ (k - 1) in
-    flat (ulp (2 ^ k)) (ulp t) t (2 ^ k) (ulp-power (k - 1) (pred k h)) (ulp-power k (le-of-lt h)) (doubled k h)
+-- and 2 ^ 53 of its half's `ulp`
+pub ulp-half : (k : ℕ) → 52 < k → 2 ^ k ≡ 2 ^ 53 * ulp (2 ^ (k - 1))
+ulp-half k h = flat (2 ^ k) (2 ^ (k - 1)) (ulp (2 ^ (k - 1))) (doubled k h) (ulp-power (k - 1) (pred k h))
   where
     pred : (k : ℕ) → 52 < k → 52 ≤ k - 1
     pred k h = omega arith
 
-    flat : (w u t W : ℕ) → t ≡ 2 ^ 52 * u → W ≡ 2 ^ 52 * w → W ≡ 2 * t → w ≡ 2 * u
-    flat w u t W f g q = omega arith
+    flat : (W t u : ℕ) → W ≡ 2 * t → t ≡ 2 ^ 52 * u → W ≡ 2 ^ 53 * u
+    flat W t u e f = omega arith
 
--- ---- a double Y below a smaller one, U: an `ulp` of W smaller in any case
-second-power : (Y U k : ℕ) → Digits Y → Digits U → 52 < k → Y < U → U < 2 ^ k → Y + ulp (2 ^ k) ≤ 2 ^ k
-second-power Y U k c b big h l =
-    subst (λ (z : ℕ). Y + z ≤ 2 ^ k) (sym (ulp-doubled k big)) (go (leb t Y) (leb→le t Y) (nleb→lt t Y))
+-- ---- a double below a power of two: lower by at least an `ulp` of that one's half
+pub gap-power : (Y k : ℕ) → Digits Y → 52 < k → Y < 2 ^ k → Y + ulp (2 ^ (k - 1)) ≤ 2 ^ k
+gap-power Y k c big h = go (leb t Y) (leb→le t Y) (nleb→lt t Y)
   where
     t : ℕ
     t = 2 ^ (k - 1)
 
-    full : 2 ^ k ≡ 2 ^ 52 * (2 * ulp t)
-    full = ulp-power k (le-of-lt big) ∙ ap (λ (z : ℕ). 2 ^ 52 * z) (ulp-doubled k big)
-
-    below : (Y t u W : ℕ) → W ≡ 2 ^ 52 * (2 * u) → W ≡ 2 * t → Y < t → Y + 2 * u ≤ W
+    below : (Y t u W : ℕ) → W ≡ 2 ^ 53 * u → W ≡ 2 * t → Y < t → Y + u ≤ W
     below Y t u W e f h = omega arith
 
-    steps : (Y U W v z u : ℕ) → Y + v ≤ U → U + z ≤ W → u ≤ v → u ≤ z → Y + 2 * u ≤ W
-    steps Y U W v z u g h k l = omega arith
+    step : (Y v u W : ℕ) → Y + v ≤ W → u ≤ v → Y + u ≤ W
+    step Y v u W h k = omega arith
 
-    go : (y : Bool) → (T y → t ≤ Y) → (T (not y) → Y < t) → Y + 2 * ulp t ≤ 2 ^ k
-    go true x w =
-        steps Y U (2 ^ k) (ulp Y) (ulp U) (ulp t) (gap-above Y U c b h) (gap-above U (2 ^ k) b (power-digits k) l)
-        (ulp-mono t Y (x tt)) (ulp-mono t U (le-trans (x tt) (le-of-lt h)))
-    go false x w = below Y t (ulp t) (2 ^ k) full (doubled k big) (w tt)
-
-pub gap-second : (Y U W : ℕ) → Digits Y → Digits U → Digits W → Y < U → U < W → Y + ulp W ≤ W
-gap-second Y U W c b d h k = elim (gap-below U W b d k) [
-  | inl g ↦ less Y U (ulp W) W h g
-  | inr p ↦ power p
-]
-  where
-    less : (Y U u W : ℕ) → Y < U → U + u ≤ W → Y + u ≤ W
-    less Y U u W h g = omega arith
-
-    power : PowerOf W → Y + ulp W ≤ W
-    power (j, big, e) =
-        subst (λ (z : ℕ). Y + ulp z ≤ z) (sym e) (second-power Y U j c b big h (subst (λ (z : ℕ). U < z) e k))
+    go : (b : Bool) → (T b → t ≤ Y) → (T (not b) → Y < t) → Y + ulp t ≤ 2 ^ k
+    go true u w = step Y (ulp Y) (ulp t) (2 ^ k) (gap-above Y (2 ^ k) c (power-digits k) h) (ulp-mono t Y (u tt))
+    go false u w = below Y t (ulp t) (2 ^ k) (ulp-half k big) (doubled k big) (w tt)

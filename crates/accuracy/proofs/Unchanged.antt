@@ -17,7 +17,7 @@ use Rattle.routines.specs.Held.{atLeast, atMost}
 use Rattle.routines.specs.Constants.{zero as nought, one}
 use Rattle.routines.specs.Exp.{LEAST, MOST, tee, scaledUp, besideOne, outOfRange, expOf}
 use Rattle.accuracy.specs.Accuracy.{L, Is, ulp, ExpAtMost, ExpAtLeast, InUlps, Answers}
-use Rattle.accuracy.specs.Around.{Double}
+use Rattle.accuracy.specs.Faithful.{Double}
 use Rattle.accuracy.proofs.Units.{L-pos}
 use Rattle.accuracy.proofs.Last.{L-pow, digits-of}
 use Rattle.accuracy.proofs.Bounds.{below-one}
