@@ -31,7 +31,7 @@ written mean top room r h k =
     let b : top < room = ltb-true top room r in
     simp (le-ltb 65535 top k, ne-eqb top 0 (λ (e : top ≡ 0). omega arith), lt-leb room (lastOf (shelfTrialsOf mean) top) (omega arith))
 
-entries-few : (shelf : ShelfPart) (mean : Float) (top room : ℕ) → roomy shelf top room ≡ true → top ≤ 65535 → length (entriesOf shelf mean top) ≤ room
+pub entries-few : (shelf : ShelfPart) (mean : Float) (top room : ℕ) → roomy shelf top room ≡ true → top ≤ 65535 → length (entriesOf shelf mean top) ≤ room
 unfolding entriesOf
 entries-few Absent mean top room r k = omega arith
 entries-few (Present s) mean top room r k =

@@ -1,4 +1,4 @@
--- The cost is +inf for exactly what is turned away: one of four tests. It is never NaN, and the table's old entries have no part in it. Assumes nothing.
+-- The cost is +inf for exactly what is turned away: one of four tests. It is never NaN. Assumes nothing.
 use Prim.Native.Nat.{ℕ}
 use mathlib.Core.Path.{_≡_, refl, sym, ap, _∙_}
 use mathlib.Core.Bool.{Bool, true, false, _&&_, cond, true≢false}
@@ -99,8 +99,3 @@ module _ (bins : List ℕ) (scale : Float) (end peak : ℕ) (error : ErrorModel)
 
   pub cost-never-nan : isNan v ≡ false
   cost-never-nan = ap isNan (sym given) ∙ cost-not-nan bins (usedScaleOf scale) end p
-
--- what the table held before has no part in the answer
-pub cost-of-any-table : (bins : List ℕ) (scale : Float) (end peak : ℕ) (error : ErrorModel) (genome : GenomeModel) (list held other : List Float) → length held ≡ length other
-    → costOf bins scale end peak error genome list (length held) ≡ costOf bins scale end peak error genome list (length other)
-cost-of-any-table bins scale end peak error genome list held other e = ap (costOf bins scale end peak error genome list) e

@@ -7,8 +7,10 @@ pub mod Costed
 pub mod Passed
 pub mod Infinite
 pub mod Unpacked
+pub mod AnyTable
 pub mod Zeros
 pub mod Ranks
+pub mod Beyond
 pub mod Highest
 pub mod Corners
 pub mod Says
