@@ -9,23 +9,24 @@ use lib.Dec.{eqb}
 use lib.ListN.{length}
 use lib.Ieee.{Float}
 use Rattle.meaning.specs.Over.{over}
-use Rattle.meaning.specs.Reply.{Reply, refuse, broken, give, Test, test, chain, firstOf, onGive}
+use Rattle.meaning.specs.Reply.{Reply, refuse, broken, give, Test, test, chain, onGive}
+use Rattle.meaning.proofs.Chains.{gave-passed}
 use Rattle.meaning.proofs.Overs.{over-none}
-use Rattle.meaning.proofs.Replies.{answer-not-refused}
 use Rattle.routines.specs.Ops.{ofCount}
 use Rattle.models.specs.Claims.{Writes}
 use Rattle.models.specs.Costs.{started, costAt, tableAt, costOf, costTable}
 use Rattle.models.specs.Masses.{entriesOf}
 use Rattle.models.specs.Params.{paramsOf}
 use Rattle.models.specs.Recovery.{usedScaleOf}
-use Rattle.models.specs.Refusals.{fitTests}
+use Rattle.models.specs.Refusals.{spectrumTests, fitTests}
+use Rattle.models.specs.Spectra.{windowOf}
 use Rattle.models.specs.Unpacking.{fitAt, unpackOf, unpackTable}
 use Rattle.models.specs.declared.families.ErrorModel.{ErrorModel}
 use Rattle.models.specs.declared.families.GenomeModel.{GenomeModel}
 use Rattle.models.specs.declared.fit.SpectrumFit.{SpectrumFit}
 use Rattle.models.specs.declared.params.Params.{Params}
-use Rattle.models.proofs.Filled.{entries-few}
-use Rattle.models.proofs.Passed.{passed, passed-roomy}
+use Rattle.models.proofs.Filled.{entries-few, entries-fit}
+use Rattle.models.proofs.Passed.{passed}
 
 -- ---- a chain that does not refuse with a number has no use for the tests of that number
 abbrev without : ℕ → List Test → List Test
@@ -47,11 +48,6 @@ module _ {A : Type 0} (n : ℕ) (r : Reply A) where
       next true e = e
       next false e = e
 
-gave-first : {A : Type 0} (a b : A) (ts : List Test) → chain ts (give a) ≡ give b → 0 ≡ firstOf ts
-gave-first a b [] e = refl
-gave-first a b (test true n ∷ ts) e = absurd (answer-not-refused (sym e))
-gave-first a b (test false n ∷ ts) e = gave-first a b ts e
-
 module _ (bins : List ℕ) (scale : Float) (end peak : ℕ) (error : ErrorModel) (genome : GenomeModel)
     (list : List Float) where
   abbrev p : Params
@@ -61,11 +57,11 @@ module _ (bins : List ℕ) (scale : Float) (end peak : ℕ) (error : ErrorModel)
   entries = entriesOf (p .shelf) (p .mean) end
 
   abbrev tests : ℕ → List Test
-  tests room = fitTests bins (usedScaleOf scale) end peak error genome (length list) room
+  tests room = fitTests bins scale end peak error genome (length list) room
 
   -- the table's length is read by no other test
   same-tests : (room other : ℕ) → without 10 (tests room) ≡ without 10 (tests other)
-  unfolding fitTests
+  unfolding fitTests spectrumTests
   same-tests room other = refl
 
   any-table : {A : Type 0} (r : Reply A) (room other : ℕ) → (chain (tests room) r ≡ refuse 10 → ⊥)
@@ -78,9 +74,11 @@ module _ (bins : List ℕ) (scale : Float) (end peak : ℕ) (error : ErrorModel)
   -- there is room for the entries where an answer comes back
   entries-room : {A : Type 0} (a b : A) (room : ℕ) → chain (tests room) (give a) ≡ give b → length entries ≤ room
   entries-room a b room e =
-      let none = gave-first a b (tests room) e in
-      let all = passed bins (usedScaleOf scale) end peak error genome (length list) room none in
-      entries-few (p .shelf) (p .mean) end room (passed-roomy error (ofCount peak) list p all refl) (all .end-few)
+      let none = gave-passed a b (tests room) e in
+      let all = passed bins scale end peak error genome (length list) room none in
+      let held = entries-fit error genome (ofCount peak) list p refl end room (all .spectrum .end-some) (all .end-few)
+      (all .roomed) in
+      subst (λ (xs : List Float). length xs ≤ room) held (entries-few (p .shelf) (p .mean) end room)
 
   -- ---- cost
   abbrev costed : ℕ → Reply Float
@@ -128,7 +126,7 @@ module _ (bins : List ℕ) (scale : Float) (end peak : ℕ) (error : ErrorModel)
     unpacked room = unpackOf bins scale end peak error genome list cost iterations room
 
     abbrev fit : SpectrumFit
-    fit = fitAt bins (usedScaleOf scale) end error genome p cost iterations
+    fit = fitAt bins (windowOf bins scale end) error genome p entries cost iterations
 
     pub unpack-of-any-table : (room other : ℕ) → (unpacked room ≡ refuse 10 → ⊥) → (unpacked other ≡ refuse 10 → ⊥)
         → unpacked room ≡ unpacked other

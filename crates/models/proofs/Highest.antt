@@ -4,7 +4,7 @@
 use Prim.Native.Nat.{ℕ, suc, _+_, _*_, _≤_, _<_}
 use mathlib.Core.Path.{_≡_, refl, sym, ap, _∙_, subst}
 use mathlib.Core.Bool.{Bool, true, false, not, _&&_, _||_, Bool·beq, cond, or-true, true≢false, false≢true}
-use mathlib.Core.List.{[], _∷_}
+use mathlib.Core.List.{[], _∷_, _++_}
 use mathlib.Core.Logic.{_⊎_, inl, inr}
 use native.Mathlib.Nat.{le-trans, le-refl, lt-of-le-of-lt, le-suc, le-of-suc-le-suc, eq-or-lt-of-le, lt-of-lt-of-le, le-of-lt, le-of-eq}
 use native.Mathlib.Omega.{arith}
@@ -13,9 +13,12 @@ use lib.Dec.{T, ltb, eqb, lit≤}
 use lib.Ieee.{Float, nan, inf, fin, binary64, up, down, ofBits, div, lt, eq, ne, isNan, fits}
 use Rattle.meaning.specs.Reply.{Reply, refuse, give, chain, test}
 use Rattle.meaning.proofs.Folds.{fold-first, fold-keeps}
-use Rattle.meaning.proofs.Replies.{answer-not-refused, same-number, gave-none, gave-answer}
+use Rattle.meaning.specs.Rows.{windowTests}
+use Rattle.meaning.proofs.Chains.{parts, gave-passed}
+use Rattle.meaning.proofs.Replies.{answer-not-refused, same-number, gave-answer}
+use Rattle.meaning.proofs.Rows.{test-passed, window-passed}
 use Rattle.models.specs.Claims.{rank, logAt, ErrorMode}
-use Rattle.models.specs.Modes.{laterWins, withNan, stands, higherOf, highestOf, errorModeOf}
+use Rattle.models.specs.Modes.{laterWins, withNan, stands, higherOf, highestOf, scanned, errorModeOf}
 use Rattle.models.specs.declared.errors.ErrorParams.{ErrorParams}
 use Rattle.models.specs.declared.fit.SpectrumFit.{SpectrumFit}
 use Rattle.models.specs.declared.modes.Standing.{Standing}
@@ -172,12 +175,13 @@ module _ (fit : SpectrumFit) where
   unfolding errorModeOf
   error-mode-is c gave =
       let best = highestOf p top in
-      let tests = test (ltb 65535 top) 2 ∷ test (eqb top 0) 5 ∷ test (best .nan) 8 ∷ [] in
-      let none = gave-none (best .count) c tests gave in
-      let H1 = some top (none 1) in
+      let tests = windowTests top ++ scanned (best .nan) in
+      let rows = parts (windowTests top) (scanned (best .nan)) refl (gave-passed (best .count) c tests gave) in
+      let H1 = window-passed top (rows .0) .1 in
+      let clear = test-passed (best .nan) 8 (omega arith) (rows .1) in
       let known : (j : ℕ) → 1 ≤ j → j < top + 1 → isNan (logAt p j) ≡ false =
       λ (j : ℕ) (l : 1 ≤ j) (m : j < top + 1). not-true (isNan (logAt p j))
-      (λ (n : isNan (logAt p j) ≡ true). true≢false (sym (highest-flagged p top H1 .set j l m n) ∙ none 2)) in
+      (λ (n : isNan (logAt p j) ≡ true). true≢false (sym (highest-flagged p top H1 .set j l m n) ∙ clear)) in
       subst (ErrorMode p top) (gave-answer (best .count) c tests gave)
       (shown best (highest p (top + 1) known top H1 refl))
     where

@@ -92,7 +92,7 @@ module _ (bins : List ℕ) (scale : Float) (end peak : ℕ) (error : ErrorModel)
 
   given : costAt bins (usedScaleOf scale) end p ≡ v
   unfolding costOf
-  given = gave-answer (costAt bins (usedScaleOf scale) end p) v (fitTests bins (usedScaleOf scale) end peak error genome (length list) room) gave
+  given = gave-answer (costAt bins (usedScaleOf scale) end p) v (fitTests bins scale end peak error genome (length list) room) gave
 
   pub cost-infinite-iff : (v ≡ inf false) ↔ TurnedAway bins (usedScaleOf scale) end p
   cost-infinite-iff = (λ (e : v ≡ inf false). infinite-turned-away bins (usedScaleOf scale) end p (given ∙ e), λ (t : TurnedAway bins (usedScaleOf scale) end p). sym given ∙ turned-away-infinite bins (usedScaleOf scale) end p t)

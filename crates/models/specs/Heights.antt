@@ -1,10 +1,10 @@
 -- How high each component of a fit stands at a count, as models.rs has it, operation by operation. Definitions only. Assumes nothing.
 use Prim.Native.Nat.{ℕ}
 use mathlib.Core.List.{[], _∷_}
-use lib.Dec.{ltb}
 use lib.ListN.{getD}
 use lib.Ieee.{Float, nan}
-use Rattle.meaning.specs.Reply.{Reply, refuse, give, chain, test}
+use Rattle.meaning.specs.Reply.{Reply, refuse, give, chain}
+use Rattle.meaning.specs.Rows.{many}
 use Rattle.routines.specs.Exp.{expOf}
 use Rattle.routines.specs.Ops.{_⊖_, _⊗_, ofCount}
 use Rattle.helpers.specs.Lobes.{lnDnbinomOf}
@@ -33,4 +33,4 @@ heightsSays (At h) = give h
 heightsSays (Refused n) = refuse n
 
 unfoldable pub componentHeightsOf : SpectrumFit → ℕ → Reply Heights
-componentHeightsOf fit count = chain (test (ltb 65535 count) 2 ∷ []) (give (heightsAt fit (ofCount count)))
+componentHeightsOf fit count = chain (many (count ∷ [])) (give (heightsAt fit (ofCount count)))

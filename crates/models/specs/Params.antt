@@ -1,18 +1,18 @@
 -- From a parameter list to the model's parameters, as models.rs has it, operation by operation. Definitions only. Assumes nothing.
 use Prim.Native.Nat.{ℕ, _+_}
-use mathlib.Core.Bool.{Bool, not}
 use mathlib.Core.List.{List, [], _∷_}
-use lib.Dec.{ltb, eqb}
 use lib.ListN.{length, getD}
 use lib.Ieee.{Float, nan, binary64, ofBits, neg}
-use Rattle.meaning.specs.Reply.{Reply, refuse, give, chain, test}
+use Rattle.meaning.specs.Reply.{Reply, refuse, give, chain}
+use Rattle.meaning.specs.Rows.{inOrder, few, many}
 use Rattle.routines.specs.Exp.{expOf, zero, half, one}
 use Rattle.routines.specs.Ops.{_⊕_, _⊖_, _⊗_, _⊘_, ofCount}
 use Rattle.helpers.specs.LogSums.{sigmoidOf, softmax3Of}
 use Rattle.helpers.specs.declared.shelves.Shelf.{Shelf}
 use Rattle.helpers.specs.declared.shelves.ShelfPart.{ShelfPart}
 use Rattle.helpers.specs.declared.shelves.ShelfPart.the-variants as shelf
-use Rattle.models.specs.Families.{parameterCountOf, listLengthOf}
+use Rattle.models.specs.Families.{parameterCountOf}
+use Rattle.models.specs.Refusals.{wrongList}
 use Rattle.models.specs.ShelfRules.{minRetained, boundsOf, shelfOf}
 use Rattle.models.specs.declared.families.ErrorModel.{ErrorModel}
 use Rattle.models.specs.declared.families.ErrorModel.the-variants.{FreeSingletonWeibull, SingletonPareto}
@@ -88,4 +88,4 @@ paramsSays (Refused n) = refuse n
 
 unfoldable pub paramsAnswerOf : ErrorModel → GenomeModel → ℕ → List Float → Reply Params
 paramsAnswerOf error genome peak list =
-    chain (test (ltb peak 2) 1 ∷ test (ltb 65535 peak) 2 ∷ test (not (eqb (length list) (listLengthOf error genome))) 7 ∷ []) (give (paramsOf error genome (ofCount peak) list))
+    chain (inOrder (few (peak ∷ []) ∷ many (peak ∷ []) ∷ wrongList (length list) error genome ∷ [])) (give (paramsOf error genome (ofCount peak) list))
