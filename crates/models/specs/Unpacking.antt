@@ -29,7 +29,8 @@ use Rattle.models.specs.declared.window_masses.WindowMasses.{WindowMasse
 abbrev pub logTotal : Float → Float → Float → Float
 logTotal weight library mass = weight ⊕ library ⊖ mass
 
-unfoldable pub fitWith : List ℕ → Float → ℕ → ErrorModel → GenomeModel → Params → WindowMasses → Float → ℕ → Float → SpectrumFit
+unfoldable pub fitWith : List ℕ → Float → ℕ → ErrorModel → GenomeModel → Params → WindowMasses → Float → ℕ → Float
+    → SpectrumFit
 fitWith bins scale end error genome p m cost iterations deviance =
     let observed = observedTotalOf bins scale end in
     let library = observed ⊗ scale in
@@ -62,40 +63,15 @@ fitWith bins scale end error genome p m cost iterations deviance =
       «full_distinct_total» = fullTotalOf bins;
     }
 
-unfoldable pub withDeviance : SpectrumFit → Float → SpectrumFit
-withDeviance fit deviance =
-    record {
-      «error_model» = fit .«error_model»;
-      «genome_model» = fit .«genome_model»;
-      «w_error» = fit .«w_error»;
-      «w_single» = fit .«w_single»;
-      «w_repeat» = fit .«w_repeat»;
-      mean = fit .mean;
-      dispersion = fit .dispersion;
-      «target_mode» = fit .«target_mode»;
-      «error_params» = fit .«error_params»;
-      shelf = fit .shelf;
-      «repeat_ratio» = fit .«repeat_ratio»;
-      «genome_kmers» = fit .«genome_kmers»;
-      «error_kmers» = fit .«error_kmers»;
-      «repeat_kmers» = fit .«repeat_kmers»;
-      «log_likelihood» = fit .«log_likelihood»;
-      bic = fit .bic;
-      deviance = deviance;
-      «fit_window_end» = fit .«fit_window_end»;
-      «best_iterations» = fit .«best_iterations»;
-      «component_log_window_masses» = fit .«component_log_window_masses»;
-      «component_log_totals» = fit .«component_log_totals»;
-      «observed_total» = fit .«observed_total»;
-      «full_distinct_total» = fit .«full_distinct_total»;
-    }
+-- the deviance reads the rest, with 0 in its own place
+unfoldable pub fitOf : List ℕ → Float → ℕ → ErrorModel → GenomeModel → Params → WindowMasses → Float → ℕ → SpectrumFit
+fitOf bins scale end error genome p m cost iterations =
+    let fit = fitWith bins scale end error genome p m cost iterations in
+    fit (devianceOf bins scale end (fit zero))
 
--- the deviance is taken at the fit with 0 in its place
 unfoldable pub fitAt : List ℕ → Float → ℕ → ErrorModel → GenomeModel → Params → Float → ℕ → SpectrumFit
 fitAt bins scale end error genome p cost iterations =
-    let m = windowMassesOf p (entriesOf (p .shelf) (p .mean) end) end in
-    let before = fitWith bins scale end error genome p m cost iterations zero in
-    withDeviance before (devianceOf bins scale end before)
+    fitOf bins scale end error genome p (windowMassesOf p (entriesOf (p .shelf) (p .mean) end) end) cost iterations
 
 -- the fit beside a number
 unfoldable pub emptyFit : SpectrumFit

@@ -7,8 +7,7 @@ ghost use lib.ListN.{length};
 ghost use Rattle.meaning.specs.Over.{over};
 ghost use Rattle.models.specs.Costs.{roomy};
 ghost use Rattle.models.specs.Masses.{entriesOf};
-ghost use Rattle.models.specs.Unpacking.{logTotal, fitWith, withDeviance, fitAt, emptyFit, fitAnswerOf, unpackOf, unpackTable};
-ghost use Rattle.routines.specs.Exp.{zero};
+ghost use Rattle.models.specs.Unpacking.{logTotal, fitOf, fitAt, emptyFit, fitAnswerOf, unpackOf, unpackTable};
 use crate::costs::fill_table;
 use crate::deviances::conditional_deviance;
 use crate::errors::ErrorParams;
@@ -42,8 +41,8 @@ fn log_total(ln_weight: f64, ln_library: f64, mass: f64) -> f64
     ln_weight + ln_library - mass
 }
 
-// All but the deviance, which reads the rest.
-fn fit_before_deviance(
+// The deviance reads the rest, so it is put in last.
+fn fit_of(
     bins: &[u32],
     scale: f64,
     top: u16,
@@ -54,7 +53,7 @@ fn fit_before_deviance(
     cost: f64,
     iterations: u64,
 ) -> SpectrumFit
-    ensures { λ r. ⌜ r ≡ fitWith (now (bins .entry)) scale top error genome p m cost iterations zero ⌝ }
+    ensures { λ r. ⌜ r ≡ fitOf (now (bins .entry)) scale top error genome p m cost iterations ⌝ }
 {
     let shelf = p.shelf;
     let error_params = p.error_params;
@@ -64,7 +63,7 @@ fn fit_before_deviance(
     let total_error = log_total(p.ln_error, ln_library, m.error);
     let total_single = log_total(p.ln_single, ln_library, m.single);
     let total_repeat = log_total(p.ln_repeat, ln_library, m.repeat);
-    SpectrumFit {
+    let mut fit = SpectrumFit {
         error_model: error,
         genome_model: genome,
         w_error: exp(p.ln_error),
@@ -88,13 +87,8 @@ fn fit_before_deviance(
         component_log_totals: [total_error, total_single, total_repeat],
         observed_total: library,
         full_distinct_total: full_total(bins),
-    }
-}
-
-fn with_deviance(before: SpectrumFit, deviance: f64) -> SpectrumFit
-    ensures { λ r. ⌜ r ≡ withDeviance before deviance ⌝ }
-{
-    let mut fit = before;
+    };
+    let deviance = conditional_deviance(bins, scale, top, fit);
     fit.deviance = deviance;
     fit
 }
@@ -119,8 +113,7 @@ fn fit_at(
     let shelf = p.shelf;
     let items = fill_table(p.mean, shelf, top, table);
     let m = masses_of(p, &table[0..items], top);
-    let before = fit_before_deviance(bins, scale, top, error, genome, p, m, cost, iterations);
-    with_deviance(before, conditional_deviance(bins, scale, top, before))
+    fit_of(bins, scale, top, error, genome, p, m, cost, iterations)
 }
 
 // The fit beside a number.

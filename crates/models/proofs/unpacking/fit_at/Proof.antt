@@ -25,24 +25,22 @@ part-masses-of-end c =
 masses-of-requires : tie.Need-masses-of-requires
 masses-of-requires c κs = search needs
 
-fit-before-deviance-requires : tie.Need-fit-before-deviance-requires
-fit-before-deviance-requires c κs = search needs
-
-conditional-deviance-requires : tie.Need-conditional-deviance-requires
-conditional-deviance-requires c κs = search needs
-
-with-deviance-requires : tie.Need-with-deviance-requires
-with-deviance-requires c κs = search needs
+fit-of-requires : tie.Need-fit-of-requires
+fit-of-requires c κs = search needs
 
 same-length : tie.Need-same-length
 same-length c = search needs
 
 returns : tie.Need-returns
 returns c =
-    let fill = c .before .before .before .before .before .before .before .before .fill-table in
-    let start = c .before .before .before .before .before .before .before .before .before .before .before .before in (
-      fit-is (start .args .bins .now) (start .args .scale) (start .args .top) (start .args .error) (start .args .genome) (start .args .p) (start .args .cost) (start .args .iterations) _ _ _ _ _
-          (front-is (start .args .p .shelf) (start .args .p .mean) (start .args .top) (start .args .table .now) _ _ (fill .ensures .0) (fill .ensures .1)) (c .before .before .before .masses-of .ensures) (c .before .before .fit-before-deviance .ensures) (c .before .conditional-deviance .ensures) (c .with-deviance .ensures),
+    let masses = c .before in
+    let filled = masses .before .before .before .before .before in
+    let fill = filled .fill-table in
+    let args = filled .before .before .before .before .args in (
+      fit-is (args .bins .now) (args .scale) (args .top) (args .error) (args .genome) (args .p) (args .cost) (args .iterations)
+          _ _ _
+          (front-is (args .p .shelf) (args .p .mean) (args .top) (args .table .now) _ _ (fill .ensures .0) (fill .ensures .1))
+          (masses .masses-of .ensures) (c .fit-of .ensures),
       fill .ensures .1,
     )
 
@@ -55,8 +53,6 @@ fit-at-spec =
     part-masses-of-start
     part-masses-of-end
     masses-of-requires
-    fit-before-deviance-requires
-    conditional-deviance-requires
-    with-deviance-requires
+    fit-of-requires
     same-length
     returns)
