@@ -1,6 +1,7 @@
 -- Laws of this layer.
 pub mod Lengths
 pub mod Loops
+pub mod Both
 pub mod Points
 pub mod Filled
 pub mod Costed

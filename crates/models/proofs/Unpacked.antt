@@ -1,21 +1,17 @@
 -- The steps of unpacking, put together. Assumes nothing.
 use Prim.Native.Nat.{ℕ, _<_}
 use mathlib.Core.Path.{_≡_, refl, sym, ap, _∙_}
-use mathlib.Core.List.{List, [], _∷_}
+use mathlib.Core.List.{List}
 use lib.ListN.{length}
-use lib.Ieee.{Float, neg}
+use lib.Ieee.{Float}
 use Rattle.meaning.specs.Over.{over}
 use Rattle.meaning.specs.Reply.{refuse, give, firstOf}
-use Rattle.routines.specs.Exp.{expOf, zero}
-use Rattle.routines.specs.Ln.{lnOf}
-use Rattle.routines.specs.Ops.{_⊕_, _⊗_, ofCount}
-use Rattle.models.specs.Deviances.{two, devianceOf}
-use Rattle.models.specs.Families.{listLengthOf}
+use Rattle.routines.specs.Ops.{ofCount}
 use Rattle.models.specs.Masses.{windowMassesOf}
 use Rattle.models.specs.Params.{paramsOf}
 use Rattle.models.specs.Refusals.{fitTests}
 use Rattle.models.specs.Spectra.{windowOf}
-use Rattle.models.specs.Unpacking.{logTotal, fitWith, withDeviance, fitAt, emptyFit, fitAnswerOf, unpackOf, unpackTable, unpackEntries, unpackAt}
+use Rattle.models.specs.Unpacking.{fitOf, fitAt, emptyFit, fitAnswerOf, unpackOf, unpackTable, unpackEntries, unpackAt}
 use Rattle.models.specs.declared.families.ErrorModel.{ErrorModel}
 use Rattle.models.specs.declared.families.GenomeModel.{GenomeModel}
 use Rattle.models.specs.declared.fit.SpectrumFit.{SpectrumFit}
@@ -25,48 +21,11 @@ use Rattle.models.specs.declared.unpacking.FitAnswer.{FitAnswer}
 use Rattle.models.specs.declared.window_masses.WindowMasses.{WindowMasses}
 use Rattle.models.proofs.Passed.{tests-refused, tests-passed, entries-all}
 
-pub fit-is : (bins : List ℕ) (window : Window) (error : ErrorModel) (genome : GenomeModel) (p : Params) (cost : Float) (iterations : ℕ) (table entries : List Float) (m : WindowMasses) (before : SpectrumFit) (d : Float)
-    (fit : SpectrumFit) → table ≡ entries → m ≡ windowMassesOf p table (window .end) → before ≡ fitWith window error genome p m cost iterations zero
-    → d ≡ devianceOf bins (window .scale) (window .end) before → fit ≡ withDeviance before d → fit ≡ fitAt bins window error genome p entries cost iterations
+pub fit-is : (bins : List ℕ) (window : Window) (error : ErrorModel) (genome : GenomeModel) (p : Params) (cost : Float) (iterations : ℕ) (table entries : List Float) (m : WindowMasses)
+    (fit : SpectrumFit) → table ≡ entries → m ≡ windowMassesOf p table (window .end) → fit ≡ fitOf bins window error genome p m cost iterations
+    → fit ≡ fitAt bins window error genome p entries cost iterations
 unfolding fitAt
-fit-is bins window error genome p cost iterations table entries m before d fit t e b h f = f ∙ rw (h, b, e, t)
-
--- what each call answered, put into the fit's fields
-pub fit-made : (window : Window) (error : ErrorModel) (genome : GenomeModel) (p : Params) (m : WindowMasses) (cost : Float) (iterations : ℕ)
-    (library totalError totalSingle totalRepeat wError wSingle wRepeat single errors repeats logObserved : Float) (listed : ℕ) → logObserved ≡ lnOf (window .observed)
-    → listed ≡ listLengthOf error genome → repeats ≡ expOf totalRepeat → errors ≡ expOf totalError → single ≡ expOf totalSingle → wRepeat ≡ expOf (p .«ln_repeat») → wSingle ≡ expOf (p .«ln_single»)
-    → wError ≡ expOf (p .«ln_error») → totalRepeat ≡ logTotal (p .«ln_repeat») library (m .repeat) → totalSingle ≡ logTotal (p .«ln_single») library (m .single) → totalError ≡ logTotal (p .«ln_error») library (m .error)
-    → library ≡ lnOf (window .observed ⊗ window .scale)
-    → _≡_ {A = SpectrumFit}
-    record {
-      «error_model» = error;
-      «genome_model» = genome;
-      «w_error» = wError;
-      «w_single» = wSingle;
-      «w_repeat» = wRepeat;
-      mean = p .mean;
-      dispersion = p .dispersion;
-      «target_mode» = p .«target_mode»;
-      «error_params» = p .«error_params»;
-      shelf = p .shelf;
-      «repeat_ratio» = p .«repeat_ratio»;
-      «genome_kmers» = single;
-      «error_kmers» = errors;
-      «repeat_kmers» = repeats;
-      «log_likelihood» = neg cost;
-      bic = two ⊗ cost ⊕ ofCount listed ⊗ logObserved;
-      deviance = zero;
-      «fit_window_end» = window .end;
-      «best_iterations» = iterations;
-      «component_log_window_masses» = m .error ∷ m .single ∷ m .repeat ∷ [];
-      «component_log_totals» = totalError ∷ totalSingle ∷ totalRepeat ∷ [];
-      «observed_total» = window .observed ⊗ window .scale;
-      «full_distinct_total» = window .full;
-    }
-    (fitWith window error genome p m cost iterations zero)
-unfolding fitWith
-fit-made window error genome p m cost iterations library totalError totalSingle totalRepeat wError wSingle wRepeat single errors repeats logObserved listed b c d e f g h i j k l n =
-    rw (b, c) (rw (d, e, f) (rw (g, h, i) (rw (j, k, l) (rw n))))
+fit-is bins window error genome p cost iterations table entries m fit t e f = f ∙ rw (e, t)
 
 -- ---- what unpack answers
 module _ (bins : List ℕ) (scale : Float) (end peak : ℕ) (error : ErrorModel) (genome : GenomeModel) (list : List Float) (cost : Float) (iterations : ℕ) (held : List Float) (n : ℕ)

@@ -32,9 +32,10 @@ shelfOf share retained concentration = record { share = share; alpha = retained 
 unfoldable pub shelfIsValidOf : Shelf → Bool
 shelfIsValidOf s =
     lt zero (s .share)
-    && (lt (s .share) half
-    && (finite (s .alpha)
-    && (le (one ⊖ slack) (s .alpha)
-    && (finite (s .beta)
-    && (lt zero (s .beta)
-    && (le (minRetained ⊖ slack) (retainedOf s) && le (concentrationOf s) (maxConcentration ⊕ slack)))))))
+    && lt (s .share) half
+    && finite (s .alpha)
+    && le (one ⊖ slack) (s .alpha)
+    && finite (s .beta)
+    && lt zero (s .beta)
+    && le (minRetained ⊖ slack) (retainedOf s)
+    && le (concentrationOf s) (maxConcentration ⊕ slack)

@@ -62,40 +62,14 @@ fitWith window error genome p m cost iterations deviance =
       «full_distinct_total» = window .full;
     }
 
-unfoldable pub withDeviance : SpectrumFit → Float → SpectrumFit
-withDeviance fit deviance =
-    record {
-      «error_model» = fit .«error_model»;
-      «genome_model» = fit .«genome_model»;
-      «w_error» = fit .«w_error»;
-      «w_single» = fit .«w_single»;
-      «w_repeat» = fit .«w_repeat»;
-      mean = fit .mean;
-      dispersion = fit .dispersion;
-      «target_mode» = fit .«target_mode»;
-      «error_params» = fit .«error_params»;
-      shelf = fit .shelf;
-      «repeat_ratio» = fit .«repeat_ratio»;
-      «genome_kmers» = fit .«genome_kmers»;
-      «error_kmers» = fit .«error_kmers»;
-      «repeat_kmers» = fit .«repeat_kmers»;
-      «log_likelihood» = fit .«log_likelihood»;
-      bic = fit .bic;
-      deviance = deviance;
-      «fit_window_end» = fit .«fit_window_end»;
-      «best_iterations» = fit .«best_iterations»;
-      «component_log_window_masses» = fit .«component_log_window_masses»;
-      «component_log_totals» = fit .«component_log_totals»;
-      «observed_total» = fit .«observed_total»;
-      «full_distinct_total» = fit .«full_distinct_total»;
-    }
+-- the deviance reads the rest, with 0 in its own place
+unfoldable pub fitOf : List ℕ → Window → ErrorModel → GenomeModel → Params → WindowMasses → Float → ℕ → SpectrumFit
+fitOf bins window error genome p m cost iterations =
+    let fit = fitWith window error genome p m cost iterations in
+    fit (devianceOf bins (window .scale) (window .end) (fit zero))
 
--- the deviance is taken at the fit with 0 in its place
 unfoldable pub fitAt : List ℕ → Window → ErrorModel → GenomeModel → Params → List Float → Float → ℕ → SpectrumFit
-fitAt bins window error genome p entries cost iterations =
-    let m = windowMassesOf p entries (window .end) in
-    let before = fitWith window error genome p m cost iterations zero in
-    withDeviance before (devianceOf bins (window .scale) (window .end) before)
+fitAt bins window error genome p entries cost iterations = fitOf bins window error genome p (windowMassesOf p entries (window .end)) cost iterations
 
 -- the fit beside a number
 unfoldable pub emptyFit : SpectrumFit

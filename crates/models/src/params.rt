@@ -24,9 +24,9 @@ pub const MU_LO: f64 = 0.75;
 pub const MU_SPAN: f64 = 0.58;
 
 // The repeat's mean is 1.5 to 2 times the single-copy mean.
-const RATIO_LOW: f64 = 1.5;
+pub const RATIO_LOW: f64 = 1.5;
 
-const RATIO_HIGH: f64 = 2.0;
+pub const RATIO_HIGH: f64 = 2.0;
 
 pub struct Params {
     pub ln_error: f64,

@@ -58,26 +58,12 @@ pub(crate) fn from_retained(share: f64, retained: f64, concentration: f64) -> Sh
 pub fn shelf_is_valid(s: Shelf) -> bool
     ensures { λ r. ⌜ r ≡ shelfIsValidOf s ⌝ }
 {
-    if s.share > 0.0 {} else {
-        return false;
-    }
-    if s.share < SHELF_MAX_SHARE {} else {
-        return false;
-    }
-    if is_finite(s.alpha) {} else {
-        return false;
-    }
-    if s.alpha >= 1.0 - SLACK {} else {
-        return false;
-    }
-    if is_finite(s.beta) {} else {
-        return false;
-    }
-    if s.beta > 0.0 {} else {
-        return false;
-    }
-    if retained(s) >= SHELF_MIN_RETAINED - SLACK {} else {
-        return false;
-    }
-    concentration(s) <= SHELF_MAX_CONCENTRATION + SLACK
+    s.share > 0.0
+        && s.share < SHELF_MAX_SHARE
+        && is_finite(s.alpha)
+        && s.alpha >= 1.0 - SLACK
+        && is_finite(s.beta)
+        && s.beta > 0.0
+        && retained(s) >= SHELF_MIN_RETAINED - SLACK
+        && concentration(s) <= SHELF_MAX_CONCENTRATION + SLACK
 }

@@ -4,8 +4,7 @@ ghost use mathlib.Core.Path.{_≡_};
 ghost use lib.ListN.{length};
 ghost use Rattle.meaning.specs.Over.{over};
 ghost use Rattle.models.specs.Tables.{entriesIn};
-ghost use Rattle.models.specs.Unpacking.{logTotal, fitWith, withDeviance, fitAt, emptyFit, fitAnswerOf, unpackOf, unpackTable, unpackEntries, unpackAt};
-ghost use Rattle.routines.specs.Exp.{zero};
+ghost use Rattle.models.specs.Unpacking.{logTotal, fitOf, fitAt, emptyFit, fitAnswerOf, unpackOf, unpackTable, unpackEntries, unpackAt};
 use crate::deviances::conditional_deviance;
 use crate::errors::ErrorParams;
 use crate::errors::ShapePart;
@@ -38,8 +37,9 @@ fn log_total(ln_weight: f64, ln_library: f64, mass: f64) -> f64
     ln_weight + ln_library - mass
 }
 
-// All but the deviance, which reads the rest.
-fn fit_before_deviance(
+// The deviance reads the rest, so it is put in last.
+fn fit_of(
+    bins: &[u32],
     window: Window,
     error: ErrorModel,
     genome: GenomeModel,
@@ -48,7 +48,7 @@ fn fit_before_deviance(
     cost: f64,
     iterations: u64,
 ) -> SpectrumFit
-    ensures { λ r. ⌜ r ≡ fitWith window error genome p m cost iterations zero ⌝ }
+    ensures { λ r. ⌜ r ≡ fitOf (now (bins .entry)) window error genome p m cost iterations ⌝ }
 {
     let shelf = p.shelf;
     let error_params = p.error_params;
@@ -57,7 +57,7 @@ fn fit_before_deviance(
     let total_error = log_total(p.ln_error, ln_library, m.error);
     let total_single = log_total(p.ln_single, ln_library, m.single);
     let total_repeat = log_total(p.ln_repeat, ln_library, m.repeat);
-    SpectrumFit {
+    let mut fit = SpectrumFit {
         error_model: error,
         genome_model: genome,
         w_error: exp(p.ln_error),
@@ -81,13 +81,8 @@ fn fit_before_deviance(
         component_log_totals: [total_error, total_single, total_repeat],
         observed_total: library,
         full_distinct_total: window.full,
-    }
-}
-
-fn with_deviance(before: SpectrumFit, deviance: f64) -> SpectrumFit
-    ensures { λ r. ⌜ r ≡ withDeviance before deviance ⌝ }
-{
-    let mut fit = before;
+    };
+    let deviance = conditional_deviance(bins, window.scale, window.end, fit);
     fit.deviance = deviance;
     fit
 }
@@ -109,8 +104,7 @@ fn fit_at(
     let shelf = p.shelf;
     let items = fill_table(p.mean, shelf, window.end, table);
     let m = masses_of(p, &table[0..items], window.end);
-    let before = fit_before_deviance(window, error, genome, p, m, cost, iterations);
-    with_deviance(before, conditional_deviance(bins, window.scale, window.end, before))
+    fit_of(bins, window, error, genome, p, m, cost, iterations)
 }
 
 // The fit beside a number.

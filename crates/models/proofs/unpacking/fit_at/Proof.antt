@@ -35,27 +35,21 @@ part-masses-of-end c =
 masses-of-requires : tie.Need-masses-of-requires
 masses-of-requires c κs = search needs
 
-fit-before-deviance-requires : tie.Need-fit-before-deviance-requires
-fit-before-deviance-requires c κs = search needs
-
-conditional-deviance-requires : tie.Need-conditional-deviance-requires
-conditional-deviance-requires c κs = search needs
-
-with-deviance-requires : tie.Need-with-deviance-requires
-with-deviance-requires c κs = search needs
+fit-of-requires : tie.Need-fit-of-requires
+fit-of-requires c κs = search needs
 
 same-length : tie.Need-same-length
 same-length c = search needs
 
 returns : tie.Need-returns
 returns c =
-    let measured = c .before .before .before in
+    let measured = c .before in
     let filled = measured .before .before .before .before .before in
     let fill = filled .fill-table in
     let a = start filled .args in (
-      fit-is (a .bins .now) (a .window) (a .error) (a .genome) (a .p) (a .cost) (a .iterations) _ (entries filled) _ _ _ _
+      fit-is (a .bins .now) (a .window) (a .error) (a .genome) (a .p) (a .cost) (a .iterations) _ (entries filled) _ _
           (front-is (entries filled) (a .table .now) _ _ (fill .ensures .0) (fill .ensures .1))
-          (measured .masses-of .ensures) (c .before .before .fit-before-deviance .ensures) (c .before .conditional-deviance .ensures) (c .with-deviance .ensures),
+          (measured .masses-of .ensures) (c .fit-of .ensures),
       fill .ensures .1,
     )
 
@@ -68,8 +62,6 @@ fit-at-spec =
     part-masses-of-start
     part-masses-of-end
     masses-of-requires
-    fit-before-deviance-requires
-    conditional-deviance-requires
-    with-deviance-requires
+    fit-of-requires
     same-length
     returns)

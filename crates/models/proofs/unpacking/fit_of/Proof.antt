@@ -1,9 +1,9 @@
--- `models::unpacking::fit_before_deviance` meets its contract. Assumes nothing.
+-- `models::unpacking::fit_of` meets its contract: what each call answered, put into the fit's fields. Assumes nothing.
+use Rattle.models.specs.Unpacking.{fitWith, fitOf}
 use Rattle.models.proofs.Lengths.{length-held}
-use Rattle.models.proofs.Unpacked.{fit-made}
 use borrow.Author.Needs.{needs}
-use Rattle.models.proofs.unpacking.fit_before_deviance.Statement.{statement}
-use Rattle.models.proofs.unpacking.fit_before_deviance.Tie as tie
+use Rattle.models.proofs.unpacking.fit_of.Statement.{statement}
+use Rattle.models.proofs.unpacking.fit_of.Tie as tie
 
 ln-requires : tie.Need-ln-requires
 ln-requires c κs = search needs
@@ -38,20 +38,28 @@ exp-requires-6 c κs = search needs
 list-length-requires : tie.Need-list-length-requires
 list-length-requires c κs = search needs
 
-int-to-float-t24 : tie.Need-int-to-float-t24
-int-to-float-t24 c =
-    let start = c .before .before .before .before .before .before .before .before .before .before .before .before .before .before in
+-- the place after the first total, from that after the length
+abbrev first-total : tie.After-list-length → tie.After-log-total
+first-total c = c .before .before .before .before .before .before .before .before .before
+
+int-to-float-t27 : tie.Need-int-to-float-t27
+int-to-float-t27 c =
+    let start = first-total (c .before) .before .before .before .before .before in
     length-held (start .args .error) (start .args .genome) _ (c .before .list-length .ensures)
 
 ln-requires-2 : tie.Need-ln-requires-2
 ln-requires-2 c κs = search needs
 
-cast-t28 : tie.Need-cast-t28
-cast-t28 c = search needs
+cast-t31 : tie.Need-cast-t31
+cast-t31 c = search needs
+
+conditional-deviance-requires : tie.Need-conditional-deviance-requires
+conditional-deviance-requires c κs = search needs
 
 returns : tie.Need-returns
+unfolding fitOf fitWith
 returns c =
-    let logged = c .before in
+    let logged = c .before .before in
     let counted = logged .before .before in
     let exp6 = counted .before in
     let exp5 = exp6 .before in
@@ -63,13 +71,15 @@ returns c =
     let total2 = total3 .before in
     let total1 = total2 .before in
     let library = total1 .before in
-    let a = library .before .before .before .args in
-    fit-made (a .window) (a .error) (a .genome) (a .p) (a .m) (a .cost) (a .iterations) _ _ _ _ _ _ _ _ _ _ _ _
-    (logged .ln2 .ensures) (counted .list-length .ensures) (exp6 .exp6 .ensures) (exp5 .exp5 .ensures) (exp4 .exp4 .ensures) (exp3 .exp3 .ensures) (exp2 .exp2 .ensures) (exp1 .exp .ensures)
-    (total3 .log-total3 .ensures) (total2 .log-total2 .ensures) (total1 .log-total .ensures) (library .ln .ensures)
+    rw (c .conditional-deviance .ensures)
+    (rw (logged .ln2 .ensures, counted .list-length .ensures)
+    (rw (exp6 .exp6 .ensures, exp5 .exp5 .ensures, exp4 .exp4 .ensures)
+    (rw (exp3 .exp3 .ensures, exp2 .exp2 .ensures, exp1 .exp .ensures)
+    (rw (total3 .log-total3 .ensures, total2 .log-total2 .ensures, total1 .log-total .ensures)
+    (rw (library .ln .ensures))))))
 
-pub fit-before-deviance-spec : {M : Type 1} → statement M
-fit-before-deviance-spec =
+pub fit-of-spec : {M : Type 1} → statement M
+fit-of-spec =
     tie.close
     (tie.spec
     ln-requires
@@ -83,7 +93,8 @@ fit-before-deviance-spec =
     exp-requires-5
     exp-requires-6
     list-length-requires
-    int-to-float-t24
+    int-to-float-t27
     ln-requires-2
-    cast-t28
+    cast-t31
+    conditional-deviance-requires
     returns)
