@@ -1,5 +1,5 @@
--- A chain that is put together from segments: the first segment that has a number decides, and one that has none is passed over. So each proof about a chain goes
--- from segment to segment and counts no places. Assumes nothing.
+-- A chain that is put together from segments: the first segment that has a number decides, and one that has none is
+-- passed over. So each proof about a chain goes from segment to segment and counts no places. Assumes nothing.
 use Prim.Native.Nat.{ℕ, zero, suc, _<_}
 use mathlib.Core.Path.{_≡_, refl, sym, ap, _∙_}
 use mathlib.Core.Bool.{Bool, true, false, true≢false}

@@ -1,4 +1,5 @@
--- What a row of document 01's table knows of a call's arguments: each thing is in its limits where the row has no number, and one of them is not where it has. Assumes nothing.
+-- What a row of document 01's table knows of a call's arguments: each thing is in its limits where the row has no
+-- number, and one of them is not where it has. Assumes nothing.
 use Prim.Native.Nat.{ℕ, _≤_, _<_}
 use mathlib.Core.Path.{_≡_, refl}
 use mathlib.Core.Bool.{Bool, true, false}

@@ -76,8 +76,7 @@ module _ (bins : List ℕ) (scale : Float) (end peak : ℕ) (error : ErrorModel)
   entries-room a b room e =
       let none = gave-passed a b (tests room) e in
       let all = passed bins scale end peak error genome (length list) room none in
-      let held = entries-fit error genome (ofCount peak) list p refl end room (all .spectrum .end-some) (all .end-few)
-      (all .roomed) in
+      let held = entries-fit genome end room (all .spectrum .end-some) (all .end-few) (all .roomed) error (ofCount peak) list in
       subst (λ (xs : List Float). length xs ≤ room) held (entries-few (p .shelf) (p .mean) end room)
 
   -- ---- cost

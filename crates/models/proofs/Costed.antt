@@ -28,7 +28,8 @@ pub at-most-zero : (t : Float) → finite t ≡ true → le t zero ≡ true → 
 unfolding likelihoodUsable
 at-most-zero t f l = rw (f, l)
 
-module _ (bins : List ℕ) (scale : Float) (end : ℕ) (p : Params) (table : List Float) (m : WindowMasses) (e : m ≡ windowMassesOf p table end) where
+module _ (bins : List ℕ) (scale : Float) (end : ℕ) (p : Params) (table : List Float) (m : WindowMasses)
+    (e : m ≡ windowMassesOf p table end) where
   pub masses-stop : massesUsable m ≡ false → inf false ≡ evaluatedOf bins scale end p table
   unfolding evaluatedOf
   masses-stop h = rw (sym (ap massesUsable e) ∙ h)
@@ -59,14 +60,17 @@ module _ (p : Params) where
   unfolding started
   starts h k = rw (h, k)
 
-  pub stopped-cost : (bins : List ℕ) (scale : Float) (end : ℕ) (entries : List Float) → started p ≡ false → inf false ≡ costWith bins scale end p entries
+  pub stopped-cost : (bins : List ℕ) (scale : Float) (end : ℕ) (entries : List Float) → started p ≡ false
+      → inf false ≡ costWith bins scale end p entries
   stopped-cost bins scale end entries h = rw h
 
   pub stopped-table : (entries held : List Float) → started p ≡ false → held ≡ tableWith p entries held
   stopped-table entries held h = rw h
 
-  pub started-cost : (bins : List ℕ) (scale : Float) (end : ℕ) (y : Float) (t entries : List Float) → started p ≡ true → y ≡ evaluatedOf bins scale end p t → t ≡ entries → y ≡ costWith bins scale end p entries
+  pub started-cost : (bins : List ℕ) (scale : Float) (end : ℕ) (y : Float) (t entries : List Float) → started p ≡ true
+      → y ≡ evaluatedOf bins scale end p t → t ≡ entries → y ≡ costWith bins scale end p entries
   started-cost bins scale end y t entries h e o = rw h (e ∙ ap (evaluatedOf bins scale end p) o)
 
-  pub started-table : (entries held t : List Float) → started p ≡ true → t ≡ over entries held → t ≡ tableWith p entries held
+  pub started-table : (entries held t : List Float) → started p ≡ true → t ≡ over entries held
+      → t ≡ tableWith p entries held
   started-table entries held t h e = rw h e

@@ -1,4 +1,5 @@
--- What is known once no test of `fitTests` holds, row by row, and what cost answers by the number that they give. Assumes nothing.
+-- What is known once no test of `fitTests` holds, row by row, and what cost answers by the number that they give.
+-- Assumes nothing.
 use Prim.Native.Nat.{ℕ, _≤_, _<_}
 use mathlib.Core.Path.{_≡_, refl, sym, ap, _∙_}
 use mathlib.Core.Bool.{false}
@@ -6,7 +7,7 @@ use mathlib.Core.List.{List, [], _∷_}
 use native.Mathlib.Omega.{arith}
 use lib.ListN.{length}
 use lib.Ieee.{Float}
-use Rattle.meaning.specs.Reply.{Reply, refuse, give, chain, firstOf}
+use Rattle.meaning.specs.Reply.{Reply, refuse, give, Test, chain, firstOf}
 use Rattle.meaning.specs.Rows.{most, inOrder, few, many, outside}
 use Rattle.meaning.proofs.Chains.{parts, chain-refused, chain-passed}
 use Rattle.meaning.proofs.Rows.{test-passed, many-passed, outside-passed, short-passed}
@@ -28,13 +29,17 @@ pub record InWindow (bins : List ℕ) (scale : Float) (end : ℕ) : Type 0 where
   pub end-some : 1 ≤ end
   pub recovered : noneRecoveredOf bins (usedScaleOf scale) end ≡ false
 
-pub spectrum-passed : (bins : List ℕ) (scale : Float) (end : ℕ) → 0 ≡ firstOf (spectrumTests bins scale end) → InWindow bins scale end
+pub spectrum-passed : (bins : List ℕ) (scale : Float) (end : ℕ) → 0 ≡ firstOf (spectrumTests bins scale end)
+    → InWindow bins scale end
 unfolding spectrumTests
 spectrum-passed bins scale end z =
     let last = noneRecovered bins scale end ∷ [] in
     let zeros = parts (allZero bins) (inOrder (outside end (length bins) ∷ last)) refl z in
     let window = parts (outside end (length bins)) (inOrder last) refl (zeros .1) in
-    record { end-some = outside-passed end (length bins) (window .0) .0; recovered = test-passed _ 6 (omega arith) (window .1) }
+    record {
+      end-some = outside-passed end (length bins) (window .0) .0;
+      recovered = test-passed _ 6 (omega arith) (window .1);
+    }
 
 pub record Passed (bins : List ℕ) (scale : Float) (end peak : ℕ) (genome : GenomeModel) (room : ℕ) : Type 0 where
   pub peak-few : peak ≤ most
@@ -55,43 +60,58 @@ passed bins scale end peak error genome listed room z =
     let spectra = parts (spectrumTests bins scale end) (inOrder list) (unfold spectrumTests in refl) (manys .1) in
     let lists = parts (wrongList listed error genome) (inOrder buffer) refl (spectra .1) in
     let (bins-most, (peak-most, (end-most, none))) = many-passed (length bins ∷ peak ∷ end ∷ []) (manys .0) in
-    record { peak-few = peak-most; end-few = end-most; spectrum = spectrum-passed bins scale end (spectra .0); roomed = short-passed room (tableDemand genome end) (lists .1) }
+    record {
+      peak-few = peak-most;
+      end-few = end-most;
+      spectrum = spectrum-passed bins scale end (spectra .0);
+      roomed = short-passed room (tableDemand genome end) (lists .1);
+    }
 
 -- ---- what cost answers
-module _ (bins : List ℕ) (scale : Float) (end peak : ℕ) (error : ErrorModel) (genome : GenomeModel) (list : List Float) (room n : ℕ)
-    (e : n ≡ firstOf (fitTests bins scale end peak error genome (length list) room)) where
-  pub tests-refused : {A : Type 0} (r : Reply A) → 0 < n → refuse n ≡ chain (fitTests bins scale end peak error genome (length list) room) r
-  tests-refused r h = sym (chain-refused r (fitTests bins scale end peak error genome (length list) room) n e h)
+module _ (bins : List ℕ) (scale : Float) (end peak : ℕ) (error : ErrorModel) (genome : GenomeModel) (list : List Float) where
+  abbrev tests : ℕ → List Test
+  tests room = fitTests bins scale end peak error genome (length list) room
 
-  pub tests-passed : {A : Type 0} (r : Reply A) → n ≡ 0 → r ≡ chain (fitTests bins scale end peak error genome (length list) room) r
-  unfolding fitTests spectrumTests
-  tests-passed r z = sym (chain-passed r (fitTests bins scale end peak error genome (length list) room) refl (sym z ∙ e))
+  abbrev p : Params
+  p = paramsOf error genome (ofCount peak) list
 
-  pub all-passed : n ≡ 0 → Passed bins scale end peak genome room
-  all-passed z = passed bins scale end peak error genome (length list) room (sym z ∙ e)
+  module _ (room n : ℕ) (e : n ≡ firstOf (tests room)) where
+    pub tests-refused : {A : Type 0} (r : Reply A) → 0 < n → refuse n ≡ chain (tests room) r
+    tests-refused r h = sym (chain-refused r (tests room) n e h)
 
-  -- the table holds all of the shelf's entries
-  pub entries-all : (p : Params) → n ≡ 0 → p ≡ paramsOf error genome (ofCount peak) list → entriesIn (p .shelf) (p .mean) end room ≡ entriesOf (p .shelf) (p .mean) end
-  entries-all p z q = let all = all-passed z in entries-fit error genome (ofCount peak) list p q end room (all .spectrum .end-some) (all .end-few) (all .roomed)
+    pub tests-passed : {A : Type 0} (r : Reply A) → n ≡ 0 → r ≡ chain (tests room) r
+    unfolding fitTests spectrumTests
+    tests-passed r z = sym (chain-passed r (tests room) refl (sym z ∙ e))
 
-  pub cost-refused : 0 < n → refuse n ≡ costOf bins scale end peak error genome list room
-  unfolding costOf
-  cost-refused h = tests-refused _ h
+    pub all-passed : n ≡ 0 → Passed bins scale end peak genome room
+    all-passed z = passed bins scale end peak error genome (length list) room (sym z ∙ e)
 
-  pub cost-given : (v used : Float) (p : Params) → n ≡ 0 → used ≡ usedScaleOf scale → p ≡ paramsOf error genome (ofCount peak) list
-      → v ≡ costWith bins used end p (entriesIn (p .shelf) (p .mean) end room) → give v ≡ costOf bins scale end peak error genome list room
-  unfolding costOf costAt
-  cost-given v used p z u q h = ap give (h ∙ ap (costWith bins used end p) (entries-all p z q) ∙ rw (u, q)) ∙ tests-passed _ z
+    -- the table holds all of the shelf's entries
+    pub entries-all : n ≡ 0 → entriesIn (p .shelf) (p .mean) end room ≡ entriesOf (p .shelf) (p .mean) end
+    entries-all z =
+        let all = all-passed z in
+        entries-fit genome end room (all .spectrum .end-some) (all .end-few) (all .roomed) error (ofCount peak) list
 
-module _ (bins : List ℕ) (scale : Float) (end peak : ℕ) (error : ErrorModel) (genome : GenomeModel) (list held : List Float) (n : ℕ)
-    (e : n ≡ firstOf (fitTests bins scale end peak error genome (length list) (length held))) where
-  pub refused-table : 0 < n → held ≡ costTable bins scale end peak error genome list held
-  unfolding costTable
-  refused-table h = rw (sym (cost-refused bins scale end peak error genome list (length held) n e h))
+    pub cost-refused : 0 < n → refuse n ≡ costOf bins scale end peak error genome list room
+    unfolding costOf
+    cost-refused h = tests-refused _ h
 
-  pub given-table : (t : List Float) (p : Params) → n ≡ 0 → p ≡ paramsOf error genome (ofCount peak) list
-      → t ≡ tableWith p (entriesIn (p .shelf) (p .mean) end (length held)) held → t ≡ costTable bins scale end peak error genome list held
-  unfolding costTable tableAt
-  given-table t p z q o =
-      rw (sym (cost-given bins scale end peak error genome list (length held) n e _ _ p z refl q refl))
-      (o ∙ ap (λ (x : List Float). tableWith p x held) (entries-all bins scale end peak error genome list (length held) n e p z q) ∙ rw q)
+    pub cost-given : (v used : Float) (q : Params) → n ≡ 0 → used ≡ usedScaleOf scale → q ≡ p
+        → v ≡ costWith bins used end q (entriesIn (q .shelf) (q .mean) end room)
+        → give v ≡ costOf bins scale end peak error genome list room
+    unfolding costOf costAt
+    cost-given v used q z u d h =
+        ap give (h ∙ rw (u, d) (ap (costWith bins (usedScaleOf scale) end p) (entries-all z))) ∙ tests-passed _ z
+
+  module _ (held : List Float) (n : ℕ) (e : n ≡ firstOf (tests (length held))) where
+    pub refused-table : 0 < n → held ≡ costTable bins scale end peak error genome list held
+    unfolding costTable
+    refused-table h = rw (sym (cost-refused (length held) n e h))
+
+    pub given-table : (t : List Float) (q : Params) → n ≡ 0 → q ≡ p
+        → t ≡ tableWith q (entriesIn (q .shelf) (q .mean) end (length held)) held
+        → t ≡ costTable bins scale end peak error genome list held
+    unfolding costTable tableAt
+    given-table t q z d o =
+        rw (sym (cost-given (length held) n e _ _ p z refl refl refl))
+        (o ∙ rw d (ap (λ (x : List Float). tableWith p x held) (entries-all (length held) n e z)))

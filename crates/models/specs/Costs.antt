@@ -55,8 +55,10 @@ tableAt end p held = tableWith p (entriesOf (p .shelf) (p .mean) end) held
 -- `room` is the lent table's length: nothing else of it is read
 unfoldable pub costOf : List ℕ → Float → ℕ → ℕ → ErrorModel → GenomeModel → List Float → ℕ → Reply Float
 costOf bins scale end peak error genome list room =
-    chain (fitTests bins scale end peak error genome (length list) room) (give (costAt bins (usedScaleOf scale) end (paramsOf error genome (ofCount peak) list)))
+    chain (fitTests bins scale end peak error genome (length list) room)
+    (give (costAt bins (usedScaleOf scale) end (paramsOf error genome (ofCount peak) list)))
 
 unfoldable pub costTable : List ℕ → Float → ℕ → ℕ → ErrorModel → GenomeModel → List Float → List Float → List Float
 costTable bins scale end peak error genome list held =
-    onGive (costOf bins scale end peak error genome list (length held)) (tableAt end (paramsOf error genome (ofCount peak) list) held) held
+    onGive (costOf bins scale end peak error genome list (length held))
+    (tableAt end (paramsOf error genome (ofCount peak) list) held) held

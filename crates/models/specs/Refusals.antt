@@ -1,5 +1,6 @@
--- What the calls that take a spectrum, a list or the shelf's table refuse, in document 01's order, before anything is worked out: the rows of its table that speak of them, and the
--- chain of cost and unpack. A row for a new number goes between two others. Definitions only. Assumes nothing.
+-- What the calls that take a spectrum, a list or the shelf's table refuse, in document 01's order, before anything is
+-- worked out: the rows of its table that speak of them, and the chain of cost and unpack. A row for a new number goes
+-- between two others. Definitions only. Assumes nothing.
 use Prim.Native.Nat.{ℕ, _+_}
 use mathlib.Core.Bool.{not}
 use mathlib.Core.List.{List, [], _∷_}

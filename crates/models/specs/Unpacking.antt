@@ -69,7 +69,8 @@ fitOf bins window error genome p m cost iterations =
     fit (devianceOf bins (window .scale) (window .end) (fit zero))
 
 unfoldable pub fitAt : List ℕ → Window → ErrorModel → GenomeModel → Params → List Float → Float → ℕ → SpectrumFit
-fitAt bins window error genome p entries cost iterations = fitOf bins window error genome p (windowMassesOf p entries (window .end)) cost iterations
+fitAt bins window error genome p entries cost iterations =
+    fitOf bins window error genome p (windowMassesOf p entries (window .end)) cost iterations
 
 -- the fit beside a number
 unfoldable pub emptyFit : SpectrumFit
@@ -106,22 +107,27 @@ fitAnswerOf (broken place) = record { number = 3; fit = emptyFit }
 fitAnswerOf (give f) = record { number = 0; fit = f }
 
 -- `room` is the lent table's length: nothing else of it is read
-unfoldable pub unpackOf : List ℕ → Float → ℕ → ℕ → ErrorModel → GenomeModel → List Float → Float → ℕ → ℕ → Reply SpectrumFit
+unfoldable pub unpackOf : List ℕ → Float → ℕ → ℕ → ErrorModel → GenomeModel → List Float → Float → ℕ → ℕ
+    → Reply SpectrumFit
 unpackOf bins scale end peak error genome list cost iterations room =
     let p = paramsOf error genome (ofCount peak) list in
     chain (fitTests bins scale end peak error genome (length list) room)
     (give (fitAt bins (windowOf bins scale end) error genome p (entriesOf (p .shelf) (p .mean) end) cost iterations))
 
 -- what stands in the table afterwards
-unfoldable pub unpackTable : List ℕ → Float → ℕ → ℕ → ErrorModel → GenomeModel → List Float → Float → ℕ → List Float → List Float
+unfoldable pub unpackTable : List ℕ → Float → ℕ → ℕ → ErrorModel → GenomeModel → List Float → Float → ℕ → List Float
+    → List Float
 unpackTable bins scale end peak error genome list cost iterations held =
     let p = paramsOf error genome (ofCount peak) list in
-    onGive (unpackOf bins scale end peak error genome list cost iterations (length held)) (over (entriesOf (p .shelf) (p .mean) end) held) held
+    onGive (unpackOf bins scale end peak error genome list cost iterations (length held))
+    (over (entriesOf (p .shelf) (p .mean) end) held) held
 
 -- ---- over a window that was worked out before, for many lists; nothing is refused
 abbrev pub unpackEntries : Window → ℕ → ErrorModel → GenomeModel → List Float → ℕ → List Float
-unpackEntries window peak error genome list room = let p = paramsOf error genome (ofCount peak) list in entriesIn (p .shelf) (p .mean) (window .end) room
+unpackEntries window peak error genome list room =
+    let p = paramsOf error genome (ofCount peak) list in entriesIn (p .shelf) (p .mean) (window .end) room
 
 unfoldable pub unpackAt : List ℕ → Window → ℕ → ErrorModel → GenomeModel → List Float → Float → ℕ → ℕ → SpectrumFit
 unpackAt bins window peak error genome list cost iterations room =
-    fitAt bins window error genome (paramsOf error genome (ofCount peak) list) (unpackEntries window peak error genome list room) cost iterations
+    let p = paramsOf error genome (ofCount peak) list in
+    fitAt bins window error genome p (unpackEntries window peak error genome list room) cost iterations

@@ -18,16 +18,20 @@ returns : tie.Need-returns
 returns c =
     let refusal = c .before in
     let a = start refusal .args in
+    let first = refusal .fit-refusal .ensures in
     let some : 0 < refusal .fit-refusal .result = omega (arith, c .if1 .taken) in (
-      cost-refused (a .bins .now) (a .scale) (a .window-end) (a .peak) (a .error) (a .genome) (a .theta .now) _ _ (refusal .fit-refusal .ensures) some,
-      refused-table (a .bins .now) (a .scale) (a .window-end) (a .peak) (a .error) (a .genome) (a .theta .now) (a .table .now) _ (refusal .fit-refusal .ensures) some,
+      cost-refused (a .bins .now) (a .scale) (a .window-end) (a .peak) (a .error) (a .genome) (a .theta .now) _ _ first some,
+      refused-table (a .bins .now) (a .scale) (a .window-end) (a .peak) (a .error) (a .genome) (a .theta .now)
+          (a .table .now) _ first some,
     )
 
 -- where nothing is refused
-passed : (c : tie.Else1) → let a = start (c .before) .args in Passed (a .bins .now) (a .scale) (a .window-end) (a .peak) (a .genome) (length (a .table .now))
+passed : (c : tie.Else1) → let a = start (c .before) .args in
+    Passed (a .bins .now) (a .scale) (a .window-end) (a .peak) (a .genome) (length (a .table .now))
 passed c =
     let a = start (c .before) .args in
-    all-passed (a .bins .now) (a .scale) (a .window-end) (a .peak) (a .error) (a .genome) (a .theta .now) _ _ (c .before .fit-refusal .ensures) (c .if1 .left)
+    all-passed (a .bins .now) (a .scale) (a .window-end) (a .peak) (a .error) (a .genome) (a .theta .now) _ _
+    (c .before .fit-refusal .ensures) (c .if1 .left)
 
 cast-decode : tie.Need-cast-decode
 cast-decode c = let all = passed c in omega (arith, all .peak-few)
@@ -53,14 +57,15 @@ same-length c = search needs
 returns-2 : tie.Need-returns-2
 returns-2 c =
     let priced = c .before .before in
-    let decoded = priced .before .before .before in
+    let scaled = priced .before .before in
+    let decoded = scaled .before in
     let left = decoded .before .before in
-    let refusal = left .before in
-    let a = start refusal .args in (
-      cost-given (a .bins .now) (a .scale) (a .window-end) (a .peak) (a .error) (a .genome) (a .theta .now) _ _ (refusal .fit-refusal .ensures)
-          _ _ _ (left .if1 .left) (priced .before .before .used-scale .ensures) (decoded .decode .ensures) (priced .cost-at .ensures .0),
-      given-table (a .bins .now) (a .scale) (a .window-end) (a .peak) (a .error) (a .genome) (a .theta .now) (a .table .now) _ (refusal .fit-refusal .ensures)
-          _ _ (left .if1 .left) (decoded .decode .ensures) (priced .cost-at .ensures .1),
+    let a = start (left .before) .args in
+    let first = left .before .fit-refusal .ensures in (
+      cost-given (a .bins .now) (a .scale) (a .window-end) (a .peak) (a .error) (a .genome) (a .theta .now) _ _ first
+          _ _ _ (left .if1 .left) (scaled .used-scale .ensures) (decoded .decode .ensures) (priced .cost-at .ensures .0),
+      given-table (a .bins .now) (a .scale) (a .window-end) (a .peak) (a .error) (a .genome) (a .theta .now)
+          (a .table .now) _ first _ _ (left .if1 .left) (decoded .decode .ensures) (priced .cost-at .ensures .1),
     )
 
 pub cost-spec : {M : Type 1} → statement M

@@ -33,7 +33,8 @@ usable c = sym (c .before .params-usable .ensures) ∙ not-false _ (c .if1 .left
 returns-2 : tie.Need-returns-2
 unfolding div ofBits
 returns-2 c =
-    let stop = mode-stops _ (usable (c .before .before)) (sym (c .before .mode-held .ensures) ∙ not-true _ (c .if2 .taken)) in
+    let lost = sym (c .before .mode-held .ensures) ∙ not-true _ (c .if2 .taken) in
+    let stop = mode-stops _ (usable (c .before .before)) lost in
     (stopped-cost _ _ _ _ _ stop, stopped-table _ _ _ stop)
 
 fill-table-requires : tie.Need-fill-table-requires
@@ -48,7 +49,9 @@ module _ (c : tie.After-fill-table) where
   entries = let a = start .args in entriesIn (a .p .shelf) (a .p .mean) (a .top) (length (a .table .now))
 
   go : started (start .args .p) ≡ true
-  go = let held = c .before .before in starts _ (usable (held .before .before)) (sym (held .before .mode-held .ensures) ∙ not-false _ (held .if2 .left))
+  go =
+      let held = c .before .before in
+      starts _ (usable (held .before .before)) (sym (held .before .mode-held .ensures) ∙ not-false _ (held .if2 .left))
 
 sub-evaluate : tie.Need-sub-evaluate
 sub-evaluate c = search needs
@@ -59,8 +62,10 @@ part-evaluate-start c = search needs
 part-evaluate-end : tie.Need-part-evaluate-end
 part-evaluate-end c =
     let filled = c .before .before .before in
+    let fill = filled .fill-table in
     let a = start filled .args in
-    front-room (entries filled) (a .table .now) _ _ (filled .fill-table .ensures .0) (filled .fill-table .ensures .1) (entries-few (a .p .shelf) (a .p .mean) (a .top) (length (a .table .now)))
+    front-room (entries filled) (a .table .now) _ _ (fill .ensures .0) (fill .ensures .1)
+    (entries-few (a .p .shelf) (a .p .mean) (a .top) (length (a .table .now)))
 
 evaluate-requires : tie.Need-evaluate-requires
 evaluate-requires c κs = search needs
@@ -72,7 +77,8 @@ returns-3 : tie.Need-returns-3
 returns-3 c =
     let filled = c .before .before .before .before .before in
     let fill = filled .fill-table in (
-      started-cost _ _ _ _ _ _ _ (go filled) (c .evaluate .ensures) (front-is (entries filled) (start filled .args .table .now) _ _ (fill .ensures .0) (fill .ensures .1)),
+      started-cost _ _ _ _ _ _ _ (go filled) (c .evaluate .ensures)
+          (front-is (entries filled) (start filled .args .table .now) _ _ (fill .ensures .0) (fill .ensures .1)),
       started-table _ _ _ _ (go filled) (fill .ensures .1),
     )
 

@@ -19,7 +19,9 @@ masses-usable-requires c κs = search needs
 
 returns : tie.Need-returns
 unfolding div ofBits
-returns c = masses-stop _ _ _ _ _ _ (c .before .before .masses-of .ensures) (sym (c .before .masses-usable .ensures) ∙ not-true _ (c .if1 .taken))
+returns c =
+    let known = c .before in
+    masses-stop _ _ _ _ _ _ (known .before .masses-of .ensures) (sym (known .masses-usable .ensures) ∙ not-true _ (c .if1 .taken))
 
 likelihood-requires : tie.Need-likelihood-requires
 likelihood-requires c κs = search needs
@@ -35,20 +37,26 @@ module _ (c : tie.After-is-finite) where
   usable : massesUsable (c .before .before .before .before .masses-of .result) ≡ true
   usable = sym (c .before .before .before .masses-usable .ensures) ∙ not-false _ (c .before .before .if1 .left)
 
-  stopped : likelihoodUsable (c .before .likelihood .result) ≡ false → let a = start .args in inf false ≡ evaluatedOf (a .bins .now) (a .scale) (a .top) (a .p) (a .table .now)
-  stopped u = likelihood-stops _ _ _ _ _ _ (c .before .before .before .before .masses-of .ensures) _ (c .before .likelihood .ensures) usable u
+  stopped : likelihoodUsable (c .before .likelihood .result) ≡ false → let a = start .args in
+      inf false ≡ evaluatedOf (a .bins .now) (a .scale) (a .top) (a .p) (a .table .now)
+  stopped u =
+      let masses = c .before .before .before .before .masses-of .ensures in
+      likelihood-stops _ _ _ _ _ _ masses _ (c .before .likelihood .ensures) usable u
 
 returns-2 : tie.Need-returns-2
 returns-2 c =
     let known = c .before .before in
-    evaluates _ _ _ _ _ _ (known .before .before .before .before .masses-of .ensures) _ (known .before .likelihood .ensures) (usable known)
+    let masses = known .before .before .before .before .masses-of .ensures in
+    evaluates _ _ _ _ _ _ masses _ (known .before .likelihood .ensures) (usable known)
     (at-most-zero _ (sym (known .is-finite .ensures) ∙ c .before .if2 .taken) (c .if3 .taken))
 
 returns-3 : tie.Need-returns-3
 unfolding div ofBits
 returns-3 c =
     let known = c .before in
-    stopped known (⊎-elim (λ t. above-zero _ (sym (known .is-finite .ensures) ∙ t .0 .taken) (t .1 .left)) (λ t. not-finite _ (sym (known .is-finite .ensures) ∙ t .left)) (c .if2 .came))
+    let finite = sym (known .is-finite .ensures) in
+    stopped known
+    (⊎-elim (λ t. above-zero _ (finite ∙ t .0 .taken) (t .1 .left)) (λ t. not-finite _ (finite ∙ t .left)) (c .if2 .came))
 
 pub evaluate-spec : {M : Type 1} → statement M
 evaluate-spec =

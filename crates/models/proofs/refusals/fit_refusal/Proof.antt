@@ -1,4 +1,5 @@
--- `models::refusals::fit_refusal` meets its contract: a row that has no number is passed over, once for all behind it. Assumes nothing.
+-- `models::refusals::fit_refusal` meets its contract: a row that has no number is passed over, once for all behind it.
+-- Assumes nothing.
 use Prim.Native.Nat.{ℕ, _<_}
 use mathlib.Core.Path.{_≡_, refl, sym, ap, _∙_}
 use mathlib.Core.Bool.{not}
@@ -10,9 +11,9 @@ use borrow.Author.Tests.{eq-eqb, ne-eqb, ltb-true, ltb-false}
 use lib.Dec.{eqb}
 use lib.ListN.{length}
 use Rattle.meaning.specs.Reply.{Test, firstOf}
-use Rattle.meaning.specs.Rows.{inOrder, few, many}
+use Rattle.meaning.specs.Rows.{most, inOrder, few, many}
 use Rattle.meaning.proofs.Chains.{stops, goes-on}
-use Rattle.meaning.proofs.Rows.{few-clear, few-found, many-clear, many-found}
+use Rattle.meaning.proofs.Rows.{Some, few-clear, few-found, many-clear, many-found}
 use Rattle.models.specs.Refusals.{spectrumTests, wrongList, shortTable, fitTests}
 use Rattle.models.proofs.refusals.fit_refusal.Statement.{statement}
 use Rattle.models.proofs.refusals.fit_refusal.Tie as tie
@@ -22,11 +23,17 @@ module _ (s : tie.Start) where
   abbrev bins : ℕ
   bins = length (s .args .bins .now)
 
+  abbrev lows : List ℕ
+  lows = s .args .peak ∷ bins ∷ []
+
+  abbrev highs : List ℕ
+  highs = bins ∷ s .args .peak ∷ s .args .window-end ∷ []
+
   abbrev low : List Test
-  low = few (s .args .peak ∷ bins ∷ [])
+  low = few lows
 
   abbrev high : List Test
-  high = many (bins ∷ s .args .peak ∷ s .args .window-end ∷ [])
+  high = many highs
 
   abbrev spectrum : List Test
   spectrum = let a = s .args in spectrumTests (a .bins .now) (a .scale) (a .window-end)
@@ -43,9 +50,14 @@ module _ (s : tie.Start) where
   abbrev after-high : List (List Test)
   after-high = spectrum ∷ after-spectrum
 
-  -- n is the number of some rows, so it is that of all
+  abbrev all : List Test
+  all =
+      let a = s .args in
+      fitTests (a .bins .now) (a .scale) (a .window-end) (a .peak) (a .error) (a .genome) (a .listed) (a .room)
+
+  -- the number of these last rows is that of all
   abbrev Number : List (List Test) → Type 0
-  Number rows = (n : ℕ) → n ≡ firstOf (inOrder rows) → let a = s .args in n ≡ firstOf (fitTests (a .bins .now) (a .scale) (a .window-end) (a .peak) (a .error) (a .genome) (a .listed) (a .room))
+  Number rows = (n : ℕ) → n ≡ firstOf (inOrder rows) → n ≡ firstOf all
 
 -- ---- 1
 abbrev start-low : tie.Else2 → tie.Start
@@ -55,19 +67,26 @@ returns : tie.Need-returns
 unfolding fitTests
 returns c =
     let s = c .before .before in
-    stops (low s) (inOrder (high s ∷ after-high s)) 1
-    (few-found (s .args .peak ∷ bins s ∷ []) (⊎-elim (λ t. inl (t .taken)) (λ t. inr (inl (ltb-true _ _ (t .1 .taken)))) (c .if1 .came))) (omega arith)
+    let which : Some (λ (n : ℕ). n < 2) (lows s) =
+    ⊎-elim (λ t. inl (t .taken)) (λ t. inr (inl (ltb-true _ _ (t .1 .taken)))) (c .if1 .came) in
+    stops (low s) (inOrder (high s ∷ after-high s)) 1 (few-found (lows s) which) (omega arith)
 
 past-low : (c : tie.Else2) → Number (start-low c) (high (start-low c) ∷ after-high (start-low c))
 unfolding fitTests
-past-low c = let s = start-low c in goes-on (low s) (inOrder (high s ∷ after-high s)) refl (few-clear (s .args .peak ∷ bins s ∷ []) (c .before .if1 .left, (ltb-false _ _ (c .if2 .left), tt)))
+past-low c =
+    let s = start-low c in
+    let none = few-clear (lows s) (c .before .if1 .left, (ltb-false _ _ (c .if2 .left), tt)) in
+    goes-on (low s) (inOrder (high s ∷ after-high s)) refl none
 
 -- ---- 2
 returns-2 : tie.Need-returns-2
 returns-2 c =
     let s = start-low (c .before) in
-    past-low (c .before) 2 (stops (high s) (inOrder (after-high s)) 2
-    (many-found (bins s ∷ s .args .peak ∷ s .args .window-end ∷ []) (⊎-elim (λ t. inl (t .taken)) (λ u. ⊎-elim (λ t. inr (inl (ltb-true _ _ (t .1 .taken)))) (λ t. inr (inr (inl (ltb-true _ _ (t .2 .taken))))) u) (c .if3 .came))) (omega arith))
+    let which : Some (λ (n : ℕ). most < n) (highs s) =
+    ⊎-elim (λ t. inl (t .taken))
+    (⊎-elim (λ t. inr (inl (ltb-true _ _ (t .1 .taken)))) (λ t. inr (inr (inl (ltb-true _ _ (t .2 .taken))))))
+    (c .if3 .came) in
+    past-low (c .before) 2 (stops (high s) (inOrder (after-high s)) 2 (many-found (highs s) which) (omega arith))
 
 abbrev start-high : tie.Else5 → tie.Start
 start-high c = start-low (c .before .before .before)
@@ -75,8 +94,9 @@ start-high c = start-low (c .before .before .before)
 past-high : (c : tie.Else5) → Number (start-high c) (after-high (start-high c))
 past-high c n h =
     let s = start-high c in
-    past-low (c .before .before .before) n (goes-on (high s) (inOrder (after-high s)) refl
-    (many-clear (bins s ∷ s .args .peak ∷ s .args .window-end ∷ []) (c .before .before .if3 .left, (ltb-false _ _ (c .before .if4 .left), (ltb-false _ _ (c .if5 .left), tt)))) n h)
+    let none = many-clear (highs s)
+    (c .before .before .if3 .left, (ltb-false _ _ (c .before .if4 .left), (ltb-false _ _ (c .if5 .left), tt))) in
+    past-low (c .before .before .before) n (goes-on (high s) (inOrder (after-high s)) refl none n h)
 
 -- ---- 4, 5 and 6
 spectrum-refusal-requires : tie.Need-spectrum-refusal-requires
@@ -85,7 +105,9 @@ spectrum-refusal-requires c κs = search needs
 returns-3 : tie.Need-returns-3
 returns-3 c =
     let s = start-high (c .before .before) in
-    past-high (c .before .before) _ (stops (spectrum s) (inOrder (after-spectrum s)) _ (c .before .spectrum-refusal .ensures) (omega (arith, c .if6 .taken)))
+    let first = c .before .spectrum-refusal .ensures in
+    past-high (c .before .before) _
+    (stops (spectrum s) (inOrder (after-spectrum s)) _ first (omega (arith, c .if6 .taken)))
 
 abbrev start-spectrum : tie.Else6 → tie.Start
 start-spectrum c = start-high (c .before .before)
@@ -93,17 +115,23 @@ start-spectrum c = start-high (c .before .before)
 past-spectrum : (c : tie.Else6) → Number (start-spectrum c) (after-spectrum (start-spectrum c))
 past-spectrum c n h =
     let s = start-spectrum c in
-    past-high (c .before .before) n (goes-on (spectrum s) (inOrder (after-spectrum s)) (unfold spectrumTests in refl) (sym (c .if6 .left) ∙ c .before .spectrum-refusal .ensures) n h)
+    let none = sym (c .if6 .left) ∙ c .before .spectrum-refusal .ensures in
+    past-high (c .before .before) n
+    (goes-on (spectrum s) (inOrder (after-spectrum s)) (unfold spectrumTests in refl) none n h)
 
 -- ---- 7
 list-length-requires : tie.Need-list-length-requires
 list-length-requires c κs = search needs
 
 returns-4 : tie.Need-returns-4
-returns-4 c = past-spectrum (c .before .before) 7 (simp (ap not (ap (eqb _) (sym (c .before .list-length .ensures)) ∙ ne-eqb _ _ (c .if7 .taken))))
+returns-4 c =
+    let wrong = ap (eqb _) (sym (c .before .list-length .ensures)) ∙ ne-eqb _ _ (c .if7 .taken) in
+    past-spectrum (c .before .before) 7 (simp (ap not wrong))
 
 past-list : (c : tie.Else7) → Number (start-spectrum (c .before .before)) (table (start-spectrum (c .before .before)))
-past-list c n h = past-spectrum (c .before .before) n (simp (ap not (eq-eqb _ _ (c .if7 .left ∙ c .before .list-length .ensures))) h)
+past-list c n h =
+    let right = eq-eqb _ _ (c .if7 .left ∙ c .before .list-length .ensures) in
+    past-spectrum (c .before .before) n (simp (ap not right) h)
 
 -- ---- 10
 table-refusal-requires : tie.Need-table-refusal-requires

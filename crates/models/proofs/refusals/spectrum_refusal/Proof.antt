@@ -25,7 +25,8 @@ returns-2 : tie.Need-returns-2
 unfolding spectrumTests
 returns-2 c =
     let some = some-bin (c .before) in
-    ⊎-elim (λ t. simp (some, eq-eqb _ _ (t .taken))) (λ t. simp (some, ne-eqb _ _ (t .0 .left), t .1 .taken)) (c .if2 .came)
+    ⊎-elim (λ t. simp (some, eq-eqb _ _ (t .taken))) (λ t. simp (some, ne-eqb _ _ (t .0 .left), t .1 .taken))
+    (c .if2 .came)
 
 used-scale-requires : tie.Need-used-scale-requires
 used-scale-requires c κs = search needs
@@ -33,23 +34,29 @@ used-scale-requires c κs = search needs
 none-recovered-requires : tie.Need-none-recovered-requires
 none-recovered-requires c κs = search needs
 
-recovered-is : (c : tie.After-none-recovered)
-    → let a = c .before .before .before .before .before .before .before .args in c .none-recovered .result ≡ noneRecoveredOf (a .bins .now) (usedScaleOf (a .scale)) (a .window-end)
+abbrev start : tie.After-none-recovered → tie.Start
+start c = c .before .before .before .before .before .before .before
+
+recovered-is : (c : tie.After-none-recovered) → let a = start c .args in
+    c .none-recovered .result ≡ noneRecoveredOf (a .bins .now) (usedScaleOf (a .scale)) (a .window-end)
 recovered-is c =
-    let a = c .before .before .before .before .before .before .before .args in
-    c .none-recovered .ensures ∙ ap (λ (x : Float). noneRecoveredOf (a .bins .now) x (a .window-end)) (c .before .used-scale .ensures)
+    let a = start c .args in
+    let used = c .before .used-scale .ensures in
+    c .none-recovered .ensures ∙ ap (λ (x : Float). noneRecoveredOf (a .bins .now) x (a .window-end)) used
 
 returns-3 : tie.Need-returns-3
 unfolding spectrumTests
 returns-3 c =
     let inside = c .before .before .before in
-    simp (some-bin (inside .before .before), ne-eqb _ _ (inside .before .if2 .left), inside .if3 .left, sym (recovered-is (c .before)) ∙ c .if4 .taken)
+    let none = sym (recovered-is (c .before)) ∙ c .if4 .taken in
+    simp (some-bin (inside .before .before), ne-eqb _ _ (inside .before .if2 .left), inside .if3 .left, none)
 
 returns-4 : tie.Need-returns-4
 unfolding spectrumTests
 returns-4 c =
     let inside = c .before .before .before in
-    simp (some-bin (inside .before .before), ne-eqb _ _ (inside .before .if2 .left), inside .if3 .left, sym (recovered-is (c .before)) ∙ c .if4 .left)
+    let some = sym (recovered-is (c .before)) ∙ c .if4 .left in
+    simp (some-bin (inside .before .before), ne-eqb _ _ (inside .before .if2 .left), inside .if3 .left, some)
 
 pub spectrum-refusal-spec : {M : Type 1} → statement M
 spectrum-refusal-spec =

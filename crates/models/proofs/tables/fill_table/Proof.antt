@@ -40,7 +40,11 @@ returns-2 : tie.Need-returns-2
 returns-2 c =
     let call = c .before .before .before .before .before in
     let a = start call .args in
-    (filled-items (a .mean) (a .top) (a .table .now) (a .shelf) _ (call .before .before .before .shelf .given .1) _ _ (c .before .written .given .1) (call .shelf-log-table .ensures .0), filled-table (a .mean) (a .top) (a .table .now) (a .shelf) _ (call .before .before .before .shelf .given .1) _ (call .shelf-log-table .ensures .1))
+    let told = call .before .before .before .shelf .given .1 in
+    let said = call .shelf-log-table .ensures in (
+      filled-items (a .mean) (a .top) (a .table .now) (a .shelf) _ told _ _ (said .0) (c .before .written .given .1),
+      filled-table (a .mean) (a .top) (a .table .now) (a .shelf) _ told _ (said .1),
+    )
 
 same-length-2 : tie.Need-same-length-2
 same-length-2 c = search needs
@@ -49,7 +53,11 @@ returns-3 : tie.Need-returns-3
 returns-3 c =
     let call = c .before .before .before .before in
     let a = start call .args in
-    (filled-none (a .mean) (a .top) (a .table .now) (a .shelf) _ (call .before .before .before .shelf .given .1) _ _ (c .enum-told2 .given .1) (call .shelf-log-table .ensures .0), filled-table (a .mean) (a .top) (a .table .now) (a .shelf) _ (call .before .before .before .shelf .given .1) _ (call .shelf-log-table .ensures .1))
+    let told = call .before .before .before .shelf .given .1 in
+    let said = call .shelf-log-table .ensures in (
+      filled-none (a .mean) (a .top) (a .table .now) (a .shelf) _ told _ _ (said .0) (c .enum-told2 .given .1),
+      filled-table (a .mean) (a .top) (a .table .now) (a .shelf) _ told _ (said .1),
+    )
 
 pub fill-table-spec : {M : Type 1} → statement M
 fill-table-spec =

@@ -29,8 +29,10 @@ part-masses-of-start c = search needs
 part-masses-of-end : tie.Need-part-masses-of-end
 part-masses-of-end c =
     let filled = c .before .before .before in
+    let fill = filled .fill-table in
     let a = start filled .args in
-    front-room (entries filled) (a .table .now) _ _ (filled .fill-table .ensures .0) (filled .fill-table .ensures .1) (entries-few (a .p .shelf) (a .p .mean) (a .window .end) (length (a .table .now)))
+    front-room (entries filled) (a .table .now) _ _ (fill .ensures .0) (fill .ensures .1)
+    (entries-few (a .p .shelf) (a .p .mean) (a .window .end) (length (a .table .now)))
 
 masses-of-requires : tie.Need-masses-of-requires
 masses-of-requires c κs = search needs

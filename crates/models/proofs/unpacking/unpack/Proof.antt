@@ -1,4 +1,4 @@
--- `models::unpacking::unpack` meets its contract: the refusals, and what `unpack_at` answers over the window. Assumes nothing.
+-- `models::unpacking::unpack` meets its contract: the refusals, then what `unpack_at` answers. Assumes nothing.
 use Prim.Native.Nat.{_<_}
 use native.Mathlib.Omega.{arith}
 use borrow.Author.Needs.{needs}
@@ -21,16 +21,21 @@ returns : tie.Need-returns
 returns c =
     let refusal = c .before .before in
     let a = start refusal .args in
+    let first = refusal .fit-refusal .ensures in
     let some : 0 < refusal .fit-refusal .result = omega (arith, c .before .if1 .taken) in (
-      refused-answer (a .bins .now) (a .scale) (a .window-end) (a .peak) (a .error) (a .genome) (a .theta .now) (a .cost) (a .iterations) (a .table .now) _ (refusal .fit-refusal .ensures) _ some (c .empty-fit .ensures),
-      refused-table (a .bins .now) (a .scale) (a .window-end) (a .peak) (a .error) (a .genome) (a .theta .now) (a .cost) (a .iterations) (a .table .now) _ (refusal .fit-refusal .ensures) _ some (c .empty-fit .ensures),
+      refused-answer (a .bins .now) (a .scale) (a .window-end) (a .peak) (a .error) (a .genome) (a .theta .now)
+          (a .table .now) _ first (a .cost) (a .iterations) _ some (c .empty-fit .ensures),
+      refused-table (a .bins .now) (a .scale) (a .window-end) (a .peak) (a .error) (a .genome) (a .theta .now)
+          (a .table .now) _ first (a .cost) (a .iterations) _ some (c .empty-fit .ensures),
     )
 
 -- where nothing is refused
-passed : (c : tie.Else1) → let a = start (c .before) .args in Passed (a .bins .now) (a .scale) (a .window-end) (a .peak) (a .genome) (length (a .table .now))
+passed : (c : tie.Else1) → let a = start (c .before) .args in
+    Passed (a .bins .now) (a .scale) (a .window-end) (a .peak) (a .genome) (length (a .table .now))
 passed c =
     let a = start (c .before) .args in
-    all-passed (a .bins .now) (a .scale) (a .window-end) (a .peak) (a .error) (a .genome) (a .theta .now) _ _ (c .before .fit-refusal .ensures) (c .if1 .left)
+    all-passed (a .bins .now) (a .scale) (a .window-end) (a .peak) (a .error) (a .genome) (a .theta .now) _ _
+    (c .before .fit-refusal .ensures) (c .if1 .left)
 
 cast-window-of : tie.Need-cast-window-of
 cast-window-of c = let all = passed c in omega (arith, all .end-few)
@@ -52,11 +57,13 @@ returns-2 c =
     let fitted = c .before .before in
     let window = fitted .before .before in
     let left = window .before in
-    let refusal = left .before in
-    let a = start refusal .args in (
-      given-answer (a .bins .now) (a .scale) (a .window-end) (a .peak) (a .error) (a .genome) (a .theta .now) (a .cost) (a .iterations) (a .table .now) _ (refusal .fit-refusal .ensures) _ (left .if1 .left) _
+    let a = start (left .before) .args in
+    let first = left .before .fit-refusal .ensures in (
+      given-answer (a .bins .now) (a .scale) (a .window-end) (a .peak) (a .error) (a .genome) (a .theta .now)
+          (a .table .now) _ first (a .cost) (a .iterations) _ (left .if1 .left) _
           (window .window-of .ensures) (fitted .unpack-at .ensures .0),
-      given-table (a .bins .now) (a .scale) (a .window-end) (a .peak) (a .error) (a .genome) (a .theta .now) (a .cost) (a .iterations) (a .table .now) _ (refusal .fit-refusal .ensures) _ (left .if1 .left) _
+      given-table (a .bins .now) (a .scale) (a .window-end) (a .peak) (a .error) (a .genome) (a .theta .now)
+          (a .table .now) _ first (a .cost) (a .iterations) _ (left .if1 .left) _
           (window .window-of .ensures) (fitted .unpack-at .ensures .0) _ (fitted .unpack-at .ensures .1),
     )
 
