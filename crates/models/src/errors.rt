@@ -1,4 +1,5 @@
-// The error component. Ported from src/preprocessing/models.rs of bacpop/sparrowhawk-asm, f1f8af1232, Apache-2.0; ported and changed.
+// The error component.
+// Ported from src/preprocessing/models.rs of bacpop/sparrowhawk-asm, f1f8af1232, Apache-2.0; ported and changed.
 ghost use mathlib.Core.Path.{_≡_};
 ghost use Rattle.helpers.specs.Answers.{numberSays};
 ghost use Rattle.models.specs.Errors.{factorOf, survivalOf, lnTailOf, logProbabilityOf, logWindowMassTo, logWindowMassOf};

@@ -1,4 +1,5 @@
-// How high each component of a fit stands at a count. Ported from src/preprocessing/models.rs of bacpop/sparrowhawk-asm, f1f8af1232, Apache-2.0; ported and changed.
+// How high each component of a fit stands at a count.
+// Ported from src/preprocessing/models.rs of bacpop/sparrowhawk-asm, f1f8af1232, Apache-2.0; ported and changed.
 ghost use mathlib.Core.Path.{_≡_};
 ghost use Rattle.models.specs.Heights.{heightOf, heightsAt, heightsSays, componentHeightsOf};
 use crate::fit::SpectrumFit;

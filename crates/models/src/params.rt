@@ -1,4 +1,5 @@
-// From a parameter list to the model's parameters. Ported from src/preprocessing/models.rs of bacpop/sparrowhawk-asm, f1f8af1232, Apache-2.0; ported and changed.
+// From a parameter list to the model's parameters.
+// Ported from src/preprocessing/models.rs of bacpop/sparrowhawk-asm, f1f8af1232, Apache-2.0; ported and changed.
 ghost use mathlib.Core.Path.{_≡_};
 ghost use lib.ListN.{getD};
 ghost use lib.Ieee.{nan};
@@ -29,9 +30,11 @@ const RATIO_LOW: f64 = 1.5;
 const RATIO_HIGH: f64 = 2.0;
 
 pub struct Params {
+    // The components' log shares inside the window.
     pub ln_error: f64,
     pub ln_single: f64,
     pub ln_repeat: f64,
+    // The single-copy lobe's mode, which the search moves, and its mean, from the mode and the dispersion.
     pub target_mode: f64,
     pub mean: f64,
     pub dispersion: f64,
