@@ -2,9 +2,10 @@
 use Prim.Native.Nat.{ℕ, suc}
 use mathlib.Core.Bool.{Bool, not, _&&_}
 use mathlib.Core.List.{List, []}
-use lib.Ieee.{Float, binary64, ofBits, lt}
+use lib.Ieee.{Float, lt}
 use lib.Ieee.Scale.{finite}
 use Rattle.routines.specs.Ops.{_⊗_}
+use Rattle.routines.specs.Starts.{dec}
 use Rattle.helpers.specs.Masses.{logNbMassTo, singleCopyMassTo}
 use Rattle.helpers.specs.Shelves.{shelfTrialsOf, tableOf, lastOf}
 use Rattle.helpers.specs.declared.shelves.ShelfPart.{ShelfPart}
@@ -26,9 +27,8 @@ windowMassesOf p table end =
       repeat = logNbMassTo (p .«repeat_ratio» ⊗ p .mean) (p .dispersion) end;
     }
 
--- 1e-12
 abbrev pub massTolerance : Float
-massTolerance = ofBits binary64 0x3d719799812dea11
+massTolerance = dec 1 1000000000000
 
 unfoldable pub massUsable : Float → Bool
 massUsable mass = finite mass && not (lt massTolerance mass)

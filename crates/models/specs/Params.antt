@@ -2,11 +2,12 @@
 use Prim.Native.Nat.{ℕ, _+_}
 use mathlib.Core.List.{List, [], _∷_}
 use lib.ListN.{length, getD}
-use lib.Ieee.{Float, nan, binary64, ofBits, neg}
+use lib.Ieee.{Float, nan, neg}
 use Rattle.meaning.specs.Reply.{Reply, refuse, give, chain}
 use Rattle.meaning.specs.Rows.{inOrder, few, many}
 use Rattle.routines.specs.Exp.{expOf, zero, half, one}
 use Rattle.routines.specs.Ops.{_⊕_, _⊖_, _⊗_, _⊘_, ofCount}
+use Rattle.routines.specs.Starts.{dec}
 use Rattle.helpers.specs.LogSums.{sigmoidOf, softmax3Of}
 use Rattle.helpers.specs.declared.shelves.Shelf.{Shelf}
 use Rattle.helpers.specs.declared.shelves.ShelfPart.{ShelfPart}
@@ -24,18 +25,17 @@ use Rattle.models.specs.declared.params.Params.{Params}
 use Rattle.models.specs.declared.params.ParamsAnswer.{ParamsAnswer}
 use Rattle.models.specs.declared.params.ParamsAnswer.the-variants.{At, Refused}
 
--- 0.75, 0.58, 1.5, 2.0
 abbrev pub muLow : Float
-muLow = ofBits binary64 0x3fe8000000000000
+muLow = dec 75 100
 
 abbrev pub muSpan : Float
-muSpan = ofBits binary64 0x3fe28f5c28f5c28f
+muSpan = dec 58 100
 
 abbrev pub ratioLow : Float
-ratioLow = ofBits binary64 0x3ff8000000000000
+ratioLow = dec 15 10
 
 abbrev pub ratioHigh : Float
-ratioHigh = ofBits binary64 0x4000000000000000
+ratioHigh = dec 2 1
 
 unfoldable pub modeOf : Float → Float → Float
 modeOf peak t = peak ⊗ (muLow ⊕ muSpan ⊘ (one ⊕ expOf (neg t)))

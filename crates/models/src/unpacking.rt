@@ -1,5 +1,6 @@
-// From a converged list to a fit. The shelf's table lies in a lent slice, and what can't be used is refused by number.
-// Ported from src/preprocessing/models.rs of bacpop/sparrowhawk-asm, f1f8af1232, Apache-2.0; ported and changed.
+// From a converged list to a fit.
+// Ported from src/preprocessing/models.rs of bacpop/sparrowhawk-asm, f1f8af1232, Apache-2.0; ported and changed:
+// the shelf's table lies in a lent slice, and what can't be used is refused by number.
 ghost use mathlib.Core.Path.{_≡_};
 ghost use lib.ListN.{length};
 ghost use Rattle.meaning.specs.Over.{over};
@@ -37,7 +38,8 @@ fn log_total(ln_weight: f64, ln_library: f64, mass: f64) -> f64
     ln_weight + ln_library - mass
 }
 
-// The deviance reads the rest, so it is put in last.
+// Totals and heights are the library's, for the cutoff's budget of k-mers; the BIC's penalty counts the sample that was
+// observed. The deviance reads the rest, so it is put in last.
 fn fit_of(
     bins: &[u32],
     window: Window,

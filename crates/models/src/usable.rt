@@ -1,4 +1,5 @@
-// Whether the model can use a list's parameters. Ported from src/preprocessing/models.rs of bacpop/sparrowhawk-asm, f1f8af1232, Apache-2.0; ported and changed.
+// Whether the model can use a list's parameters.
+// Ported from src/preprocessing/models.rs of bacpop/sparrowhawk-asm, f1f8af1232, Apache-2.0; ported and changed.
 ghost use mathlib.Core.Path.{_≡_};
 ghost use Rattle.models.specs.Usable.{shapeUsable, errorUsable, shelfUsable, paramsUsable};
 use crate::errors::ErrorParams;

@@ -1,4 +1,5 @@
-// Each component's log mass inside the window. Ported from src/preprocessing/models.rs of bacpop/sparrowhawk-asm, f1f8af1232, Apache-2.0; ported and changed.
+// Each component's log mass inside the window.
+// Ported from src/preprocessing/models.rs of bacpop/sparrowhawk-asm, f1f8af1232, Apache-2.0; ported and changed.
 ghost use mathlib.Core.Path.{_≡_};
 ghost use Rattle.models.specs.Masses.{windowMassesOf, massUsable, massesUsable};
 use crate::params::Params;

@@ -1,4 +1,5 @@
 -- `models::params::shelf_at` meets its contract. Assumes nothing.
+use lib.Ieee.{round, ofBits}
 use Rattle.models.specs.Params.{shelfAt}
 use borrow.Author.Needs.{needs}
 use Rattle.models.proofs.params.shelf_at.Statement.{statement}
@@ -20,7 +21,7 @@ from-retained-requires : tie.Need-from-retained-requires
 from-retained-requires c κs = search needs
 
 returns : tie.Need-returns
-unfolding shelfAt
+unfolding shelfAt round ofBits
 returns c =
     let third = c .before .before in
     let made = third .before .before .before in

@@ -3,7 +3,7 @@
 use mathlib.Core.Path.{_≡_, refl, ap}
 use mathlib.Core.Bool.{Bool, _&&_}
 use mathlib.Core.Logic.{⊎-elim}
-use lib.Ieee.{Float, lt, le}
+use lib.Ieee.{Float, round, ofBits, lt, le}
 use lib.Ieee.Scale.{finite}
 use Rattle.routines.specs.Exp.{zero, half, one}
 use Rattle.routines.specs.Ops.{_⊕_, _⊖_}
@@ -63,6 +63,7 @@ abbrev of-four : tie.Joined3 → Shelf
 of-four c = of-three (c .before)
 
 is-four : (c : tie.Joined3) → c .if3 .if4 ≡ four (of-four c)
+unfolding round ofBits
 is-four c =
     let so = is-three (c .before) in
     ⊎-elim (λ w. went-on so (w .0 .taken) refl (w .2)) (λ w. stopped _ so (w .0 .left) (w .1)) (c .if3 .came)
@@ -87,13 +88,14 @@ abbrev of-seven : tie.Joined6 → Shelf
 of-seven c = of-six (c .before)
 
 is-seven : (c : tie.Joined6) → c .if6 .if7 ≡ seven (of-seven c)
+unfolding round ofBits
 is-seven c =
     let so = is-six (c .before) in
     ⊎-elim (λ w. went-on so (w .0 .taken) (ap (le _) (w .1 .ensures)) (w .2)) (λ w. stopped _ so (w .0 .left) (w .1))
     (c .if6 .came)
 
 returns : tie.Need-returns
-unfolding shelfIsValidOf
+unfolding shelfIsValidOf round ofBits
 returns c =
     went-on (is-seven (c .before .before)) (c .before .if7 .taken)
     (ap (λ (x : Float). le x (maxConcentration ⊕ slack)) (c .concentration .ensures)) refl

@@ -1,4 +1,5 @@
 -- `models::unpacking::fit_of` meets its contract: what each call answered, put into the fit's fields. Assumes nothing.
+use lib.Ieee.{round, ofBits}
 use Rattle.models.specs.Unpacking.{fitWith, fitOf}
 use Rattle.models.proofs.Lengths.{length-held}
 use borrow.Author.Needs.{needs}
@@ -57,7 +58,7 @@ conditional-deviance-requires : tie.Need-conditional-deviance-requires
 conditional-deviance-requires c κs = search needs
 
 returns : tie.Need-returns
-unfolding fitOf fitWith
+unfolding fitOf fitWith round ofBits
 returns c =
     let logged = c .before .before in
     let counted = logged .before .before in

@@ -1,4 +1,5 @@
 -- `models::window_masses::mass_usable` meets its contract. Assumes nothing.
+use lib.Ieee.{round, ofBits}
 use Rattle.models.specs.Masses.{massUsable}
 use borrow.Author.Needs.{needs}
 use Rattle.models.proofs.window_masses.mass_usable.Statement.{statement}
@@ -8,11 +9,11 @@ is-finite-requires : tie.Need-is-finite-requires
 is-finite-requires c κs = search needs
 
 returns : tie.Need-returns
-unfolding massUsable
+unfolding massUsable round ofBits
 returns c = cc
 
 returns-2 : tie.Need-returns-2
-unfolding massUsable
+unfolding massUsable round ofBits
 returns-2 c = cc
 
 pub mass-usable-spec : {M : Type 1} → statement M
