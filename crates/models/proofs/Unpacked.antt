@@ -21,9 +21,10 @@ use Rattle.models.specs.declared.window_masses.WindowMasses.{WindowMasse
 use Rattle.models.proofs.Passed.{tests-refused, tests-passed}
 
 -- from the table written, and the masses read off it
-pub fit-is : (bins : List ℕ) (scale : Float) (end : ℕ) (error : ErrorModel) (genome : GenomeModel) (p : Params) (cost : Float)
-    (iterations : ℕ) (table : List Float) (m : WindowMasses) (fit : SpectrumFit) → table ≡ entriesOf (p .shelf) (p .mean) end
-    → m ≡ windowMassesOf p table end → fit ≡ fitOf bins scale end error genome p m cost iterations
+pub fit-is : (bins : List ℕ) (scale : Float) (end : ℕ) (error : ErrorModel) (genome : GenomeModel) (p : Params)
+    (cost : Float) (iterations : ℕ) (table : List Float) (m : WindowMasses) (fit : SpectrumFit)
+    → table ≡ entriesOf (p .shelf) (p .mean) end → m ≡ windowMassesOf p table end
+    → fit ≡ fitOf bins scale end error genome p m cost iterations
     → fit ≡ fitAt bins scale end error genome p cost iterations
 unfolding fitAt
 fit-is bins scale end error genome p cost iterations table m fit t e f = f ∙ rw (e, t)

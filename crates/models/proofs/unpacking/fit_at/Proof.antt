@@ -1,5 +1,4 @@
 -- `models::unpacking::fit_at` meets its contract. Assumes nothing.
-use mathlib.Core.Path.{_≡_, sym, ap, _∙_}
 use native.Mathlib.Omega.{arith}
 use Rattle.models.proofs.Filled.{front-is, front-room}
 use Rattle.models.proofs.Unpacked.{fit-is}
@@ -18,9 +17,12 @@ part-masses-of-start c = search needs
 
 part-masses-of-end : tie.Need-part-masses-of-end
 part-masses-of-end c =
-    let fill = c .before .before .before .fill-table in
-    let start = c .before .before .before .before .before .before .before in
-    front-room (start .args .p .shelf) (start .args .p .mean) (start .args .top) (start .args .table .now) _ _ (fill .ensures .0) (fill .ensures .1) (start .pre .0) (omega arith)
+    let filled = c .before .before .before in
+    let fill = filled .fill-table in
+    let start = filled .before .before .before .before in
+    let args = start .args in
+    front-room (args .p .shelf) (args .p .mean) (args .top) (args .table .now) _ _ (fill .ensures .0) (fill .ensures .1)
+    (start .pre .0) (omega arith)
 
 masses-of-requires : tie.Need-masses-of-requires
 masses-of-requires c κs = search needs
@@ -37,10 +39,11 @@ returns c =
     let filled = masses .before .before .before .before .before in
     let fill = filled .fill-table in
     let args = filled .before .before .before .before .args in (
-      fit-is (args .bins .now) (args .scale) (args .top) (args .error) (args .genome) (args .p) (args .cost) (args .iterations)
+      fit-is (args .bins .now) (args .scale) (args .top) (args .error) (args .genome) (args .p) (args .cost)
+          (args .iterations)
           _ _ _
-          (front-is (args .p .shelf) (args .p .mean) (args .top) (args .table .now) _ _ (fill .ensures .0) (fill .ensures .1))
-          (masses .masses-of .ensures) (c .fit-of .ensures),
+          (front-is (args .p .shelf) (args .p .mean) (args .top) (args .table .now) _ _ (fill .ensures .0)
+          (fill .ensures .1)) (masses .masses-of .ensures) (c .fit-of .ensures),
       fill .ensures .1,
     )
 
