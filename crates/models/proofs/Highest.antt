@@ -1,6 +1,5 @@
 -- WHAT `error_mode` ANSWERS: 8 exactly where a log probability among the counts 1 to the window end is NaN; otherwise the
--- count whose log probability ranks highest, and of equals the last.
--- Two counts that are highest in that sense are the same. Assumes nothing.
+-- count whose log probability ranks highest, and of equals the last. There is one such count. Assumes nothing.
 use Prim.Native.Nat.{ℕ, suc, _+_, _*_, _≤_, _<_}
 use mathlib.Core.Path.{_≡_, refl, sym, ap, _∙_, subst}
 use mathlib.Core.Bool.{Bool, true, false, not, _&&_, _||_, Bool·beq, cond, or-true, true≢false, false≢true}
@@ -33,7 +32,8 @@ unequal-self (inf true) = refl
 unequal-self (inf false) = refl
 unequal-self (fin s m e) = level s
   where
-    level : (s : Bool) → not (eqb (m * up e * down e) (m * up e * down e) && (Bool·beq s s || eqb (m * up e * down e) 0)) ≡ false
+    level : (s : Bool)
+        → not (eqb (m * up e * down e) (m * up e * down e) && (Bool·beq s s || eqb (m * up e * down e) 0)) ≡ false
     level true = rw (eq-eqb (m * up e * down e) (m * up e * down e) refl)
     level false = rw (eq-eqb (m * up e * down e) (m * up e * down e) refl)
 
@@ -51,7 +51,10 @@ module _ (p : ErrorParams) where
   unfolding higherOf withNan
   flag k s = go (laterWins (s .log) (logAt p k)) ∙ ap (λ (b : Bool). s .nan || b) (unequal-self (logAt p k))
     where
-      go : (b : Bool) → (cond b (stands k (logAt p k) (s .nan || ne (logAt p k) (logAt p k))) (stands (s .count) (s .log) (s .nan || ne (logAt p k) (logAt p k)))) .nan ≡ (s .nan || ne (logAt p k) (logAt p k))
+      set : Bool
+      set = s .nan || ne (logAt p k) (logAt p k)
+
+      go : (b : Bool) → (cond b (stands k (logAt p k) set) (stands (s .count) (s .log) set)) .nan ≡ set
       go true = refl
       go false = refl
 
@@ -62,23 +65,32 @@ module _ (p : ErrorParams) where
 
   flagged : (k : ℕ) (s : Standing) → 1 ≤ k → Flagged k s → Flagged (suc k) (higherOf p k s)
   flagged k s h so = record {
-    set = λ (j : ℕ) (l : 1 ≤ j) (m : j < suc k) (n : isNan (logAt p j) ≡ true). flag k s ∙ earlier j l (eq-or-lt-of-le (le-of-suc-le-suc m)) n;
+    set =
+        λ (j : ℕ) (l : 1 ≤ j) (m : j < suc k) (n : isNan (logAt p j) ≡ true). flag k s
+        ∙ earlier j l (eq-or-lt-of-le (le-of-suc-le-suc m)) n;
     found = λ (e : higherOf p k s .nan ≡ true). which (s .nan) refl (isNan (logAt p k)) refl (sym (flag k s) ∙ e);
   }
     where
       earlier : (j : ℕ) → 1 ≤ j → (j ≡ k) ⊎ (j < k) → isNan (logAt p j) ≡ true → (s .nan || isNan (logAt p k)) ≡ true
       earlier j l (inr m) n = ap (λ (b : Bool). b || isNan (logAt p k)) (so .set j l m n)
-      earlier j l (inl e) n = ap (λ (b : Bool). s .nan || b) (sym (ap (λ (i : ℕ). isNan (logAt p i)) e) ∙ n) ∙ or-true (s .nan)
+      earlier j l (inl e) n =
+          ap (λ (b : Bool). s .nan || b) (sym (ap (λ (i : ℕ). isNan (logAt p i)) e) ∙ n) ∙ or-true (s .nan)
 
-      which : (a : Bool) → s .nan ≡ a → (b : Bool) → isNan (logAt p k) ≡ b → (s .nan || isNan (logAt p k)) ≡ true → (j : ℕ) × (1 ≤ j) × (j < suc k) × (isNan (logAt p j) ≡ true)
+      which : (a : Bool) → s .nan ≡ a → (b : Bool) → isNan (logAt p k) ≡ b → (s .nan || isNan (logAt p k)) ≡ true
+          → (j : ℕ) × (1 ≤ j) × (j < suc k) × (isNan (logAt p j) ≡ true)
       which true e b f i = let r = so .found e in (r .0, r .1, lt-of-lt-of-le (r .2) (le-suc k), r .3)
       which false e true f i = (k, h, le-refl (suc k), f)
       which false e false f i = absurd (false≢true (sym (ap (λ (b : Bool). b || isNan (logAt p k)) e ∙ f) ∙ i))
 
   highest-flagged : (top : ℕ) → 1 ≤ top → Flagged (top + 1) (highestOf p top)
   unfolding highestOf
-  highest-flagged top h = fold-keeps (higherOf p) Flagged 1 (top + 1) (stands 1 (inf true) false) (omega arith) (λ (k : ℕ) (s : Standing) (l : 1 ≤ k) (m : k < top + 1). flagged k s l)
-      (record { set = λ (j : ℕ) (l : 1 ≤ j) (m : j < 1) (n : isNan (logAt p j) ≡ true). absurd (omega arith); found = λ (e : false ≡ true). absurd (false≢true e) })
+  highest-flagged top h =
+      fold-keeps (higherOf p) Flagged 1 (top + 1) (stands 1 (inf true) false) (omega arith)
+      (λ (k : ℕ) (s : Standing) (l : 1 ≤ k) (m : k < top + 1). flagged k s l)
+      (record {
+        set = λ (j : ℕ) (l : 1 ≤ j) (m : j < 1) (n : isNan (logAt p j) ≡ true). absurd (omega arith);
+        found = λ (e : false ≡ true). absurd (false≢true e);
+      })
 
   -- ---- the highest so far
   record Highest (k : ℕ) (s : Standing) : Type 0 where
@@ -98,8 +110,11 @@ module _ (p : ErrorParams) where
         fitting = log-fits p (known 2 (lit≤ tt) (lt-of-le-of-lt h l))
 
         order : (r : Bool) → laterWins (s .log) (logAt p k) ≡ r → Ranked r (rank (s .log)) (rank (logAt p k))
-        order = ranked (s .log) (logAt p k) (subst (λ (x : Float). T (fits binary64 x)) (sym (so .log)) (fitting (s .count))) (fitting k)
-            (ap isNan (so .log) ∙ known (s .count) (so .first) (lt-of-lt-of-le (so .last) (le-of-lt l))) (known k (le-of-lt h) l)
+        order =
+            ranked (s .log) (logAt p k)
+            (subst (λ (x : Float). T (fits binary64 x)) (sym (so .log)) (fitting (s .count))) (fitting k)
+            (ap isNan (so .log) ∙ known (s .count) (so .first) (lt-of-lt-of-le (so .last) (le-of-lt l)))
+            (known k (le-of-lt h) l)
 
         all : (j : ℕ) → 1 ≤ j → j < k → rank (logAt p j) ≤ rank (s .log)
         all j m n = side (ltb (s .count) j) refl
@@ -108,8 +123,11 @@ module _ (p : ErrorParams) where
             side true c = le-of-lt (so .later j (ltb-true (s .count) j c) n)
             side false c = so .earlier j m (ltb-false (s .count) j c)
 
+        nan-so-far : Bool
+        nan-so-far = withNan (s .nan) (logAt p k)
+
         go : (r : Bool) → Ranked r (rank (s .log)) (rank (logAt p k))
-            → Highest (suc k) (cond r (stands k (logAt p k) (withNan (s .nan) (logAt p k))) (stands (s .count) (s .log) (withNan (s .nan) (logAt p k))))
+            → Highest (suc k) (cond r (stands k (logAt p k) nan-so-far) (stands (s .count) (s .log) nan-so-far))
         go true o = record {
           first = le-of-lt h;
           last = le-refl (suc k);
@@ -134,7 +152,10 @@ module _ (p : ErrorParams) where
     -- the first count beats what the loop starts with
     begins : 1 < end → Highest 2 (higherOf p 1 (stands 1 (inf true) false))
     unfolding higherOf
-    begins l = subst (λ (r : Bool). Highest 2 (cond r (stands 1 (logAt p 1) (withNan false (logAt p 1))) (stands 1 (inf true) (withNan false (logAt p 1))))) (sym (starts (logAt p 1) (known 1 (le-refl 1) l)))
+    begins l =
+        let nan = withNan false (logAt p 1) in
+        let wins = sym (starts (logAt p 1) (known 1 (le-refl 1) l)) in
+        subst (λ (r : Bool). Highest 2 (cond r (stands 1 (logAt p 1) nan) (stands 1 (inf true) nan))) wins
         (record {
           first = le-refl 1;
           last = le-refl 2;
@@ -199,8 +220,12 @@ module _ (fit : SpectrumFit) where
       shown s h = record {
         first = h .first;
         last = up-to (s .count) top (h .last);
-        earlier = λ (k : ℕ) (l : 1 ≤ k) (m : k ≤ s .count). subst (λ (x : Float). rank (logAt p k) ≤ rank x) (h .log) (h .earlier k l m);
-        later = λ (k : ℕ) (l : s .count < k) (m : k ≤ top). subst (λ (x : Float). rank (logAt p k) < rank x) (h .log) (h .later k l (below k top m));
+        earlier =
+            λ (k : ℕ) (l : 1 ≤ k) (m : k ≤ s .count). subst (λ (x : Float). rank (logAt p k) ≤ rank x) (h .log)
+            (h .earlier k l m);
+        later =
+            λ (k : ℕ) (l : s .count < k) (m : k ≤ top). subst (λ (x : Float). rank (logAt p k) < rank x) (h .log)
+            (h .later k l (below k top m));
       }
 
   -- ---- one count is the highest
@@ -222,7 +247,9 @@ module _ (fit : SpectrumFit) where
   -- ---- 8 for a NaN, and for nothing else
   pub nan-refused : (k : ℕ) → top ≤ 65535 → 1 ≤ k → k ≤ top → isNan (logAt p k) ≡ true → errorModeOf fit ≡ refuse 8
   unfolding errorModeOf
-  nan-refused k few l m n = rw (le-ltb 65535 top few, ne-eqb top 0 (λ (z : top ≡ 0). absurd (omega arith)), highest-flagged p top (le-trans l m) .set k l (below k top m) n)
+  nan-refused k few l m n =
+      let not-zero : eqb top 0 ≡ false = ne-eqb top 0 (λ (z : top ≡ 0). absurd (omega arith)) in
+      rw (le-ltb 65535 top few, not-zero, highest-flagged p top (le-trans l m) .set k l (below k top m) n)
     where
       below : (a b : ℕ) → a ≤ b → a < b + 1
       below a b h = omega arith
@@ -257,8 +284,10 @@ module _ (fit : SpectrumFit) where
       wrong : (n : ℕ) → n < 8 → _≡_ {A = Reply ℕ} (refuse n) (refuse 8) → Found
       wrong n h e = let z : n ≡ 8 = same-number e in absurd (omega arith)
 
-      go : (a b : Bool) → eqb top 0 ≡ b → (c : Bool) → highestOf p top .nan ≡ c → chain (test a 2 ∷ test b 5 ∷ test c 8 ∷ []) (give (highestOf p top .count)) ≡ refuse 8 → Found
+      go : (a b : Bool) → eqb top 0 ≡ b → (c : Bool) → highestOf p top .nan ≡ c
+          → chain (test a 2 ∷ test b 5 ∷ test c 8 ∷ []) (give (highestOf p top .count)) ≡ refuse 8 → Found
       go true b h c k e = wrong 2 (omega arith) e
       go false true h c k e = wrong 5 (omega arith) e
-      go false false h true k e = let r = highest-flagged p top (some top h) .found k in (r .0, r .1, up-to (r .0) top (r .2), r .3)
+      go false false h true k e =
+          let r = highest-flagged p top (some top h) .found k in (r .0, r .1, up-to (r .0) top (r .2), r .3)
       go false false h false k e = absurd (answer-not-refused e)

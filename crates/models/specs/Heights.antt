@@ -1,4 +1,5 @@
--- How high each component of a fit stands at a count, as models.rs has it, operation by operation. Definitions only. Assumes nothing.
+-- How high each component of a fit stands at a count, as models.rs has it, operation by operation.
+-- Definitions only. Assumes nothing.
 use Prim.Native.Nat.{ℕ}
 use mathlib.Core.List.{[], _∷_}
 use lib.ListN.{getD}
@@ -24,8 +25,12 @@ heightsAt fit count =
     let masses = fit .«component_log_window_masses» in
     record {
       error = heightOf observed (fit .«w_error») (logProbabilityOf (fit .«error_params») count) (getD masses 0 nan);
-      single = heightOf observed (fit .«w_single») (lnSingleCopyOf count (fit .mean) (fit .dispersion) (fit .shelf)) (getD masses 1 nan);
-      repeat = heightOf observed (fit .«w_repeat») (lnDnbinomOf count (fit .«repeat_ratio» ⊗ fit .mean) (fit .dispersion)) (getD masses 2 nan);
+      single =
+          heightOf observed (fit .«w_single») (lnSingleCopyOf count (fit .mean) (fit .dispersion) (fit .shelf))
+          (getD masses 1 nan);
+      repeat =
+          heightOf observed (fit .«w_repeat») (lnDnbinomOf count (fit .«repeat_ratio» ⊗ fit .mean) (fit .dispersion))
+          (getD masses 2 nan);
     }
 
 abbrev pub heightsSays : HeightsAnswer → Reply Heights

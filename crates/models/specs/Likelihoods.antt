@@ -15,11 +15,14 @@ use Rattle.models.specs.declared.window_masses.WindowMasses.{WindowMasse
 -- from the log densities of the two lobes
 unfoldable pub pointWith : Params → WindowMasses → Float → Float → Float → List Float → Float
 pointWith p m lobe second count table =
-    lse3Of (p .«ln_error» ⊕ logProbabilityOf (p .«error_params») count ⊖ m .error) (p .«ln_single» ⊕ mixSingleCopyOf lobe count (p .shelf) table ⊖ m .single)
+    lse3Of (p .«ln_error» ⊕ logProbabilityOf (p .«error_params») count ⊖ m .error)
+    (p .«ln_single» ⊕ mixSingleCopyOf lobe count (p .shelf) table ⊖ m .single)
     (p .«ln_repeat» ⊕ second ⊖ m .repeat)
 
 abbrev pub pointOf : Params → WindowMasses → List Float → Float → Float
-pointOf p m table count = pointWith p m (lnDnbinomOf count (p .mean) (p .dispersion)) (lnDnbinomOf count (p .«repeat_ratio» ⊗ p .mean) (p .dispersion)) count table
+pointOf p m table count =
+    pointWith p m (lnDnbinomOf count (p .mean) (p .dispersion))
+    (lnDnbinomOf count (p .«repeat_ratio» ⊗ p .mean) (p .dispersion)) count table
 
 -- bin i holds count i + 1
 abbrev pub pointTerm : Params → WindowMasses → List Float → ℕ → ℕ → Float
@@ -28,7 +31,8 @@ pointTerm p m table n i = ofCount n ⊗ pointOf p m table (ofCount (i + 1))
 unfoldable pub likelihoodOf : List ℕ → Float → ℕ → Params → WindowMasses → List Float → Float
 likelihoodOf bins scale end p m table = overObserved bins scale end (pointTerm p m table)
 
--- what does not change with the count, worked out before the loop: `steady-point` in proofs/Points.antt shows that it changes nothing
+-- what does not change with the count, worked out before the loop: `steady-point` in proofs/Points.antt shows that it
+-- changes nothing
 abbrev pub steadyOf : Params → Steady
 steadyOf p = record {
   lobe = lobeOf (p .mean) (p .dispersion);

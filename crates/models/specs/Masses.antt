@@ -1,4 +1,5 @@
--- Each component's log mass inside the window, and the shelf's table, as models.rs has them. Definitions only. Assumes nothing.
+-- Each component's log mass inside the window, and the shelf's table, as models.rs has them.
+-- Definitions only. Assumes nothing.
 use Prim.Native.Nat.{ℕ, suc}
 use mathlib.Core.Bool.{Bool, not, _&&_}
 use mathlib.Core.List.{List, []}
@@ -17,7 +18,8 @@ use Rattle.models.specs.declared.window_masses.WindowMasses.{WindowMasse
 -- the shelf's entries, min(trials, end) + 1 of them, and none without a shelf
 unfoldable pub entriesOf : ShelfPart → Float → ℕ → List Float
 entriesOf Absent mean end = []
-entriesOf (Present s) mean end = let trials = shelfTrialsOf mean in tableOf trials (s .alpha) (s .beta) (suc (lastOf trials end))
+entriesOf (Present s) mean end =
+    let trials = shelfTrialsOf mean in tableOf trials (s .alpha) (s .beta) (suc (lastOf trials end))
 
 unfoldable pub windowMassesOf : Params → List Float → ℕ → WindowMasses
 windowMassesOf p table end =

@@ -1,4 +1,5 @@
--- From a parameter list to the model's parameters, as models.rs has it, operation by operation. Definitions only. Assumes nothing.
+-- From a parameter list to the model's parameters, as models.rs has it, operation by operation.
+-- Definitions only. Assumes nothing.
 use Prim.Native.Nat.{ℕ, _+_}
 use mathlib.Core.List.{List, [], _∷_}
 use lib.ListN.{length, getD}
@@ -41,8 +42,18 @@ unfoldable pub modeOf : Float → Float → Float
 modeOf peak t = peak ⊗ (muLow ⊕ muSpan ⊘ (one ⊕ expOf (neg t)))
 
 abbrev pub errorParamsOf : ErrorModel → Float → Float → Float → ErrorParams
-errorParamsOf FreeSingletonWeibull tail single s = record { «singleton_probability» = sigmoidOf single; «tail_exponent» = expOf tail; «weibull_shape» = shape.Present (expOf s) }
-errorParamsOf SingletonPareto tail single s = record { «singleton_probability» = sigmoidOf single; «tail_exponent» = expOf tail; «weibull_shape» = shape.Absent }
+errorParamsOf FreeSingletonWeibull tail single s =
+    record {
+      «singleton_probability» = sigmoidOf single;
+      «tail_exponent» = expOf tail;
+      «weibull_shape» = shape.Present (expOf s);
+    }
+errorParamsOf SingletonPareto tail single s =
+    record {
+      «singleton_probability» = sigmoidOf single;
+      «tail_exponent» = expOf tail;
+      «weibull_shape» = shape.Absent;
+    }
 
 unfoldable pub ratioOf : Float → Float
 ratioOf t = ratioLow ⊕ (ratioHigh ⊖ ratioLow) ⊗ sigmoidOf t
@@ -88,4 +99,5 @@ paramsSays (Refused n) = refuse n
 
 unfoldable pub paramsAnswerOf : ErrorModel → GenomeModel → ℕ → List Float → Reply Params
 paramsAnswerOf error genome peak list =
-    chain (inOrder (few (peak ∷ []) ∷ many (peak ∷ []) ∷ wrongList (length list) error genome ∷ [])) (give (paramsOf error genome (ofCount peak) list))
+    chain (inOrder (few (peak ∷ []) ∷ many (peak ∷ []) ∷ wrongList (length list) error genome ∷ []))
+    (give (paramsOf error genome (ofCount peak) list))

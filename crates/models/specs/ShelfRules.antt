@@ -27,7 +27,8 @@ abbrev pub boundsOf : Float → Bounds
 boundsOf retained = record { low = one ⊘ retained; high = maxConcentration }
 
 abbrev pub shelfOf : Float → Float → Float → Shelf
-shelfOf share retained concentration = record { share = share; alpha = retained ⊗ concentration; beta = (one ⊖ retained) ⊗ concentration }
+shelfOf share retained concentration =
+    record { share = share; alpha = retained ⊗ concentration; beta = (one ⊖ retained) ⊗ concentration }
 
 unfoldable pub shelfIsValidOf : Shelf → Bool
 shelfIsValidOf s =

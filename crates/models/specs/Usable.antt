@@ -1,5 +1,5 @@
--- Which parameters the model can use, as models.rs has it: its tests are free of effects, so they stand in the order of the
--- components. Definitions only. Assumes nothing.
+-- Which parameters the model can use, as models.rs has it. Its tests are free of effects, so they stand in the order of
+-- the components. Definitions only. Assumes nothing.
 use mathlib.Core.Bool.{Bool, true, not, _&&_}
 use lib.Ieee.{Float, lt, le}
 use lib.Ieee.Scale.{finite}

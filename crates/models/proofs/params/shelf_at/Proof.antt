@@ -24,8 +24,10 @@ returns : tie.Need-returns
 unfolding shelfAt round ofBits
 returns c =
     let third = c .before .before in
-    let made = third .before .before .before in
-    rw (c .from-retained .ensures, third .sigmoid3 .ensures, third .before .before .sigmoid2 .ensures, made .shelf-concentration-bounds .ensures, made .before .sigmoid .ensures)
+    let second = third .before .before in
+    let made = second .before in
+    rw (c .from-retained .ensures, third .sigmoid3 .ensures, second .sigmoid2 .ensures)
+    (rw (made .shelf-concentration-bounds .ensures, made .before .sigmoid .ensures))
 
 pub shelf-at-spec : {M : Type 1} → statement M
 shelf-at-spec =

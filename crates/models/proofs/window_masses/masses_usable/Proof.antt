@@ -21,7 +21,8 @@ two : (c : tie.Joined1)
     → let m = c .before .before .args .m in c .if1 .if2 ≡ (massUsable (m .error) && massUsable (m .single))
 two c =
     let one = c .before .mass-usable .ensures in
-    ⊎-elim (λ w. went-on one (w .0 .taken) (w .1 .ensures) (w .2)) (λ w. stopped _ one (w .0 .left) (w .1)) (c .if1 .came)
+    ⊎-elim (λ w. went-on one (w .0 .taken) (w .1 .ensures) (w .2)) (λ w. stopped _ one (w .0 .left) (w .1))
+    (c .if1 .came)
 
 returns : tie.Need-returns
 unfolding massesUsable
