@@ -1,12 +1,12 @@
 -- Window masses, as math_helpers.rs has them, operation by operation; sums run from the left. Definitions only. Assumes nothing.
 use Prim.Native.Nat.{ℕ, suc, _+_, min}
 use mathlib.Core.Bool.{Bool, true, false, cond}
-use mathlib.Core.List.{List, [], _∷_}
-use lib.Dec.{ltb, eqb}
+use mathlib.Core.List.{List}
 use lib.ListN.{length, getD}
 use lib.Ieee.{Float, inf, le}
 use Rattle.meaning.specs.Fold.{fold}
-use Rattle.meaning.specs.Reply.{Reply, give, chain, test}
+use Rattle.meaning.specs.Reply.{Reply, give, chain}
+use Rattle.meaning.specs.Rows.{windowTests}
 use Rattle.routines.specs.Constants.{one}
 use Rattle.routines.specs.Ln.{lnOf}
 use Rattle.routines.specs.Ops.{_⊕_, _⊖_, ofCount}
@@ -41,7 +41,7 @@ logNbMassTo mean dispersion top = cond (le dispersion nearlyPoisson) (poissonMas
 
 -- ---- a window end is refused above 65,535 and at 0
 abbrev pub inWindow : ℕ → Float → Reply Float
-inWindow top value = chain (test (ltb 65535 top) 2 ∷ test (eqb top 0) 5 ∷ []) (give value)
+inWindow top value = chain (windowTests top) (give value)
 
 unfoldable pub logNbMassOf : Float → Float → ℕ → Reply Float
 logNbMassOf mean dispersion top = inWindow top (logNbMassTo mean dispersion top)

@@ -2,12 +2,12 @@
 use Prim.Native.Nat.{ℕ, zero, suc}
 use mathlib.Core.Bool.{Bool, true, false, cond}
 use mathlib.Core.List.{List, [], _∷_, _++_}
-use lib.Dec.{ltb, leb, eqb}
 use lib.ListN.{getD}
 use lib.Ieee.{Float, inf, lt, toUnsigned}
 use Rattle.meaning.specs.Fold.{fold}
 use Rattle.meaning.specs.Over.{over}
-use Rattle.meaning.specs.Reply.{Reply, give, chain, test, onGive}
+use Rattle.meaning.specs.Reply.{Reply, give, chain, onGive}
+use Rattle.meaning.specs.Rows.{short, windowTests}
 use Rattle.routines.specs.Constants.{one}
 use Rattle.routines.specs.Lgamma.{lgammaOf}
 use Rattle.routines.specs.Ln.{lnOf}
@@ -55,7 +55,7 @@ lastOf trials top = toUnsigned 64 (minOf trials (ofCount top))
 unfoldable pub shelfLogTableOf : Float → ℕ → ℕ → Reply ℕ
 shelfLogTableOf mean top room =
     let last = lastOf (shelfTrialsOf mean) top in
-    chain (test (ltb 65535 top) 2 ∷ test (eqb top 0) 5 ∷ test (leb room last) 10 ∷ []) (give (suc last))
+    chain (windowTests top ++ short room (suc last)) (give (suc last))
 
 -- what stands in the slice afterwards
 unfoldable pub tableAfter : Float → Shelf → ℕ → List Float → List Float

@@ -1,5 +1,7 @@
 -- Laws that the crates above cite.
 pub mod Replies
+pub mod Chains
+pub mod Rows
 pub mod Folds
 pub mod Rules
 pub mod Overs

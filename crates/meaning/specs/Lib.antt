@@ -1,4 +1,5 @@
 pub mod Reply
+pub mod Rows
 pub mod Fold
 pub mod Table
 pub mod Over

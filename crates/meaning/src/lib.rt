@@ -1,2 +1,3 @@
-// Below every layer: the answer of a call that writes into lent memory. The rest of the crate is definitions and laws.
+// What the calls of all crates mean: definitions in specs/ and laws in proofs/. The code has one answer and one limit.
 pub mod answers;
+pub mod limits;

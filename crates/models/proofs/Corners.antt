@@ -50,19 +50,25 @@ sub-from-nan low = either (ne low low)
 
 zero-probability : (p : ErrorParams) → logProbabilityOf p (ofCount 0) ≡ nan
 unfolding logProbabilityOf eq ofInt ofBits
-zero-probability p = rw (zero-survival p, sub-from-nan (survivalOf p (ofCount 0 ⊕ one))) (plus-nan (lnOf (one ⊖ p .«singleton_probability»)))
+zero-probability p =
+    rw (zero-survival p, sub-from-nan (survivalOf p (ofCount 0 ⊕ one)))
+    (plus-nan (lnOf (one ⊖ p .«singleton_probability»)))
 
 height-at-zero : (fit : SpectrumFit) → heightsAt fit (ofCount 0) .error ≡ nan
 unfolding heightsAt sub add
-height-at-zero fit = rw (zero-probability (fit .«error_params»), exp-nan) (times-nan (fit .«observed_total» ⊗ fit .«w_error»))
+height-at-zero fit =
+    rw (zero-probability (fit .«error_params»), exp-nan) (times-nan (fit .«observed_total» ⊗ fit .«w_error»))
 
 pub component-height-at-zero : (fit : SpectrumFit) (h : Heights) → componentHeightsOf fit 0 ≡ give h → h .error ≡ nan
 unfolding componentHeightsOf
 component-height-at-zero fit h gave = ap (λ (x : Heights). x .error) (sym (same-answer gave)) ∙ height-at-zero fit
 
 -- ---- a finite mode of 2^64 or more is 2^64-1
-pub primary-mode-full : (fit : SpectrumFit) → finite (fit .mean ⊖ (fit .dispersion ⊖ one)) ≡ true → le two64 (fit .mean ⊖ (fit .dispersion ⊖ one)) ≡ true → primaryModeOf fit ≡ 18446744073709551615
+pub primary-mode-full : (fit : SpectrumFit) → finite (fit .mean ⊖ (fit .dispersion ⊖ one)) ≡ true
+    → le two64 (fit .mean ⊖ (fit .dispersion ⊖ one)) ≡ true → primaryModeOf fit ≡ 18446744073709551615
 primary-mode-full fit f h = mode-full (fit .mean) (fit .dispersion) f h
 
-pub repeat-mode-full : (fit : SpectrumFit) → finite (fit .«repeat_ratio» ⊗ fit .mean ⊖ (fit .dispersion ⊖ one)) ≡ true → le two64 (fit .«repeat_ratio» ⊗ fit .mean ⊖ (fit .dispersion ⊖ one)) ≡ true → repeatModeOf fit ≡ 18446744073709551615
+pub repeat-mode-full : (fit : SpectrumFit) → finite (fit .«repeat_ratio» ⊗ fit .mean ⊖ (fit .dispersion ⊖ one)) ≡ true
+    → le two64 (fit .«repeat_ratio» ⊗ fit .mean ⊖ (fit .dispersion ⊖ one)) ≡ true
+    → repeatModeOf fit ≡ 18446744073709551615
 repeat-mode-full fit f h = mode-full (fit .«repeat_ratio» ⊗ fit .mean) (fit .dispersion) f h

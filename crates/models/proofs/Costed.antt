@@ -9,9 +9,9 @@ use lib.Ieee.{Float, inf, neg, le}
 use lib.Ieee.Scale.{finite}
 use Rattle.meaning.specs.Over.{over}
 use Rattle.routines.specs.Constants.{zero}
-use Rattle.models.specs.Costs.{modeHeld, started, likelihoodUsable, evaluatedOf, costAt, tableAt}
+use Rattle.models.specs.Costs.{modeHeld, started, likelihoodUsable, evaluatedOf, costWith, tableWith}
 use Rattle.models.specs.Likelihoods.{likelihoodOf}
-use Rattle.models.specs.Masses.{entriesOf, windowMassesOf, massesUsable}
+use Rattle.models.specs.Masses.{windowMassesOf, massesUsable}
 use Rattle.models.specs.Usable.{paramsUsable}
 use Rattle.models.specs.declared.params.Params.{Params}
 use Rattle.models.specs.declared.window_masses.WindowMasses.{WindowMasses}
@@ -28,7 +28,8 @@ pub at-most-zero : (t : Float) → finite t ≡ true → le t zero ≡ true → 
 unfolding likelihoodUsable
 at-most-zero t f l = rw (f, l)
 
-module _ (bins : List ℕ) (scale : Float) (end : ℕ) (p : Params) (table : List Float) (m : WindowMasses) (e : m ≡ windowMassesOf p table end) where
+module _ (bins : List ℕ) (scale : Float) (end : ℕ) (p : Params) (table : List Float) (m : WindowMasses)
+    (e : m ≡ windowMassesOf p table end) where
   pub masses-stop : massesUsable m ≡ false → inf false ≡ evaluatedOf bins scale end p table
   unfolding evaluatedOf
   masses-stop h = rw (sym (ap massesUsable e) ∙ h)
@@ -59,18 +60,17 @@ module _ (p : Params) where
   unfolding started
   starts h k = rw (h, k)
 
-  pub stopped-cost : (bins : List ℕ) (scale : Float) (end : ℕ) → started p ≡ false → inf false ≡ costAt bins scale end p
-  unfolding costAt
-  stopped-cost bins scale end h = rw h
+  pub stopped-cost : (bins : List ℕ) (scale : Float) (end : ℕ) (entries : List Float) → started p ≡ false
+      → inf false ≡ costWith bins scale end p entries
+  stopped-cost bins scale end entries h = rw h
 
-  pub stopped-table : (end : ℕ) (held : List Float) → started p ≡ false → held ≡ tableAt end p held
-  unfolding tableAt
-  stopped-table end held h = rw h
+  pub stopped-table : (entries held : List Float) → started p ≡ false → held ≡ tableWith p entries held
+  stopped-table entries held h = rw h
 
-  pub started-cost : (bins : List ℕ) (scale : Float) (end : ℕ) (y : Float) (t : List Float) → started p ≡ true → y ≡ evaluatedOf bins scale end p t → t ≡ entriesOf (p .shelf) (p .mean) end → y ≡ costAt bins scale end p
-  unfolding costAt
-  started-cost bins scale end y t h e o = rw h (e ∙ ap (evaluatedOf bins scale end p) o)
+  pub started-cost : (bins : List ℕ) (scale : Float) (end : ℕ) (y : Float) (t entries : List Float) → started p ≡ true
+      → y ≡ evaluatedOf bins scale end p t → t ≡ entries → y ≡ costWith bins scale end p entries
+  started-cost bins scale end y t entries h e o = rw h (e ∙ ap (evaluatedOf bins scale end p) o)
 
-  pub started-table : (end : ℕ) (held t : List Float) → started p ≡ true → t ≡ over (entriesOf (p .shelf) (p .mean) end) held → t ≡ tableAt end p held
-  unfolding tableAt
-  started-table end held t h e = rw h e
+  pub started-table : (entries held t : List Float) → started p ≡ true → t ≡ over entries held
+      → t ≡ tableWith p entries held
+  started-table entries held t h e = rw h e

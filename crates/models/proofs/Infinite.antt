@@ -1,4 +1,4 @@
--- The cost is +inf for exactly what is turned away: one of four tests. It is never NaN, and the table's old entries have no part in it. Assumes nothing.
+-- The cost is +inf for exactly what is turned away: one of four tests. It is never NaN. Assumes nothing.
 use Prim.Native.Nat.{ℕ}
 use mathlib.Core.Path.{_≡_, refl, sym, ap, _∙_}
 use mathlib.Core.Bool.{Bool, true, false, _&&_, cond, true≢false}
@@ -35,15 +35,22 @@ not-nan (inf s) h = refl
 not-nan (fin s m k) h = refl
 
 module _ (bins : List ℕ) (scale : Float) (end : ℕ) (p : Params) where
+  abbrev masses-held : Bool
+  masses-held = massesUsable (massesAt end p)
+
+  abbrev total-held : Bool
+  total-held = likelihoodUsable (totalAt bins scale end p)
+
   -- the cost by its four tests
   abbrev pub costed : Bool → Bool → Bool → Bool → Float
   costed a b c d = cond (a && b) (cond (c && d) (neg (totalAt bins scale end p)) (inf false)) (inf false)
 
-  pub cost-is : costAt bins scale end p ≡ costed (paramsUsable p) (modeHeld p) (massesUsable (massesAt end p)) (likelihoodUsable (totalAt bins scale end p))
+  pub cost-is : costAt bins scale end p ≡ costed (paramsUsable p) (modeHeld p) masses-held total-held
   unfolding costAt started evaluatedOf
   cost-is = refl
 
-  which : (a b c d : Bool) → paramsUsable p ≡ a → modeHeld p ≡ b → massesUsable (massesAt end p) ≡ c → likelihoodUsable (totalAt bins scale end p) ≡ d → costed a b c d ≡ inf false → TurnedAway bins scale end p
+  which : (a b c d : Bool) → paramsUsable p ≡ a → modeHeld p ≡ b → masses-held ≡ c → total-held ≡ d
+      → costed a b c d ≡ inf false → TurnedAway bins scale end p
   which false b c d h k m t e = parameters h
   which true false c d h k m t e = round-trip k
   which true true false d h k m t e = window-mass m
@@ -53,7 +60,7 @@ module _ (bins : List ℕ) (scale : Float) (end : ℕ) (p : Params) where
   pub infinite-turned-away : costAt bins scale end p ≡ inf false → TurnedAway bins scale end p
   infinite-turned-away e = which _ _ _ _ refl refl refl refl (sym cost-is ∙ e)
 
-  never : (a b c d : Bool) → likelihoodUsable (totalAt bins scale end p) ≡ d → isNan (costed a b c d) ≡ false
+  never : (a b c d : Bool) → total-held ≡ d → isNan (costed a b c d) ≡ false
   unfolding isNan
   never false b c d t = refl
   never true false c d t = refl
@@ -62,7 +69,7 @@ module _ (bins : List ℕ) (scale : Float) (end : ℕ) (p : Params) where
   never true true true true t = not-nan (totalAt bins scale end p) t
 
   pub cost-not-nan : isNan (costAt bins scale end p) ≡ false
-  cost-not-nan = ap isNan cost-is ∙ never (paramsUsable p) (modeHeld p) (massesUsable (massesAt end p)) (likelihoodUsable (totalAt bins scale end p)) refl
+  cost-not-nan = ap isNan cost-is ∙ never (paramsUsable p) (modeHeld p) masses-held total-held refl
 
   last-false : (a b c : Bool) → costed a b c false ≡ inf false
   last-false false b c = refl
@@ -80,27 +87,37 @@ module _ (bins : List ℕ) (scale : Float) (end : ℕ) (p : Params) where
   second-false true c d = refl
 
   pub turned-away-infinite : TurnedAway bins scale end p → costAt bins scale end p ≡ inf false
-  turned-away-infinite (parameters h) = cost-is ∙ ap (λ (a : Bool). costed a (modeHeld p) (massesUsable (massesAt end p)) (likelihoodUsable (totalAt bins scale end p))) h
-  turned-away-infinite (round-trip h) = cost-is ∙ ap (λ (b : Bool). costed (paramsUsable p) b (massesUsable (massesAt end p)) (likelihoodUsable (totalAt bins scale end p))) h ∙ second-false (paramsUsable p) (massesUsable (massesAt end p)) (likelihoodUsable (totalAt bins scale end p))
-  turned-away-infinite (window-mass h) = cost-is ∙ ap (λ (c : Bool). costed (paramsUsable p) (modeHeld p) c (likelihoodUsable (totalAt bins scale end p))) h ∙ third-false (paramsUsable p) (modeHeld p) (likelihoodUsable (totalAt bins scale end p))
-  turned-away-infinite (log-likelihood h) = cost-is ∙ ap (costed (paramsUsable p) (modeHeld p) (massesUsable (massesAt end p))) h ∙ last-false (paramsUsable p) (modeHeld p) (massesUsable (massesAt end p))
+  turned-away-infinite (parameters h) = cost-is ∙ ap (λ (a : Bool). costed a (modeHeld p) masses-held total-held) h
+  turned-away-infinite (round-trip h) =
+      cost-is
+      ∙ ap (λ (b : Bool). costed (paramsUsable p) b masses-held total-held) h
+      ∙ second-false (paramsUsable p) masses-held total-held
+  turned-away-infinite (window-mass h) =
+      cost-is
+      ∙ ap (λ (c : Bool). costed (paramsUsable p) (modeHeld p) c total-held) h
+      ∙ third-false (paramsUsable p) (modeHeld p) total-held
+  turned-away-infinite (log-likelihood h) =
+      cost-is
+      ∙ ap (costed (paramsUsable p) (modeHeld p) masses-held) h
+      ∙ last-false (paramsUsable p) (modeHeld p) masses-held
 
 -- ---- the same of the call: where it gives a cost
-module _ (bins : List ℕ) (scale : Float) (end peak : ℕ) (error : ErrorModel) (genome : GenomeModel) (list : List Float) (room : ℕ) (v : Float) (gave : costOf bins scale end peak error genome list room ≡ give v) where
+module _ (bins : List ℕ) (scale : Float) (end peak : ℕ) (error : ErrorModel) (genome : GenomeModel) (list : List Float)
+    (room : ℕ) (v : Float) (gave : costOf bins scale end peak error genome list room ≡ give v) where
   abbrev p : Params
   p = paramsOf error genome (ofCount peak) list
 
   given : costAt bins (usedScaleOf scale) end p ≡ v
   unfolding costOf
-  given = gave-answer (costAt bins (usedScaleOf scale) end p) v (fitTests bins (usedScaleOf scale) end peak error genome (length list) room) gave
+  given =
+      gave-answer (costAt bins (usedScaleOf scale) end p) v
+      (fitTests bins scale end peak error genome (length list) room) gave
 
   pub cost-infinite-iff : (v ≡ inf false) ↔ TurnedAway bins (usedScaleOf scale) end p
-  cost-infinite-iff = (λ (e : v ≡ inf false). infinite-turned-away bins (usedScaleOf scale) end p (given ∙ e), λ (t : TurnedAway bins (usedScaleOf scale) end p). sym given ∙ turned-away-infinite bins (usedScaleOf scale) end p t)
+  cost-infinite-iff = (
+    λ (e : v ≡ inf false). infinite-turned-away bins (usedScaleOf scale) end p (given ∙ e),
+    λ (t : TurnedAway bins (usedScaleOf scale) end p). sym given ∙ turned-away-infinite bins (usedScaleOf scale) end p t,
+  )
 
   pub cost-never-nan : isNan v ≡ false
   cost-never-nan = ap isNan (sym given) ∙ cost-not-nan bins (usedScaleOf scale) end p
-
--- what the table held before has no part in the answer
-pub cost-of-any-table : (bins : List ℕ) (scale : Float) (end peak : ℕ) (error : ErrorModel) (genome : GenomeModel) (list held other : List Float) → length held ≡ length other
-    → costOf bins scale end peak error genome list (length held) ≡ costOf bins scale end peak error genome list (length other)
-cost-of-any-table bins scale end peak error genome list held other e = ap (costOf bins scale end peak error genome list) e

@@ -16,7 +16,8 @@ use lib.Ieee.Order.{round-mono}
 use Rattle.meaning.specs.Fold.{fold}
 use Rattle.meaning.specs.Reply.{give}
 use Rattle.meaning.proofs.Folds.{fold-more, fold-keeps, fold-none}
-use Rattle.meaning.proofs.Replies.{gave-none, gave-answer}
+use Rattle.meaning.proofs.Chains.{gave-passed}
+use Rattle.meaning.proofs.Replies.{gave-answer}
 use Rattle.routines.specs.Constants as constants
 use Rattle.routines.specs.Ops.{_⊕_, ofCount}
 use Rattle.routines.proofs.Zeros.{sum-minus-zero, product-minus-zero}
@@ -35,6 +36,7 @@ use Rattle.models.specs.declared.families.GenomeModel.{GenomeModel}
 use Rattle.models.specs.declared.params.Params.{Params}
 use Rattle.models.specs.declared.window_masses.WindowMasses.{WindowMasses}
 use Rattle.models.proofs.Infinite.{costed, cost-is}
+use Rattle.models.proofs.Passed.{passed}
 
 -- an `f64` that is not -0
 pub record Other (x : Float) : Type 0 where
@@ -144,8 +146,10 @@ module _ (bins : List ℕ) (scale : Float) (end : ℕ) (p : Params) (seen : none
 -- whatever the arguments, the cost that comes back is not +0
 pub cost-not-plus-zero : (bins : List ℕ) (scale : Float) (end peak : ℕ) (error : ErrorModel) (genome : GenomeModel) (list : List Float) (room : ℕ) (v : Float)
     → costOf bins scale end peak error genome list room ≡ give v → (g : ℤ) → v ≡ fin false 0 g → ⊥
-unfolding costOf fitTests
+unfolding costOf
 cost-not-plus-zero bins scale end peak error genome list room v gave g e =
-    let cost = costAt bins (usedScaleOf scale) end (paramsOf error genome (ofCount peak) list) in
-    let tests = fitTests bins (usedScaleOf scale) end peak error genome (length list) room in
-    cost-at-other bins (usedScaleOf scale) end (paramsOf error genome (ofCount peak) list) (gave-none cost v tests gave 8) g (gave-answer cost v tests gave ∙ e)
+    let p = paramsOf error genome (ofCount peak) list in
+    let cost = costAt bins (usedScaleOf scale) end p in
+    let tests = fitTests bins scale end peak error genome (length list) room in
+    let all = passed bins scale end peak error genome (length list) room (gave-passed cost v tests gave) in
+    cost-at-other bins (usedScaleOf scale) end p (all .spectrum .recovered) g (gave-answer cost v tests gave ∙ e)

@@ -1,9 +1,12 @@
--- What the theorems of proofs/ speak of beyond the calls' own definitions: the four tests that turn a cost away, the order of heights, and what the error mode is. Definitions only. Assumes nothing.
+-- What the theorems of proofs/ speak of beyond the calls' own definitions: the four tests that turn a cost away, what a
+-- call writes into a lent table, the order of heights, and what the error mode is. Definitions only. Assumes nothing.
 use Prim.Native.Nat.{ℕ, _+_, _-_, _^_, _≤_, _<_}
 use mathlib.Core.Path.{_≡_}
 use mathlib.Core.Bool.{true, false}
 use mathlib.Core.List.{List}
+use lib.ListN.{length}
 use lib.Ieee.{Float, nan, inf, fin}
+use Rattle.meaning.specs.Over.{over}
 use Rattle.routines.specs.Ops.{ofCount}
 use Rattle.routines.specs.Units.{unitsOf}
 use Rattle.models.specs.Costs.{modeHeld, likelihoodUsable}
@@ -29,6 +32,12 @@ pub data TurnedAway (bins : List ℕ) (scale : Float) (end : ℕ) (p : Params) :
   round-trip : modeHeld p ≡ false → TurnedAway bins scale end p
   window-mass : massesUsable (massesAt end p) ≡ false → TurnedAway bins scale end p
   log-likelihood : likelihoodUsable (totalAt bins scale end p) ≡ false → TurnedAway bins scale end p
+
+-- ---- a lent table
+-- `written` stands in front, and behind it what the table held
+pub record Writes (written held after : List Float) : Type 0 where
+  pub room : length written ≤ length held
+  pub stands : after ≡ over written held
 
 -- ---- the order of heights
 -- above every finite value's units

@@ -2,10 +2,11 @@
 use Prim.Native.Nat.{ℕ, _+_}
 use mathlib.Core.Bool.{false, cond}
 use mathlib.Core.List.{List}
-use lib.Ieee.{Float, inf, neg, binary64, ofBits, lt}
+use lib.Ieee.{Float, inf, neg, lt}
 use Rattle.routines.specs.Constants.{zero}
 use Rattle.routines.specs.Ln.{lnOf}
 use Rattle.routines.specs.Ops.{_⊕_, _⊗_, _⊘_, ofCount}
+use Rattle.routines.specs.Starts.{dec}
 use Rattle.models.specs.Heights.{heightsAt}
 use Rattle.models.specs.Spectra.{overObserved}
 use Rattle.models.specs.declared.fit.SpectrumFit.{SpectrumFit}
@@ -14,9 +15,8 @@ use Rattle.models.specs.declared.fit.SpectrumFit.{SpectrumFit}
 unfoldable pub expectedAt : SpectrumFit → Float → Float → Float
 expectedAt fit count scale = let h = heightsAt fit count in (neg zero ⊕ h .error ⊕ h .single ⊕ h .repeat) ⊘ scale
 
--- 2.0
 abbrev pub two : Float
-two = ofBits binary64 0x4000000000000000
+two = dec 2 1
 
 unfoldable pub devianceTerm : Float → Float → Float
 devianceTerm observed expected = cond (lt zero expected) (two ⊗ observed ⊗ lnOf (observed ⊘ expected)) (inf false)

@@ -1,6 +1,6 @@
 -- The error component, as models.rs has it, operation by operation. Definitions only. Assumes nothing.
 use Prim.Native.Nat.{ℕ}
-use mathlib.Core.Bool.{Bool, true, false, cond}
+use mathlib.Core.Bool.{cond}
 use lib.Ieee.{Float, neg, eq}
 use Rattle.meaning.specs.Reply.{Reply}
 use Rattle.routines.specs.Constants.{zero, one}
@@ -18,14 +18,16 @@ factorOf Absent offset = one
 factorOf (Present beta) offset = let value = beta ⊗ offset in cond (eq value zero) one (expm1Of value ⊘ value)
 
 unfoldable pub survivalOf : ErrorParams → Float → Float
-survivalOf p count = let offset = lnOf (count ⊖ one) in neg (p .«tail_exponent») ⊗ offset ⊗ factorOf (p .«weibull_shape») offset
+survivalOf p count =
+    let offset = lnOf (count ⊖ one) in neg (p .«tail_exponent») ⊗ offset ⊗ factorOf (p .«weibull_shape») offset
 
 abbrev pub lnTailOf : ErrorParams → Float
 lnTailOf p = lnOf (one ⊖ p .«singleton_probability»)
 
 unfoldable pub logProbabilityOf : ErrorParams → Float → Float
 logProbabilityOf p count =
-    cond (eq count one) (lnOf (p .«singleton_probability»)) (lnTailOf p ⊕ lnSubExpOf (survivalOf p count) (survivalOf p (count ⊕ one)))
+    cond (eq count one) (lnOf (p .«singleton_probability»))
+    (lnTailOf p ⊕ lnSubExpOf (survivalOf p count) (survivalOf p (count ⊕ one)))
 
 unfoldable pub logWindowMassTo : ErrorParams → ℕ → Float
 logWindowMassTo p top = lnOf (neg (expm1Of (lnTailOf p ⊕ survivalOf p (ofCount top ⊕ one))))

@@ -1,10 +1,11 @@
--- How high each component of a fit stands at a count, as models.rs has it, operation by operation. Definitions only. Assumes nothing.
+-- How high each component of a fit stands at a count, as models.rs has it, operation by operation.
+-- Definitions only. Assumes nothing.
 use Prim.Native.Nat.{ℕ}
 use mathlib.Core.List.{[], _∷_}
-use lib.Dec.{ltb}
 use lib.ListN.{getD}
 use lib.Ieee.{Float, nan}
-use Rattle.meaning.specs.Reply.{Reply, refuse, give, chain, test}
+use Rattle.meaning.specs.Reply.{Reply, refuse, give, chain}
+use Rattle.meaning.specs.Rows.{many}
 use Rattle.routines.specs.Exp.{expOf}
 use Rattle.routines.specs.Ops.{_⊖_, _⊗_, ofCount}
 use Rattle.helpers.specs.Lobes.{lnDnbinomOf}
@@ -24,8 +25,12 @@ heightsAt fit count =
     let masses = fit .«component_log_window_masses» in
     record {
       error = heightOf observed (fit .«w_error») (logProbabilityOf (fit .«error_params») count) (getD masses 0 nan);
-      single = heightOf observed (fit .«w_single») (lnSingleCopyOf count (fit .mean) (fit .dispersion) (fit .shelf)) (getD masses 1 nan);
-      repeat = heightOf observed (fit .«w_repeat») (lnDnbinomOf count (fit .«repeat_ratio» ⊗ fit .mean) (fit .dispersion)) (getD masses 2 nan);
+      single =
+          heightOf observed (fit .«w_single») (lnSingleCopyOf count (fit .mean) (fit .dispersion) (fit .shelf))
+          (getD masses 1 nan);
+      repeat =
+          heightOf observed (fit .«w_repeat») (lnDnbinomOf count (fit .«repeat_ratio» ⊗ fit .mean) (fit .dispersion))
+          (getD masses 2 nan);
     }
 
 abbrev pub heightsSays : HeightsAnswer → Reply Heights
@@ -33,4 +38,4 @@ heightsSays (At h) = give h
 heightsSays (Refused n) = refuse n
 
 unfoldable pub componentHeightsOf : SpectrumFit → ℕ → Reply Heights
-componentHeightsOf fit count = chain (test (ltb 65535 count) 2 ∷ []) (give (heightsAt fit (ofCount count)))
+componentHeightsOf fit count = chain (many (count ∷ [])) (give (heightsAt fit (ofCount count)))

@@ -10,6 +10,7 @@ pub mod Spectra
 pub mod Refusals
 pub mod Usable
 pub mod Masses
+pub mod Tables
 pub mod Likelihoods
 pub mod Hoists
 pub mod Costs

@@ -14,11 +14,14 @@ use Rattle.models.specs.declared.window_masses.WindowMasses.{WindowMasse
 -- from the log densities of the two lobes
 unfoldable pub pointWith : Params → WindowMasses → Float → Float → Float → List Float → Float
 pointWith p m lobe second count table =
-    lse3Of (p .«ln_error» ⊕ logProbabilityOf (p .«error_params») count ⊖ m .error) (p .«ln_single» ⊕ mixSingleCopyOf lobe count (p .shelf) table ⊖ m .single)
+    lse3Of (p .«ln_error» ⊕ logProbabilityOf (p .«error_params») count ⊖ m .error)
+    (p .«ln_single» ⊕ mixSingleCopyOf lobe count (p .shelf) table ⊖ m .single)
     (p .«ln_repeat» ⊕ second ⊖ m .repeat)
 
 abbrev pub pointOf : Params → WindowMasses → List Float → Float → Float
-pointOf p m table count = pointWith p m (lnDnbinomOf count (p .mean) (p .dispersion)) (lnDnbinomOf count (p .«repeat_ratio» ⊗ p .mean) (p .dispersion)) count table
+pointOf p m table count =
+    pointWith p m (lnDnbinomOf count (p .mean) (p .dispersion))
+    (lnDnbinomOf count (p .«repeat_ratio» ⊗ p .mean) (p .dispersion)) count table
 
 -- bin i holds count i + 1
 abbrev pub pointTerm : Params → WindowMasses → List Float → ℕ → ℕ → Float

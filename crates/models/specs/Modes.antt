@@ -1,11 +1,11 @@
 -- Where a fit's error component is highest, as models.rs has it. Definitions only. Assumes nothing.
 use Prim.Native.Nat.{ℕ, _+_}
 use mathlib.Core.Bool.{Bool, true, false, not, cond, _&&_, _||_}
-use mathlib.Core.List.{[], _∷_}
-use lib.Dec.{ltb, eqb}
+use mathlib.Core.List.{List, [], _∷_, _++_}
 use lib.Ieee.{Float, inf, lt, eq, ne}
 use Rattle.meaning.specs.Fold.{fold}
-use Rattle.meaning.specs.Reply.{Reply, give, chain, test}
+use Rattle.meaning.specs.Reply.{Reply, give, chain, Test, test}
+use Rattle.meaning.specs.Rows.{windowTests}
 use Rattle.routines.specs.Constants.{one}
 use Rattle.routines.specs.Ops.{_⊘_, ofCount}
 use Rattle.models.specs.Errors.{logProbabilityOf}
@@ -33,8 +33,12 @@ higherOf p count best =
 unfoldable pub highestOf : ErrorParams → ℕ → Standing
 highestOf p top = fold (higherOf p) 1 (top + 1) (stands 1 (inf true) false)
 
+-- 8: a log probability of the scan is NaN
+abbrev pub scanned : Bool → List Test
+scanned nan = test nan 8 ∷ []
+
 unfoldable pub errorModeOf : SpectrumFit → Reply ℕ
 errorModeOf fit =
     let top = fit .«fit_window_end» in
     let best = highestOf (fit .«error_params») top in
-    chain (test (ltb 65535 top) 2 ∷ test (eqb top 0) 5 ∷ test (best .nan) 8 ∷ []) (give (best .count))
+    chain (windowTests top ++ scanned (best .nan)) (give (best .count))

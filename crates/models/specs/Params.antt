@@ -1,19 +1,21 @@
--- From a parameter list to the model's parameters, as models.rs has it, operation by operation. Definitions only. Assumes nothing.
+-- From a parameter list to the model's parameters, as models.rs has it, operation by operation.
+-- Definitions only. Assumes nothing.
 use Prim.Native.Nat.{ℕ, _+_}
-use mathlib.Core.Bool.{Bool, not}
 use mathlib.Core.List.{List, [], _∷_}
-use lib.Dec.{ltb, eqb}
 use lib.ListN.{length, getD}
-use lib.Ieee.{Float, nan, binary64, ofBits, neg}
-use Rattle.meaning.specs.Reply.{Reply, refuse, give, chain, test}
+use lib.Ieee.{Float, nan, neg}
+use Rattle.meaning.specs.Reply.{Reply, refuse, give, chain}
+use Rattle.meaning.specs.Rows.{inOrder, few, many}
 use Rattle.routines.specs.Constants.{zero, half, one}
 use Rattle.routines.specs.Exp.{expOf}
 use Rattle.routines.specs.Ops.{_⊕_, _⊖_, _⊗_, _⊘_, ofCount}
+use Rattle.routines.specs.Starts.{dec}
 use Rattle.helpers.specs.LogSums.{sigmoidOf, softmax3Of}
 use Rattle.helpers.specs.declared.shelves.Shelf.{Shelf}
 use Rattle.helpers.specs.declared.shelves.ShelfPart.{ShelfPart}
 use Rattle.helpers.specs.declared.shelves.ShelfPart.the-variants as shelf
-use Rattle.models.specs.Families.{parameterCountOf, listLengthOf}
+use Rattle.models.specs.Families.{parameterCountOf}
+use Rattle.models.specs.Refusals.{wrongList}
 use Rattle.models.specs.ShelfRules.{minRetained, boundsOf, shelfOf}
 use Rattle.models.specs.declared.families.ErrorModel.{ErrorModel}
 use Rattle.models.specs.declared.families.ErrorModel.the-variants.{FreeSingletonWeibull, SingletonPareto}
@@ -25,25 +27,34 @@ use Rattle.models.specs.declared.params.Params.{Params}
 use Rattle.models.specs.declared.params.ParamsAnswer.{ParamsAnswer}
 use Rattle.models.specs.declared.params.ParamsAnswer.the-variants.{At, Refused}
 
--- 0.75, 0.58, 1.5, 2.0
 abbrev pub muLow : Float
-muLow = ofBits binary64 0x3fe8000000000000
+muLow = dec 75 100
 
 abbrev pub muSpan : Float
-muSpan = ofBits binary64 0x3fe28f5c28f5c28f
+muSpan = dec 58 100
 
 abbrev pub ratioLow : Float
-ratioLow = ofBits binary64 0x3ff8000000000000
+ratioLow = dec 15 10
 
 abbrev pub ratioHigh : Float
-ratioHigh = ofBits binary64 0x4000000000000000
+ratioHigh = dec 2 1
 
 unfoldable pub modeOf : Float → Float → Float
 modeOf peak t = peak ⊗ (muLow ⊕ muSpan ⊘ (one ⊕ expOf (neg t)))
 
 abbrev pub errorParamsOf : ErrorModel → Float → Float → Float → ErrorParams
-errorParamsOf FreeSingletonWeibull tail single s = record { «singleton_probability» = sigmoidOf single; «tail_exponent» = expOf tail; «weibull_shape» = shape.Present (expOf s) }
-errorParamsOf SingletonPareto tail single s = record { «singleton_probability» = sigmoidOf single; «tail_exponent» = expOf tail; «weibull_shape» = shape.Absent }
+errorParamsOf FreeSingletonWeibull tail single s =
+    record {
+      «singleton_probability» = sigmoidOf single;
+      «tail_exponent» = expOf tail;
+      «weibull_shape» = shape.Present (expOf s);
+    }
+errorParamsOf SingletonPareto tail single s =
+    record {
+      «singleton_probability» = sigmoidOf single;
+      «tail_exponent» = expOf tail;
+      «weibull_shape» = shape.Absent;
+    }
 
 unfoldable pub ratioOf : Float → Float
 ratioOf t = ratioLow ⊕ (ratioHigh ⊖ ratioLow) ⊗ sigmoidOf t
@@ -89,4 +100,5 @@ paramsSays (Refused n) = refuse n
 
 unfoldable pub paramsAnswerOf : ErrorModel → GenomeModel → ℕ → List Float → Reply Params
 paramsAnswerOf error genome peak list =
-    chain (test (ltb peak 2) 1 ∷ test (ltb 65535 peak) 2 ∷ test (not (eqb (length list) (listLengthOf error genome))) 7 ∷ []) (give (paramsOf error genome (ofCount peak) list))
+    chain (inOrder (few (peak ∷ []) ∷ many (peak ∷ []) ∷ wrongList (length list) error genome ∷ []))
+    (give (paramsOf error genome (ofCount peak) list))

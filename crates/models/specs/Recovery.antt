@@ -1,6 +1,6 @@
 -- Recovered bins: n over the scale, rounded with halves away from zero. Definitions only. Assumes nothing.
 use Prim.Native.Nat.{ℕ}
-use mathlib.Core.Bool.{Bool, true, false, _&&_, cond}
+use mathlib.Core.Bool.{_&&_, cond}
 use lib.Ieee.{Float, le, toUnsigned}
 use lib.Ieee.Scale.{finite}
 use Rattle.routines.specs.Constants.{one}

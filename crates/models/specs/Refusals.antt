@@ -1,34 +1,52 @@
--- What cost and unpack refuse, lowest number first, before anything is worked out. Definitions only. Assumes nothing.
+-- What the calls that take a spectrum, a list or the shelf's table refuse, in document 01's order, before anything is
+-- worked out: the rows of its table that speak of them, and the chain of cost and unpack. A row for a new number goes
+-- between two others. Definitions only. Assumes nothing.
 use Prim.Native.Nat.{ℕ, _+_}
-use mathlib.Core.Bool.{Bool, not}
+use mathlib.Core.Bool.{not}
 use mathlib.Core.List.{List, [], _∷_}
-use lib.Dec.{ltb, eqb}
+use lib.Dec.{eqb}
 use lib.ListN.{length}
 use lib.Ieee.{Float}
 use Rattle.meaning.specs.Reply.{Test, test}
+use Rattle.meaning.specs.Rows.{inOrder, few, many, outside, short}
 use Rattle.models.specs.Families.{listLengthOf}
+use Rattle.models.specs.Recovery.{usedScaleOf}
 use Rattle.models.specs.Spectra.{allZeroOf, noneRecoveredOf}
 use Rattle.models.specs.declared.families.ErrorModel.{ErrorModel}
 use Rattle.models.specs.declared.families.GenomeModel.{GenomeModel}
 use Rattle.models.specs.declared.families.GenomeModel.the-variants.{NegativeBinomial, ShelfNegativeBinomial}
 
--- the entries needed in the lent table, whatever the trials: 10 is decided before they are known
+-- 4: all bins are zero
+abbrev pub allZero : List ℕ → List Test
+allZero bins = test (allZeroOf bins) 4 ∷ []
+
+-- 6: every recovered bin in the window is zero
+abbrev pub noneRecovered : List ℕ → Float → ℕ → List Test
+noneRecovered bins scale end = test (noneRecoveredOf bins (usedScaleOf scale) end) 6 ∷ []
+
+-- 7: a list has the wrong length for its families
+abbrev pub wrongList : ℕ → ErrorModel → GenomeModel → List Test
+wrongList listed error genome = test (not (eqb listed (listLengthOf error genome))) 7 ∷ []
+
+-- 10: the lent table has no room for the entries needed, whatever the trials: this is decided before they are known
 abbrev pub tableDemand : GenomeModel → ℕ → ℕ
 tableDemand NegativeBinomial end = 0
 tableDemand ShelfNegativeBinomial end = end + 1
 
--- `scale` is the one in use, `listed` the list's length, `room` the lent table's
+abbrev pub shortTable : GenomeModel → ℕ → ℕ → List Test
+shortTable genome end room = short room (tableDemand genome end)
+
+-- 4, 5 and 6: the spectrum in a window
+unfoldable pub spectrumTests : List ℕ → Float → ℕ → List Test
+spectrumTests bins scale end = inOrder (allZero bins ∷ outside end (length bins) ∷ noneRecovered bins scale end ∷ [])
+
+-- `listed` is the list's length, `room` the lent table's
 unfoldable pub fitTests : List ℕ → Float → ℕ → ℕ → ErrorModel → GenomeModel → ℕ → ℕ → List Test
 fitTests bins scale end peak error genome listed room =
-    test (ltb peak 2) 1
-    ∷ test (ltb (length bins) 2) 1
-    ∷ test (ltb 65535 (length bins)) 2
-    ∷ test (ltb 65535 peak) 2
-    ∷ test (ltb 65535 end) 2
-    ∷ test (allZeroOf bins) 4
-    ∷ test (eqb end 0) 5
-    ∷ test (ltb (length bins) end) 5
-    ∷ test (noneRecoveredOf bins scale end) 6
-    ∷ test (not (eqb listed (listLengthOf error genome))) 7
-    ∷ test (ltb room (tableDemand genome end)) 10
-    ∷ []
+    inOrder
+    (few (peak ∷ length bins ∷ [])
+    ∷ many (length bins ∷ peak ∷ end ∷ [])
+    ∷ spectrumTests bins scale end
+    ∷ wrongList listed error genome
+    ∷ shortTable genome end room
+    ∷ [])

@@ -8,7 +8,8 @@ use lib.Ieee.{Float, neg}
 use Rattle.meaning.specs.Fold.{fold}
 use Rattle.routines.specs.Ops.{_⊕_, ofCount}
 use Rattle.routines.specs.Constants.{zero}
-use Rattle.models.specs.Recovery.{roundedQuotientOf}
+use Rattle.models.specs.Recovery.{usedScaleOf, roundedQuotientOf}
+use Rattle.models.specs.declared.spectra.Window.{Window}
 
 -- bin i over the scale, and 0 over the scale behind the bins
 unfoldable pub recoveredAt : List ℕ → Float → ℕ → ℕ
@@ -34,6 +35,12 @@ fullStep bins i total = total ⊕ ofCount (getD bins i 0)
 
 unfoldable pub fullTotalOf : List ℕ → Float
 fullTotalOf bins = fold (fullStep bins) 0 (length bins) (neg zero)
+
+-- what a call works out of the bins once: `scale` is the one in use, `observed` and `full` are the totals
+abbrev pub windowOf : List ℕ → Float → ℕ → Window
+windowOf bins scale end =
+    let used = usedScaleOf scale in
+    record { scale = used; end = end; observed = observedTotalOf bins used end; full = fullTotalOf bins }
 
 -- ---- whether a test holds of each of the first n
 abbrev pub allStep : (ℕ → Bool) → ℕ → Bool → Bool

@@ -14,9 +14,9 @@ use Rattle.models.specs.Deviances.{two, devianceOf}
 use Rattle.models.specs.Families.{listLengthOf}
 use Rattle.models.specs.Masses.{entriesOf, windowMassesOf}
 use Rattle.models.specs.Params.{paramsOf}
-use Rattle.models.specs.Recovery.{usedScaleOf}
 use Rattle.models.specs.Refusals.{fitTests}
-use Rattle.models.specs.Spectra.{observedTotalOf, fullTotalOf}
+use Rattle.models.specs.Spectra.{windowOf}
+use Rattle.models.specs.Tables.{entriesIn}
 use Rattle.models.specs.declared.errors.ShapePart.the-variants as shape
 use Rattle.models.specs.declared.families.ErrorModel.{ErrorModel}
 use Rattle.models.specs.declared.families.ErrorModel.the-variants.{FreeSingletonWeibull}
@@ -24,16 +24,16 @@ use Rattle.models.specs.declared.families.GenomeModel.{GenomeModel}
 use Rattle.models.specs.declared.families.GenomeModel.the-variants.{NegativeBinomial}
 use Rattle.models.specs.declared.fit.SpectrumFit.{SpectrumFit}
 use Rattle.models.specs.declared.params.Params.{Params}
+use Rattle.models.specs.declared.spectra.Window.{Window}
 use Rattle.models.specs.declared.unpacking.FitAnswer.{FitAnswer}
 use Rattle.models.specs.declared.window_masses.WindowMasses.{WindowMasses}
 
 abbrev pub logTotal : Float → Float → Float → Float
 logTotal weight library mass = weight ⊕ library ⊖ mass
 
-unfoldable pub fitWith : List ℕ → Float → ℕ → ErrorModel → GenomeModel → Params → WindowMasses → Float → ℕ → Float → SpectrumFit
-fitWith bins scale end error genome p m cost iterations deviance =
-    let observed = observedTotalOf bins scale end in
-    let library = observed ⊗ scale in
+unfoldable pub fitWith : Window → ErrorModel → GenomeModel → Params → WindowMasses → Float → ℕ → Float → SpectrumFit
+fitWith window error genome p m cost iterations deviance =
+    let library = window .observed ⊗ window .scale in
     let totalError = logTotal (p .«ln_error») (lnOf library) (m .error) in
     let totalSingle = logTotal (p .«ln_single») (lnOf library) (m .single) in
     let totalRepeat = logTotal (p .«ln_repeat») (lnOf library) (m .repeat) in
@@ -53,50 +53,25 @@ fitWith bins scale end error genome p m cost iterations deviance =
       «error_kmers» = expOf totalError;
       «repeat_kmers» = expOf totalRepeat;
       «log_likelihood» = neg cost;
-      bic = two ⊗ cost ⊕ ofCount (listLengthOf error genome) ⊗ lnOf observed;
+      bic = two ⊗ cost ⊕ ofCount (listLengthOf error genome) ⊗ lnOf (window .observed);
       deviance = deviance;
-      «fit_window_end» = end;
+      «fit_window_end» = window .end;
       «best_iterations» = iterations;
       «component_log_window_masses» = m .error ∷ m .single ∷ m .repeat ∷ [];
       «component_log_totals» = totalError ∷ totalSingle ∷ totalRepeat ∷ [];
       «observed_total» = library;
-      «full_distinct_total» = fullTotalOf bins;
+      «full_distinct_total» = window .full;
     }
 
-unfoldable pub withDeviance : SpectrumFit → Float → SpectrumFit
-withDeviance fit deviance =
-    record {
-      «error_model» = fit .«error_model»;
-      «genome_model» = fit .«genome_model»;
-      «w_error» = fit .«w_error»;
-      «w_single» = fit .«w_single»;
-      «w_repeat» = fit .«w_repeat»;
-      mean = fit .mean;
-      dispersion = fit .dispersion;
-      «target_mode» = fit .«target_mode»;
-      «error_params» = fit .«error_params»;
-      shelf = fit .shelf;
-      «repeat_ratio» = fit .«repeat_ratio»;
-      «genome_kmers» = fit .«genome_kmers»;
-      «error_kmers» = fit .«error_kmers»;
-      «repeat_kmers» = fit .«repeat_kmers»;
-      «log_likelihood» = fit .«log_likelihood»;
-      bic = fit .bic;
-      deviance = deviance;
-      «fit_window_end» = fit .«fit_window_end»;
-      «best_iterations» = fit .«best_iterations»;
-      «component_log_window_masses» = fit .«component_log_window_masses»;
-      «component_log_totals» = fit .«component_log_totals»;
-      «observed_total» = fit .«observed_total»;
-      «full_distinct_total» = fit .«full_distinct_total»;
-    }
+-- the deviance reads the rest, with 0 in its own place
+unfoldable pub fitOf : List ℕ → Window → ErrorModel → GenomeModel → Params → WindowMasses → Float → ℕ → SpectrumFit
+fitOf bins window error genome p m cost iterations =
+    let fit = fitWith window error genome p m cost iterations in
+    fit (devianceOf bins (window .scale) (window .end) (fit zero))
 
--- the deviance is taken at the fit with 0 in its place
-unfoldable pub fitAt : List ℕ → Float → ℕ → ErrorModel → GenomeModel → Params → Float → ℕ → SpectrumFit
-fitAt bins scale end error genome p cost iterations =
-    let m = windowMassesOf p (entriesOf (p .shelf) (p .mean) end) end in
-    let before = fitWith bins scale end error genome p m cost iterations zero in
-    withDeviance before (devianceOf bins scale end before)
+unfoldable pub fitAt : List ℕ → Window → ErrorModel → GenomeModel → Params → List Float → Float → ℕ → SpectrumFit
+fitAt bins window error genome p entries cost iterations =
+    fitOf bins window error genome p (windowMassesOf p entries (window .end)) cost iterations
 
 -- the fit beside a number
 unfoldable pub emptyFit : SpectrumFit
@@ -133,13 +108,27 @@ fitAnswerOf (broken place) = record { number = 3; fit = emptyFit }
 fitAnswerOf (give f) = record { number = 0; fit = f }
 
 -- `room` is the lent table's length: nothing else of it is read
-unfoldable pub unpackOf : List ℕ → Float → ℕ → ℕ → ErrorModel → GenomeModel → List Float → Float → ℕ → ℕ → Reply SpectrumFit
+unfoldable pub unpackOf : List ℕ → Float → ℕ → ℕ → ErrorModel → GenomeModel → List Float → Float → ℕ → ℕ
+    → Reply SpectrumFit
 unpackOf bins scale end peak error genome list cost iterations room =
-    let used = usedScaleOf scale in
-    chain (fitTests bins used end peak error genome (length list) room) (give (fitAt bins used end error genome (paramsOf error genome (ofCount peak) list) cost iterations))
+    let p = paramsOf error genome (ofCount peak) list in
+    chain (fitTests bins scale end peak error genome (length list) room)
+    (give (fitAt bins (windowOf bins scale end) error genome p (entriesOf (p .shelf) (p .mean) end) cost iterations))
 
 -- what stands in the table afterwards
-unfoldable pub unpackTable : List ℕ → Float → ℕ → ℕ → ErrorModel → GenomeModel → List Float → Float → ℕ → List Float → List Float
+unfoldable pub unpackTable : List ℕ → Float → ℕ → ℕ → ErrorModel → GenomeModel → List Float → Float → ℕ → List Float
+    → List Float
 unpackTable bins scale end peak error genome list cost iterations held =
     let p = paramsOf error genome (ofCount peak) list in
-    onGive (unpackOf bins scale end peak error genome list cost iterations (length held)) (over (entriesOf (p .shelf) (p .mean) end) held) held
+    onGive (unpackOf bins scale end peak error genome list cost iterations (length held))
+    (over (entriesOf (p .shelf) (p .mean) end) held) held
+
+-- ---- over a window that was worked out before, for many lists; nothing is refused
+abbrev pub unpackEntries : Window → ℕ → ErrorModel → GenomeModel → List Float → ℕ → List Float
+unpackEntries window peak error genome list room =
+    let p = paramsOf error genome (ofCount peak) list in entriesIn (p .shelf) (p .mean) (window .end) room
+
+unfoldable pub unpackAt : List ℕ → Window → ℕ → ErrorModel → GenomeModel → List Float → Float → ℕ → ℕ → SpectrumFit
+unpackAt bins window peak error genome list cost iterations room =
+    let p = paramsOf error genome (ofCount peak) list in
+    fitAt bins window error genome p (unpackEntries window peak error genome list room) cost iterations

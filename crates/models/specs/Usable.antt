@@ -1,4 +1,5 @@
--- Which parameters the model can use, as models.rs has it: its tests are free of effects, so they stand in the order of the components. Definitions only. Assumes nothing.
+-- Which parameters the model can use, as models.rs has it. Its tests are free of effects, so they stand in the order of
+-- the components. Definitions only. Assumes nothing.
 use mathlib.Core.Bool.{Bool, true, not, _&&_}
 use lib.Ieee.{Float, lt, le}
 use lib.Ieee.Scale.{finite}
@@ -18,11 +19,21 @@ shapeUsable (shape.Present beta) = finite beta
 -- a singleton probability in 0 to 1, 0 allowed and 1 not, is finite
 unfoldable pub errorUsable : ErrorParams → Bool
 errorUsable p =
-    finite (p .«tail_exponent») && not (le (p .«tail_exponent») zero) && le zero (p .«singleton_probability») && lt (p .«singleton_probability») one && shapeUsable (p .«weibull_shape»)
+    finite (p .«tail_exponent»)
+    && not (le (p .«tail_exponent») zero)
+    && le zero (p .«singleton_probability»)
+    && lt (p .«singleton_probability») one
+    && shapeUsable (p .«weibull_shape»)
 
 abbrev pub shelfUsable : ShelfPart → Bool
 shelfUsable shelf.Absent = true
 shelfUsable (shelf.Present s) = shelfIsValidOf s
 
 unfoldable pub paramsUsable : Params → Bool
-paramsUsable p = finite (p .mean) && finite (p .dispersion) && finite (p .«target_mode») && not (le (p .mean) zero) && errorUsable (p .«error_params») && shelfUsable (p .shelf)
+paramsUsable p =
+    finite (p .mean)
+    && finite (p .dispersion)
+    && finite (p .«target_mode»)
+    && not (le (p .mean) zero)
+    && errorUsable (p .«error_params»)
+    && shelfUsable (p .shelf)

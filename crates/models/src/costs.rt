@@ -1,13 +1,10 @@
-// The cost of a parameter list. Ported from src/preprocessing/models.rs of bacpop/sparrowhawk-asm, f1f8af1232, Apache-2.0; ported and changed:
-// the shelf's table lies in a lent slice, and what can't be used is refused by number.
+// The cost of a parameter list. The shelf's table lies in a lent slice, and what can't be used is refused by number.
+// Ported from src/preprocessing/models.rs of bacpop/sparrowhawk-asm, f1f8af1232, Apache-2.0; ported and changed.
 ghost use mathlib.Core.Path.{_≡_};
-ghost use mathlib.Core.Bool.{true};
-ghost use Prim.Native.Nat.{_≤_};
 ghost use lib.ListN.{length};
-ghost use Rattle.meaning.specs.Over.{over};
 ghost use Rattle.helpers.specs.Answers.{numberSays};
-ghost use Rattle.models.specs.Masses.{entriesOf};
-ghost use Rattle.models.specs.Costs.{roomy, modeHeld, evaluatedOf, costAt, tableAt, costOf, costTable};
+ghost use Rattle.models.specs.Costs.{modeHeld, evaluatedOf, costWith, tableWith, costOf, costTable};
+ghost use Rattle.models.specs.Tables.{entriesIn};
 use crate::families::ErrorModel;
 use crate::families::GenomeModel;
 use crate::fit::roundtrip;
@@ -16,36 +13,15 @@ use crate::params::Params;
 use crate::params::decode;
 use crate::recovery::used_scale;
 use crate::refusals::fit_refusal;
+use crate::tables::fill_table;
 use crate::usable::params_usable;
 use crate::window_masses::masses_of;
 use crate::window_masses::masses_usable;
 use helpers::answers::Number;
-use helpers::shelves::ShelfPart;
-use helpers::shelves::shelf_log_table;
-use meaning::answers::Written;
 use routines::pick::is_finite;
 
 // The mode that the mean gives back may lie this far from the mode it was made of.
 pub const NB_MODE_ROUNDTRIP_TOLERANCE: f64 = 0.5;
-
-// The shelf's entries into the front of the table; how many.
-pub(crate) fn fill_table(mean: f64, shelf: ShelfPart, top: u16, table: &mut [f64]) -> usize
-    requires { ⌜ roomy shelf top (length (now table)) ≡ true ⌝ }
-    requires { ⌜ 1 ≤ top ⌝ }
-    ensures { λ r. ⌜ r ≡ length (entriesOf shelf mean top) ⌝ }
-    ensures { λ _. ⌜ now (table .exit) ≡ over (entriesOf shelf mean top) (now (table .entry)) ⌝ }
-{
-    match shelf {
-        ShelfPart::Absent => 0,
-        ShelfPart::Present(s) => {
-            let written = shelf_log_table(mean, s, top as usize, table);
-            match written {
-                Written::Items(n) => n,
-                Written::Refused(_) => 0,
-            }
-        }
-    }
-}
 
 fn mode_held(p: Params) -> bool
     ensures { λ r. ⌜ r ≡ modeHeld p ⌝ }
@@ -58,14 +34,11 @@ fn evaluate(bins: &[u32], scale: f64, top: u16, p: Params, table: &[f64]) -> f64
     ensures { λ r. ⌜ r ≡ evaluatedOf (now (bins .entry)) scale top p (now (table .entry)) ⌝ }
 {
     let m = masses_of(p, table, top);
-    if masses_usable(m) {} else {
+    if !masses_usable(m) {
         return 1.0 / 0.0;
     }
     let total = likelihood(bins, scale, top, p, m, table);
-    if is_finite(total) {} else {
-        return 1.0 / 0.0;
-    }
-    if total <= 0.0 {
+    if is_finite(total) && total <= 0.0 {
         return -total;
     }
     1.0 / 0.0
@@ -73,15 +46,13 @@ fn evaluate(bins: &[u32], scale: f64, top: u16, p: Params, table: &[f64]) -> f64
 
 // The table stays as it is where the parameters are turned away.
 fn cost_at(bins: &[u32], scale: f64, top: u16, p: Params, table: &mut [f64]) -> f64
-    requires { ⌜ roomy (p .shelf) top (length (now table)) ≡ true ⌝ }
-    requires { ⌜ 1 ≤ top ⌝ }
-    ensures { λ r. ⌜ r ≡ costAt (now (bins .entry)) scale top p ⌝ }
-    ensures { λ _. ⌜ now (table .exit) ≡ tableAt top p (now (table .entry)) ⌝ }
+    ensures { λ r. ⌜ r ≡ costWith (now (bins .entry)) scale top p (entriesIn (p .shelf) (p .mean) top (length (now (table .entry)))) ⌝ }
+    ensures { λ _. ⌜ now (table .exit) ≡ tableWith p (entriesIn (p .shelf) (p .mean) top (length (now (table .entry)))) (now (table .entry)) ⌝ }
 {
-    if params_usable(p) {} else {
+    if !params_usable(p) {
         return 1.0 / 0.0;
     }
-    if mode_held(p) {} else {
+    if !mode_held(p) {
         return 1.0 / 0.0;
     }
     let shelf = p.shelf;
@@ -104,10 +75,9 @@ pub fn cost(
     ensures { λ r. ⌜ numberSays r ≡ costOf (now (bins .entry)) scale «window_end» peak error genome (now (theta .entry)) (length (now (table .entry))) ⌝ }
     ensures { λ _. ⌜ now (table .exit) ≡ costTable (now (bins .entry)) scale «window_end» peak error genome (now (theta .entry)) (now (table .entry)) ⌝ }
 {
-    let used = used_scale(scale);
     let refused = fit_refusal(
         bins,
-        used,
+        scale,
         window_end,
         peak,
         error,
@@ -119,5 +89,5 @@ pub fn cost(
         return Number::Refused(refused);
     }
     let p = decode(error, genome, (peak as u16) as f64, theta);
-    Number::Value(cost_at(bins, used, window_end as u16, p, table))
+    Number::Value(cost_at(bins, used_scale(scale), window_end as u16, p, table))
 }

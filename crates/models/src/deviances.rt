@@ -1,4 +1,5 @@
-// How far the spectrum lies from a fit. Ported from src/preprocessing/models.rs of bacpop/sparrowhawk-asm, f1f8af1232, Apache-2.0; ported and changed.
+// How far the spectrum lies from a fit.
+// Ported from src/preprocessing/models.rs of bacpop/sparrowhawk-asm, f1f8af1232, Apache-2.0; ported and changed.
 ghost use mathlib.Core.Path.{_≡_};
 ghost use Rattle.models.specs.Deviances.{expectedAt, devianceTerm, devianceOf};
 ghost use Rattle.models.specs.Spectra.{seenTerm};

@@ -1,9 +1,11 @@
-// The error component. Ported from src/preprocessing/models.rs of bacpop/sparrowhawk-asm, f1f8af1232, Apache-2.0; ported and changed.
+// The error component.
+// Ported from src/preprocessing/models.rs of bacpop/sparrowhawk-asm, f1f8af1232, Apache-2.0; ported and changed.
 ghost use mathlib.Core.Path.{_≡_};
 ghost use Rattle.helpers.specs.Answers.{numberSays};
 ghost use Rattle.models.specs.Errors.{factorOf, survivalOf, lnTailOf, logProbabilityOf, logWindowMassTo, logWindowMassOf};
 use helpers::answers::Number;
 use helpers::log_sums::ln_sub_exp;
+use meaning::limits::MOST;
 use routines::expm1::expm1;
 use routines::ln::ln;
 
@@ -86,7 +88,7 @@ impl ErrorParams {
     pub fn log_window_mass(self, top: usize) -> Number
         ensures { λ r. ⌜ numberSays r ≡ logWindowMassOf self top ⌝ }
     {
-        if top > 65535 {
+        if top > MOST {
             return Number::Refused(2);
         }
         if top == 0 {

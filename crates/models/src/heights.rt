@@ -1,9 +1,11 @@
-// How high each component of a fit stands at a count. Ported from src/preprocessing/models.rs of bacpop/sparrowhawk-asm, f1f8af1232, Apache-2.0; ported and changed.
+// How high each component of a fit stands at a count.
+// Ported from src/preprocessing/models.rs of bacpop/sparrowhawk-asm, f1f8af1232, Apache-2.0; ported and changed.
 ghost use mathlib.Core.Path.{_≡_};
 ghost use Rattle.models.specs.Heights.{heightOf, heightsAt, heightsSays, componentHeightsOf};
 use crate::fit::SpectrumFit;
 use helpers::lobes::ln_dnbinom;
 use helpers::shelves::ln_single_copy;
+use meaning::limits::MOST;
 use routines::exp::exp;
 
 // Expected k-mers of each component inside the window.
@@ -44,7 +46,7 @@ pub(crate) fn heights_at(fit: SpectrumFit, count: f64) -> Heights
 pub fn component_heights(fit: SpectrumFit, count: usize) -> HeightsAnswer
     ensures { λ r. ⌜ heightsSays r ≡ componentHeightsOf fit count ⌝ }
 {
-    if count > 65535 {
+    if count > MOST {
         return HeightsAnswer::Refused(2);
     }
     HeightsAnswer::At(heights_at(fit, (count as u16) as f64))

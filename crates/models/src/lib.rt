@@ -13,6 +13,7 @@ pub mod recovery;
 pub mod refusals;
 pub mod shelf_rules;
 pub mod spectra;
+pub mod tables;
 pub mod unpacking;
 pub mod usable;
 pub mod window_masses;

@@ -1,4 +1,5 @@
-// The log-likelihood of the window. Ported from src/preprocessing/models.rs of bacpop/sparrowhawk-asm, f1f8af1232, Apache-2.0; ported and changed.
+// The log-likelihood of the window.
+// Ported from src/preprocessing/models.rs of bacpop/sparrowhawk-asm, f1f8af1232, Apache-2.0; ported and changed.
 ghost use mathlib.Core.Path.{_≡_};
 ghost use Rattle.models.specs.Likelihoods.{pointOf, likelihoodOf};
 ghost use Rattle.models.specs.Hoists.{steadyOf};

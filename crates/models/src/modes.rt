@@ -1,4 +1,5 @@
-// Where a fit's error component is highest. Ported from src/preprocessing/models.rs of bacpop/sparrowhawk-asm, f1f8af1232, Apache-2.0; ported and changed:
+// Where a fit's error component is highest.
+// Ported from src/preprocessing/models.rs of bacpop/sparrowhawk-asm, f1f8af1232, Apache-2.0; ported and changed:
 // a window end is refused by number, and so is a NaN among the heights compared.
 ghost use mathlib.Core.Path.{_≡_};
 ghost use Rattle.helpers.specs.Answers.{countSays};
@@ -7,6 +8,7 @@ ghost use Rattle.models.specs.Modes.{laterWins, withNan, higherOf, highe
 use crate::errors::ErrorParams;
 use crate::fit::SpectrumFit;
 use helpers::answers::Count;
+use meaning::limits::MOST;
 
 // The highest of the counts so far, and whether one of them was NaN.
 struct Standing {
@@ -71,12 +73,13 @@ fn highest(p: ErrorParams, top: u16) -> Standing
     best
 }
 
-// The later of equal maxima; 2 for a window end above 65,535, 5 for 0, 8 for a NaN among the heights.
+// The later of equal maxima, which the validator wants below the valley; 2 for a window end above 65,535, 5 for 0, 8 for a
+// NaN among the heights.
 pub fn error_mode(fit: SpectrumFit) -> Count
     ensures { λ r. ⌜ countSays r ≡ errorModeOf fit ⌝ }
 {
     let top = fit.fit_window_end;
-    if top > 65535 {
+    if top > MOST {
         return Count::Refused(2);
     }
     if top == 0 {

@@ -1,4 +1,5 @@
-// From a parameter list to the model's parameters. Ported from src/preprocessing/models.rs of bacpop/sparrowhawk-asm, f1f8af1232, Apache-2.0; ported and changed.
+// From a parameter list to the model's parameters.
+// Ported from src/preprocessing/models.rs of bacpop/sparrowhawk-asm, f1f8af1232, Apache-2.0; ported and changed.
 ghost use mathlib.Core.Path.{_≡_};
 ghost use lib.ListN.{getD};
 ghost use lib.Ieee.{nan};
@@ -16,6 +17,7 @@ use helpers::log_sums::ln_softmax3;
 use helpers::log_sums::sigmoid;
 use helpers::shelves::Shelf;
 use helpers::shelves::ShelfPart;
+use meaning::limits::MOST;
 use routines::exp::exp;
 
 // The single-copy mode is held within 0.75 to 1.33 times the peak.
@@ -24,14 +26,16 @@ pub const MU_LO: f64 = 0.75;
 pub const MU_SPAN: f64 = 0.58;
 
 // The repeat's mean is 1.5 to 2 times the single-copy mean.
-const RATIO_LOW: f64 = 1.5;
+pub const RATIO_LOW: f64 = 1.5;
 
-const RATIO_HIGH: f64 = 2.0;
+pub const RATIO_HIGH: f64 = 2.0;
 
 pub struct Params {
+    // The components' log shares inside the window.
     pub ln_error: f64,
     pub ln_single: f64,
     pub ln_repeat: f64,
+    // The single-copy lobe's mode, which the search moves, and its mean, from the mode and the dispersion.
     pub target_mode: f64,
     pub mean: f64,
     pub dispersion: f64,
@@ -142,7 +146,7 @@ pub fn params_from(
     if peak < 2 {
         return ParamsAnswer::Refused(1);
     }
-    if peak > 65535 {
+    if peak > MOST {
         return ParamsAnswer::Refused(2);
     }
     if theta.len() != list_length(error, genome) {

@@ -1,26 +1,42 @@
 // What a fit's calls refuse, lowest number first, before anything is worked out.
 ghost use mathlib.Core.Path.{_≡_};
-ghost use Prim.Native.Nat.{_≤_};
 ghost use Rattle.meaning.specs.Reply.{firstOf};
-ghost use Rattle.models.specs.Refusals.{tableDemand, fitTests};
+ghost use Rattle.models.specs.Refusals.{spectrumTests, shortTable, fitTests};
 use crate::families::ErrorModel;
 use crate::families::GenomeModel;
 use crate::families::list_length;
+use crate::recovery::used_scale;
 use crate::spectra::all_zero;
 use crate::spectra::none_recovered;
+use meaning::limits::MOST;
 
-// The entries that a call needs in the lent table: window end + 1 with a shelf family, and none without.
-fn table_demand(genome: GenomeModel, window_end: usize) -> usize
-    requires { ⌜ «window_end» ≤ 65535 ⌝ }
-    ensures { λ r. ⌜ r ≡ tableDemand genome «window_end» ⌝ }
+// 4, 5 or 6 for the spectrum in a window, and 0 for none.
+pub fn spectrum_refusal(bins: &[u32], scale: f64, window_end: usize) -> u8
+    ensures { λ r. ⌜ r ≡ firstOf (spectrumTests (now (bins .entry)) scale «window_end») ⌝ }
+{
+    if all_zero(bins) {
+        return 4;
+    }
+    if window_end == 0 || window_end > bins.len() {
+        return 5;
+    }
+    if none_recovered(bins, used_scale(scale), window_end) {
+        return 6;
+    }
+    0
+}
+
+// 10 for a lent table of fewer than window end + 1 entries with a shelf family, and 0 for none.
+pub fn table_refusal(genome: GenomeModel, window_end: usize, room: usize) -> u8
+    ensures { λ r. ⌜ r ≡ firstOf (shortTable genome «window_end» room) ⌝ }
 {
     match genome {
         GenomeModel::NegativeBinomial => 0,
-        GenomeModel::ShelfNegativeBinomial => window_end + 1,
+        GenomeModel::ShelfNegativeBinomial => if room <= window_end { 10 } else { 0 },
     }
 }
 
-// The first number of 1, 2, 4, 5, 6, 7, 10 that applies, and 0 for none. `scale` is one that used_scale gave.
+// The first number of 1, 2, 4, 5, 6, 7, 10 that applies to cost and unpack, and 0 for none.
 pub(crate) fn fit_refusal(
     bins: &[u32],
     scale: f64,
@@ -33,38 +49,18 @@ pub(crate) fn fit_refusal(
 ) -> u8
     ensures { λ r. ⌜ r ≡ firstOf (fitTests (now (bins .entry)) scale «window_end» peak error genome listed room) ⌝ }
 {
-    if peak < 2 {
+    if peak < 2 || bins.len() < 2 {
         return 1;
     }
-    if bins.len() < 2 {
-        return 1;
-    }
-    if bins.len() > 65535 {
+    if bins.len() > MOST || peak > MOST || window_end > MOST {
         return 2;
     }
-    if peak > 65535 {
-        return 2;
-    }
-    if window_end > 65535 {
-        return 2;
-    }
-    if all_zero(bins) {
-        return 4;
-    }
-    if window_end == 0 {
-        return 5;
-    }
-    if window_end > bins.len() {
-        return 5;
-    }
-    if none_recovered(bins, scale, window_end as u16) {
-        return 6;
+    let spectrum = spectrum_refusal(bins, scale, window_end);
+    if spectrum != 0 {
+        return spectrum;
     }
     if listed != list_length(error, genome) {
         return 7;
     }
-    if room < table_demand(genome, window_end) {
-        return 10;
-    }
-    0
+    table_refusal(genome, window_end, room)
 }

@@ -1,14 +1,17 @@
-// What a shelf may be. Ported from src/preprocessing/models.rs of bacpop/sparrowhawk-asm, f1f8af1232, Apache-2.0; ported and changed.
+// What a shelf may be.
+// Ported from src/preprocessing/models.rs of bacpop/sparrowhawk-asm, f1f8af1232, Apache-2.0; ported and changed.
 ghost use mathlib.Core.Path.{_≡_};
 ghost use Rattle.models.specs.ShelfRules.{retainedOf, concentrationOf, boundsOf, shelfOf, shelfIsValidOf};
 use helpers::shelves::Shelf;
 use routines::pick::is_finite;
 
-// The shelf never holds more than this share, keeps at least this fraction of coverage, and a + b stays below this.
+// Of the single-copy k-mers: with a larger share the shelf could swallow the lobe.
 pub const SHELF_MAX_SHARE: f64 = 0.5;
 
+// Of their coverage, on average: with less the shelf came to lie on the error tail, at counts 0 and 1.
 pub const SHELF_MIN_RETAINED: f64 = 0.3;
 
+// Of a + b: with more the shelf is a spike.
 pub const SHELF_MAX_CONCENTRATION: f64 = 20.0;
 
 // Rounding in a / (a + b) may land a hair outside a bound that the map itself keeps.
@@ -21,7 +24,7 @@ pub fn retained(s: Shelf) -> f64
     s.alpha / (s.alpha + s.beta)
 }
 
-// How narrow the shelf is.
+// How narrow the shelf is: the variance of the retained fraction m is m (1 - m) / (a + b + 1).
 pub fn concentration(s: Shelf) -> f64
     ensures { λ r. ⌜ r ≡ concentrationOf s ⌝ }
 {
@@ -33,7 +36,8 @@ pub struct Bounds {
     pub high: f64,
 }
 
-// The bounds on a + b for a retained fraction: the lower one is a >= 1.
+// The bounds on a + b for a retained fraction. The lower one is a >= 1: with less the density has no bound at count 0, and
+// the mass at counts 1 and 2 pulled the cutoff down.
 pub fn shelf_concentration_bounds(retained: f64) -> Bounds
     ensures { λ r. ⌜ r ≡ boundsOf retained ⌝ }
 {
@@ -58,26 +62,12 @@ pub(crate) fn from_retained(share: f64, retained: f64, concentration: f64) -> Sh
 pub fn shelf_is_valid(s: Shelf) -> bool
     ensures { λ r. ⌜ r ≡ shelfIsValidOf s ⌝ }
 {
-    if s.share > 0.0 {} else {
-        return false;
-    }
-    if s.share < SHELF_MAX_SHARE {} else {
-        return false;
-    }
-    if is_finite(s.alpha) {} else {
-        return false;
-    }
-    if s.alpha >= 1.0 - SLACK {} else {
-        return false;
-    }
-    if is_finite(s.beta) {} else {
-        return false;
-    }
-    if s.beta > 0.0 {} else {
-        return false;
-    }
-    if retained(s) >= SHELF_MIN_RETAINED - SLACK {} else {
-        return false;
-    }
-    concentration(s) <= SHELF_MAX_CONCENTRATION + SLACK
+    s.share > 0.0
+        && s.share < SHELF_MAX_SHARE
+        && is_finite(s.alpha)
+        && s.alpha >= 1.0 - SLACK
+        && is_finite(s.beta)
+        && s.beta > 0.0
+        && retained(s) >= SHELF_MIN_RETAINED - SLACK
+        && concentration(s) <= SHELF_MAX_CONCENTRATION + SLACK
 }

@@ -1,15 +1,11 @@
-// From a converged list to a fit. Ported from src/preprocessing/models.rs of bacpop/sparrowhawk-asm, f1f8af1232, Apache-2.0; ported and changed:
+// From a converged list to a fit.
+// Ported from src/preprocessing/models.rs of bacpop/sparrowhawk-asm, f1f8af1232, Apache-2.0; ported and changed:
 // the shelf's table lies in a lent slice, and what can't be used is refused by number.
 ghost use mathlib.Core.Path.{_≡_};
-ghost use mathlib.Core.Bool.{true};
-ghost use Prim.Native.Nat.{_≤_};
 ghost use lib.ListN.{length};
 ghost use Rattle.meaning.specs.Over.{over};
-ghost use Rattle.models.specs.Costs.{roomy};
-ghost use Rattle.models.specs.Masses.{entriesOf};
-ghost use Rattle.models.specs.Unpacking.{logTotal, fitWith, withDeviance, fitAt, emptyFit, fitAnswerOf, unpackOf, unpackTable};
-ghost use Rattle.routines.specs.Constants.{zero};
-use crate::costs::fill_table;
+ghost use Rattle.models.specs.Tables.{entriesIn};
+ghost use Rattle.models.specs.Unpacking.{logTotal, fitOf, fitAt, emptyFit, fitAnswerOf, unpackOf, unpackTable, unpackEntries, unpackAt};
 use crate::deviances::conditional_deviance;
 use crate::errors::ErrorParams;
 use crate::errors::ShapePart;
@@ -19,10 +15,10 @@ use crate::families::list_length;
 use crate::fit::SpectrumFit;
 use crate::params::Params;
 use crate::params::decode;
-use crate::recovery::used_scale;
 use crate::refusals::fit_refusal;
-use crate::spectra::full_total;
-use crate::spectra::observed_total;
+use crate::spectra::Window;
+use crate::spectra::window_of;
+use crate::tables::fill_table;
 use crate::window_masses::WindowMasses;
 use crate::window_masses::masses_of;
 use helpers::shelves::ShelfPart;
@@ -42,11 +38,11 @@ fn log_total(ln_weight: f64, ln_library: f64, mass: f64) -> f64
     ln_weight + ln_library - mass
 }
 
-// All but the deviance, which reads the rest.
-fn fit_before_deviance(
+// Totals and heights are the library's, for the cutoff's budget of k-mers; the BIC's penalty counts the sample that was
+// observed. The deviance reads the rest, so it is put in last.
+fn fit_of(
     bins: &[u32],
-    scale: f64,
-    top: u16,
+    window: Window,
     error: ErrorModel,
     genome: GenomeModel,
     p: Params,
@@ -54,17 +50,16 @@ fn fit_before_deviance(
     cost: f64,
     iterations: u64,
 ) -> SpectrumFit
-    ensures { λ r. ⌜ r ≡ fitWith (now (bins .entry)) scale top error genome p m cost iterations zero ⌝ }
+    ensures { λ r. ⌜ r ≡ fitOf (now (bins .entry)) window error genome p m cost iterations ⌝ }
 {
     let shelf = p.shelf;
     let error_params = p.error_params;
-    let observed = observed_total(bins, scale, top);
-    let library = observed * scale;
+    let library = window.observed * window.scale;
     let ln_library = ln(library);
     let total_error = log_total(p.ln_error, ln_library, m.error);
     let total_single = log_total(p.ln_single, ln_library, m.single);
     let total_repeat = log_total(p.ln_repeat, ln_library, m.repeat);
-    SpectrumFit {
+    let mut fit = SpectrumFit {
         error_model: error,
         genome_model: genome,
         w_error: exp(p.ln_error),
@@ -80,21 +75,16 @@ fn fit_before_deviance(
         error_kmers: exp(total_error),
         repeat_kmers: exp(total_repeat),
         log_likelihood: -cost,
-        bic: 2.0 * cost + (list_length(error, genome) as f64) * ln(observed),
+        bic: 2.0 * cost + (list_length(error, genome) as f64) * ln(window.observed),
         deviance: 0.0,
-        fit_window_end: top as usize,
+        fit_window_end: window.end as usize,
         best_iterations: iterations,
         component_log_window_masses: [m.error, m.single, m.repeat],
         component_log_totals: [total_error, total_single, total_repeat],
         observed_total: library,
-        full_distinct_total: full_total(bins),
-    }
-}
-
-fn with_deviance(before: SpectrumFit, deviance: f64) -> SpectrumFit
-    ensures { λ r. ⌜ r ≡ withDeviance before deviance ⌝ }
-{
-    let mut fit = before;
+        full_distinct_total: window.full,
+    };
+    let deviance = conditional_deviance(bins, window.scale, window.end, fit);
     fit.deviance = deviance;
     fit
 }
@@ -102,8 +92,7 @@ fn with_deviance(before: SpectrumFit, deviance: f64) -> SpectrumFit
 // The table is always written where there is a shelf.
 fn fit_at(
     bins: &[u32],
-    scale: f64,
-    top: u16,
+    window: Window,
     error: ErrorModel,
     genome: GenomeModel,
     p: Params,
@@ -111,20 +100,17 @@ fn fit_at(
     iterations: u64,
     table: &mut [f64],
 ) -> SpectrumFit
-    requires { ⌜ roomy (p .shelf) top (length (now table)) ≡ true ⌝ }
-    requires { ⌜ 1 ≤ top ⌝ }
-    ensures { λ r. ⌜ r ≡ fitAt (now (bins .entry)) scale top error genome p cost iterations ⌝ }
-    ensures { λ _. ⌜ now (table .exit) ≡ over (entriesOf (p .shelf) (p .mean) top) (now (table .entry)) ⌝ }
+    ensures { λ r. ⌜ r ≡ fitAt (now (bins .entry)) window error genome p (entriesIn (p .shelf) (p .mean) (window .end) (length (now (table .entry)))) cost iterations ⌝ }
+    ensures { λ _. ⌜ now (table .exit) ≡ over (entriesIn (p .shelf) (p .mean) (window .end) (length (now (table .entry)))) (now (table .entry)) ⌝ }
 {
     let shelf = p.shelf;
-    let items = fill_table(p.mean, shelf, top, table);
-    let m = masses_of(p, &table[0..items], top);
-    let before = fit_before_deviance(bins, scale, top, error, genome, p, m, cost, iterations);
-    with_deviance(before, conditional_deviance(bins, scale, top, before))
+    let items = fill_table(p.mean, shelf, window.end, table);
+    let m = masses_of(p, &table[0..items], window.end);
+    fit_of(bins, window, error, genome, p, m, cost, iterations)
 }
 
 // The fit beside a number.
-fn empty_fit() -> SpectrumFit
+pub fn empty_fit() -> SpectrumFit
     ensures { λ r. ⌜ r ≡ emptyFit ⌝ }
 {
     SpectrumFit {
@@ -158,6 +144,26 @@ fn empty_fit() -> SpectrumFit
     }
 }
 
+// A converged list as a fit over a window that was worked out before. It refuses nothing: whoever has many lists
+// has gone through the refusals once. A table too short for the shelf's entries is left as it is.
+pub fn unpack_at(
+    bins: &[u32],
+    window: Window,
+    peak: u16,
+    error: ErrorModel,
+    genome: GenomeModel,
+    theta: &[f64],
+    cost: f64,
+    iterations: u64,
+    table: &mut [f64],
+) -> SpectrumFit
+    ensures { λ r. ⌜ r ≡ unpackAt (now (bins .entry)) window peak error genome (now (theta .entry)) cost iterations (length (now (table .entry))) ⌝ }
+    ensures { λ _. ⌜ now (table .exit) ≡ over (unpackEntries window peak error genome (now (theta .entry)) (length (now (table .entry)))) (now (table .entry)) ⌝ }
+{
+    let p = decode(error, genome, peak as f64, theta);
+    fit_at(bins, window, error, genome, p, cost, iterations, table)
+}
+
 // A converged list as a fit, with its cost and its iterations; 1, 2, 4, 5, 6, 7 or 10 instead. The cost may be any f64.
 pub fn unpack(
     bins: &[u32],
@@ -174,10 +180,9 @@ pub fn unpack(
     ensures { λ r. ⌜ r ≡ fitAnswerOf (unpackOf (now (bins .entry)) scale «window_end» peak error genome (now (theta .entry)) cost iterations (length (now (table .entry)))) ⌝ }
     ensures { λ _. ⌜ now (table .exit) ≡ unpackTable (now (bins .entry)) scale «window_end» peak error genome (now (theta .entry)) cost iterations (now (table .entry)) ⌝ }
 {
-    let used = used_scale(scale);
     let refused = fit_refusal(
         bins,
-        used,
+        scale,
         window_end,
         peak,
         error,
@@ -191,14 +196,14 @@ pub fn unpack(
             fit: empty_fit(),
         };
     }
-    let p = decode(error, genome, (peak as u16) as f64, theta);
-    let fit = fit_at(
+    let window = window_of(bins, scale, window_end as u16);
+    let fit = unpack_at(
         bins,
-        used,
-        window_end as u16,
+        window,
+        peak as u16,
         error,
         genome,
-        p,
+        theta,
         cost,
         iterations,
         table,

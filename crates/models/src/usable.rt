@@ -1,4 +1,5 @@
-// Whether the model can use a list's parameters. Ported from src/preprocessing/models.rs of bacpop/sparrowhawk-asm, f1f8af1232, Apache-2.0; ported and changed.
+// Whether the model can use a list's parameters.
+// Ported from src/preprocessing/models.rs of bacpop/sparrowhawk-asm, f1f8af1232, Apache-2.0; ported and changed.
 ghost use mathlib.Core.Path.{_≡_};
 ghost use Rattle.models.specs.Usable.{shapeUsable, errorUsable, shelfUsable, paramsUsable};
 use crate::errors::ErrorParams;
@@ -21,19 +22,11 @@ fn error_usable(p: ErrorParams) -> bool
     ensures { λ r. ⌜ r ≡ errorUsable p ⌝ }
 {
     let shape = p.weibull_shape;
-    if is_finite(p.tail_exponent) {} else {
-        return false;
-    }
-    if p.tail_exponent <= 0.0 {
-        return false;
-    }
-    if 0.0 <= p.singleton_probability {} else {
-        return false;
-    }
-    if p.singleton_probability < 1.0 {} else {
-        return false;
-    }
-    shape_usable(shape)
+    is_finite(p.tail_exponent)
+        && !(p.tail_exponent <= 0.0)
+        && 0.0 <= p.singleton_probability
+        && p.singleton_probability < 1.0
+        && shape_usable(shape)
 }
 
 fn shelf_usable(shelf: ShelfPart) -> bool
@@ -49,20 +42,10 @@ pub(crate) fn params_usable(p: Params) -> bool
     ensures { λ r. ⌜ r ≡ paramsUsable p ⌝ }
 {
     let shelf = p.shelf;
-    if is_finite(p.mean) {} else {
-        return false;
-    }
-    if is_finite(p.dispersion) {} else {
-        return false;
-    }
-    if is_finite(p.target_mode) {} else {
-        return false;
-    }
-    if p.mean <= 0.0 {
-        return false;
-    }
-    if error_usable(p.error_params) {} else {
-        return false;
-    }
-    shelf_usable(shelf)
+    is_finite(p.mean)
+        && is_finite(p.dispersion)
+        && is_finite(p.target_mode)
+        && !(p.mean <= 0.0)
+        && error_usable(p.error_params)
+        && shelf_usable(shelf)
 }

@@ -1,4 +1,5 @@
-// Each component's log mass inside the window. Ported from src/preprocessing/models.rs of bacpop/sparrowhawk-asm, f1f8af1232, Apache-2.0; ported and changed.
+// Each component's log mass inside the window.
+// Ported from src/preprocessing/models.rs of bacpop/sparrowhawk-asm, f1f8af1232, Apache-2.0; ported and changed.
 ghost use mathlib.Core.Path.{_≡_};
 ghost use Rattle.models.specs.Masses.{windowMassesOf, massUsable, massesUsable};
 use crate::params::Params;
@@ -33,20 +34,11 @@ pub(crate) fn masses_of(p: Params, table: &[f64], top: u16) -> WindowMasses
 fn mass_usable(mass: f64) -> bool
     ensures { λ r. ⌜ r ≡ massUsable mass ⌝ }
 {
-    if is_finite(mass) {} else {
-        return false;
-    }
-    !(mass > WINDOW_LOG_MASS_TOLERANCE)
+    is_finite(mass) && !(mass > WINDOW_LOG_MASS_TOLERANCE)
 }
 
 pub(crate) fn masses_usable(m: WindowMasses) -> bool
     ensures { λ r. ⌜ r ≡ massesUsable m ⌝ }
 {
-    if mass_usable(m.error) {} else {
-        return false;
-    }
-    if mass_usable(m.single) {} else {
-        return false;
-    }
-    mass_usable(m.repeat)
+    mass_usable(m.error) && mass_usable(m.single) && mass_usable(m.repeat)
 }

@@ -1,8 +1,9 @@
 -- `helpers::shelves::shelf_log_table` meets its contract: each `return` is what the chain answers where the tests are as found. Assumes nothing.
 use mathlib.Core.Path.{_≡_, sym, ap, _∙_}
-use Prim.Native.Nat.{ℕ, _+_}
+use Prim.Native.Nat.{ℕ, suc, _+_}
 use native.Mathlib.Numerals.{add-one}
-use borrow.Author.Tests.{lt-ltb, le-ltb, eq-eqb, ne-eqb, le-leb, lt-leb}
+use native.Mathlib.Omega.{arith}
+use borrow.Author.Tests.{lt-ltb, le-ltb, eq-eqb, ne-eqb}
 use lib.ListN.{length}
 use lib.Ieee.{Float}
 use Rattle.meaning.specs.Reply.{Reply, refuse, give}
@@ -31,13 +32,13 @@ said-3 : (c : tie.Then3) → refuse 10 ≡ shelfLogTableOf (start (c .before) .a
 unfolding shelfLogTableOf
 said-3 c =
     let tests = c .before .before .before in
-    simp (le-ltb _ _ (tests .before .if1 .left), ne-eqb _ _ (tests .if2 .left), sym (last-is (c .before)), le-leb _ _ (c .if3 .taken))
+    simp (le-ltb _ _ (tests .before .if1 .left), ne-eqb _ _ (tests .if2 .left), sym (last-is (c .before)), lt-ltb (length (start (c .before) .args .table .now)) (suc (c .before .last-entry .result)) (omega (arith, c .if3 .taken)))
 
 said-4 : (c : tie.Else3) → give (c .before .last-entry .result + 1) ≡ shelfLogTableOf (start (c .before) .args .mean) (start (c .before) .args .top) (length (start (c .before) .args .table .now))
 unfolding shelfLogTableOf
 said-4 c =
     let tests = c .before .before .before in
-    simp (le-ltb _ _ (tests .before .if1 .left), ne-eqb _ _ (tests .if2 .left), sym (last-is (c .before)), lt-leb _ _ (c .if3 .left), add-one)
+    simp (le-ltb _ _ (tests .before .if1 .left), ne-eqb _ _ (tests .if2 .left), sym (last-is (c .before)), le-ltb (length (start (c .before) .args .table .now)) (suc (c .before .last-entry .result)) (omega (arith, c .if3 .left)), add-one)
 
 returns : tie.Need-returns
 returns c = (said c, table-refused _ _ _ _ 2 (said c))

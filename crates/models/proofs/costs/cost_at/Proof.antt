@@ -1,10 +1,16 @@
 -- `models::costs::cost_at` meets its contract. Assumes nothing.
 use mathlib.Core.Path.{_≡_, refl, sym, ap, _∙_}
-use native.Mathlib.Omega.{arith}
-use lib.Ieee.{div, ofBits}
-use Rattle.models.proofs.Filled.{front-is, front-room}
-use Rattle.models.proofs.Costed.{params-stop, mode-stops, starts, stopped-cost, stopped-table, started-cost, started-table}
+use mathlib.Core.Bool.{true}
+use mathlib.Core.List.{List}
 use borrow.Author.Needs.{needs}
+use borrow.Author.Tests.{not-true, not-false}
+use lib.Ieee.{Float, div, ofBits}
+use lib.ListN.{length}
+use Rattle.models.specs.Costs.{started}
+use Rattle.models.specs.Tables.{entriesIn}
+use Rattle.models.specs.Usable.{paramsUsable}
+use Rattle.models.proofs.Costed.{params-stop, mode-stops, starts, stopped-cost, stopped-table, started-cost, started-table}
+use Rattle.models.proofs.Filled.{front-is, front-room, entries-few}
 use Rattle.models.proofs.costs.cost_at.Statement.{statement}
 use Rattle.models.proofs.costs.cost_at.Tie as tie
 
@@ -14,20 +20,38 @@ params-usable-requires c κs = search needs
 returns : tie.Need-returns
 unfolding div ofBits
 returns c =
-    let stop = params-stop _ (sym (c .before .params-usable .ensures) ∙ c .if1 .left) in
-    (stopped-cost _ _ _ _ stop, stopped-table _ _ _ stop)
+    let stop = params-stop _ (sym (c .before .params-usable .ensures) ∙ not-true _ (c .if1 .taken)) in
+    (stopped-cost _ _ _ _ _ stop, stopped-table _ _ _ stop)
 
 mode-held-requires : tie.Need-mode-held-requires
 mode-held-requires c κs = search needs
 
+-- where the parameters can be used
+usable : (c : tie.Else1) → paramsUsable (c .before .before .before .before .args .p) ≡ true
+usable c = sym (c .before .params-usable .ensures) ∙ not-false _ (c .if1 .left)
+
 returns-2 : tie.Need-returns-2
 unfolding div ofBits
 returns-2 c =
-    let stop = mode-stops _ (sym (c .before .before .before .params-usable .ensures) ∙ c .before .before .if1 .taken) (sym (c .before .mode-held .ensures) ∙ c .if2 .left) in
-    (stopped-cost _ _ _ _ stop, stopped-table _ _ _ stop)
+    let lost = sym (c .before .mode-held .ensures) ∙ not-true _ (c .if2 .taken) in
+    let stop = mode-stops _ (usable (c .before .before)) lost in
+    (stopped-cost _ _ _ _ _ stop, stopped-table _ _ _ stop)
 
 fill-table-requires : tie.Need-fill-table-requires
 fill-table-requires c κs = search needs
+
+-- where the table was written
+module _ (c : tie.After-fill-table) where
+  abbrev start : tie.Start
+  start = c .before .before .before .before .before .before .before .before
+
+  abbrev entries : List Float
+  entries = let a = start .args in entriesIn (a .p .shelf) (a .p .mean) (a .top) (length (a .table .now))
+
+  go : started (start .args .p) ≡ true
+  go =
+      let held = c .before .before in
+      starts _ (usable (held .before .before)) (sym (held .before .mode-held .ensures) ∙ not-false _ (held .if2 .left))
 
 sub-evaluate : tie.Need-sub-evaluate
 sub-evaluate c = search needs
@@ -37,9 +61,11 @@ part-evaluate-start c = search needs
 
 part-evaluate-end : tie.Need-part-evaluate-end
 part-evaluate-end c =
-    let fill = c .before .before .before .fill-table in
-    let start = c .before .before .before .before .before .before .before .before .before .before .before in
-    front-room (start .args .p .shelf) (start .args .p .mean) (start .args .top) (start .args .table .now) _ _ (fill .ensures .0) (fill .ensures .1) (start .pre .0) (omega arith)
+    let filled = c .before .before .before in
+    let fill = filled .fill-table in
+    let a = start filled .args in
+    front-room (entries filled) (a .table .now) _ _ (fill .ensures .0) (fill .ensures .1)
+    (entries-few (a .p .shelf) (a .p .mean) (a .top) (length (a .table .now)))
 
 evaluate-requires : tie.Need-evaluate-requires
 evaluate-requires c κs = search needs
@@ -49,11 +75,11 @@ same-length c = search needs
 
 returns-3 : tie.Need-returns-3
 returns-3 c =
-    let fill = c .before .before .before .before .before .fill-table in
-    let start = c .before .before .before .before .before .before .before .before .before .before .before .before .before in
-    let go = starts _ (sym (c .before .before .before .before .before .before .before .before .before .before .params-usable .ensures) ∙ c .before .before .before .before .before .before .before .before .before .if1 .taken) (sym (c .before .before .before .before .before .before .before .before .mode-held .ensures) ∙ c .before .before .before .before .before .before .before .if2 .taken) in (
-      started-cost _ _ _ _ _ _ go (c .evaluate .ensures) (front-is (start .args .p .shelf) (start .args .p .mean) (start .args .top) (start .args .table .now) _ _ (fill .ensures .0) (fill .ensures .1)),
-      started-table _ _ _ _ go (fill .ensures .1),
+    let filled = c .before .before .before .before .before in
+    let fill = filled .fill-table in (
+      started-cost _ _ _ _ _ _ _ (go filled) (c .evaluate .ensures)
+          (front-is (entries filled) (start filled .args .table .now) _ _ (fill .ensures .0) (fill .ensures .1)),
+      started-table _ _ _ _ (go filled) (fill .ensures .1),
     )
 
 pub cost-at-spec : {M : Type 1} → statement M

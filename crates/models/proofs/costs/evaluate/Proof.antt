@@ -1,8 +1,13 @@
 -- `models::costs::evaluate` meets its contract. Assumes nothing.
 use mathlib.Core.Path.{_≡_, refl, sym, ap, _∙_}
-use lib.Ieee.{div, ofBits}
-use Rattle.models.proofs.Costed.{not-finite, above-zero, at-most-zero, masses-stop, likelihood-stops, evaluates}
+use mathlib.Core.Bool.{true, false}
+use mathlib.Core.Logic.{⊎-elim}
 use borrow.Author.Needs.{needs}
+use borrow.Author.Tests.{not-true, not-false}
+use lib.Ieee.{inf, div, ofBits}
+use Rattle.models.specs.Costs.{likelihoodUsable, evaluatedOf}
+use Rattle.models.specs.Masses.{massesUsable}
+use Rattle.models.proofs.Costed.{not-finite, above-zero, at-most-zero, masses-stop, likelihood-stops, evaluates}
 use Rattle.models.proofs.costs.evaluate.Statement.{statement}
 use Rattle.models.proofs.costs.evaluate.Tie as tie
 
@@ -14,7 +19,9 @@ masses-usable-requires c κs = search needs
 
 returns : tie.Need-returns
 unfolding div ofBits
-returns c = masses-stop _ _ _ _ _ _ (c .before .before .masses-of .ensures) (sym (c .before .masses-usable .ensures) ∙ c .if1 .left)
+returns c =
+    let known = c .before in
+    masses-stop _ _ _ _ _ _ (known .before .masses-of .ensures) (sym (known .masses-usable .ensures) ∙ not-true _ (c .if1 .taken))
 
 likelihood-requires : tie.Need-likelihood-requires
 likelihood-requires c κs = search needs
@@ -22,22 +29,34 @@ likelihood-requires c κs = search needs
 is-finite-requires : tie.Need-is-finite-requires
 is-finite-requires c κs = search needs
 
+-- where the masses can be used and the log-likelihood is known
+module _ (c : tie.After-is-finite) where
+  abbrev start : tie.Start
+  start = c .before .before .before .before .before .before .before
+
+  usable : massesUsable (c .before .before .before .before .masses-of .result) ≡ true
+  usable = sym (c .before .before .before .masses-usable .ensures) ∙ not-false _ (c .before .before .if1 .left)
+
+  stopped : likelihoodUsable (c .before .likelihood .result) ≡ false → let a = start .args in
+      inf false ≡ evaluatedOf (a .bins .now) (a .scale) (a .top) (a .p) (a .table .now)
+  stopped u =
+      let masses = c .before .before .before .before .masses-of .ensures in
+      likelihood-stops _ _ _ _ _ _ masses _ (c .before .likelihood .ensures) usable u
+
 returns-2 : tie.Need-returns-2
-unfolding div ofBits
 returns-2 c =
-    likelihood-stops _ _ _ _ _ _ (c .before .before .before .before .before .masses-of .ensures) _ (c .before .before .likelihood .ensures) (sym (c .before .before .before .before .masses-usable .ensures) ∙ c .before .before .before .if1 .taken)
-    (not-finite _ (sym (c .before .is-finite .ensures) ∙ c .if2 .left))
+    let known = c .before .before in
+    let masses = known .before .before .before .before .masses-of .ensures in
+    evaluates _ _ _ _ _ _ masses _ (known .before .likelihood .ensures) (usable known)
+    (at-most-zero _ (sym (known .is-finite .ensures) ∙ c .before .if2 .taken) (c .if3 .taken))
 
 returns-3 : tie.Need-returns-3
-returns-3 c =
-    evaluates _ _ _ _ _ _ (c .before .before .before .before .before .before .masses-of .ensures) _ (c .before .before .before .likelihood .ensures) (sym (c .before .before .before .before .before .masses-usable .ensures) ∙ c .before .before .before .before .if1 .taken)
-    (at-most-zero _ (sym (c .before .before .is-finite .ensures) ∙ c .before .if2 .taken) (c .if3 .taken))
-
-returns-4 : tie.Need-returns-4
 unfolding div ofBits
-returns-4 c =
-    likelihood-stops _ _ _ _ _ _ (c .before .before .before .before .before .before .masses-of .ensures) _ (c .before .before .before .likelihood .ensures) (sym (c .before .before .before .before .before .masses-usable .ensures) ∙ c .before .before .before .before .if1 .taken)
-    (above-zero _ (sym (c .before .before .is-finite .ensures) ∙ c .before .if2 .taken) (c .if3 .left))
+returns-3 c =
+    let known = c .before in
+    let finite = sym (known .is-finite .ensures) in
+    stopped known
+    (⊎-elim (λ t. above-zero _ (finite ∙ t .0 .taken) (t .1 .left)) (λ t. not-finite _ (finite ∙ t .left)) (c .if2 .came))
 
 pub evaluate-spec : {M : Type 1} → statement M
 evaluate-spec =
@@ -49,5 +68,4 @@ evaluate-spec =
     likelihood-requires
     is-finite-requires
     returns-2
-    returns-3
-    returns-4)
+    returns-3)

@@ -23,7 +23,10 @@ deviance-term-requires c κs = search needs
 
 returns-2 : tie.Need-returns-2
 unfolding seenTerm
-returns-2 c = simp (ne-eqb _ _ (c .before .before .before .before .if1 .left)) (rw (c .deviance-term .ensures, c .before .expected-at .ensures))
+returns-2 c =
+    let expected = c .before in
+    simp (ne-eqb _ _ (expected .before .before .before .if1 .left))
+    (rw (c .deviance-term .ensures, expected .expected-at .ensures))
 
 pub add-deviance-spec : {M : Type 1} → statement M
 add-deviance-spec =

@@ -1,6 +1,6 @@
 -- `models::deviances::conditional_deviance` meets its contract. Assumes nothing.
 use borrow.Author.Needs.{needs}
-use mathlib.Core.Path.{_≡_, ap, _∙_}
+use mathlib.Core.Path.{ap, _∙_}
 use Prim.Native.Nat.{ℕ, _-_}
 use native.Mathlib.Omega.{arith}
 use lib.Ieee.{neg, ofBits}
@@ -12,7 +12,8 @@ use Rattle.models.proofs.deviances.conditional_deviance.Statement.{stat
 use Rattle.models.proofs.deviances.conditional_deviance.Tie as tie
 
 abbrev Inv-loop : tie.InvT-loop
-Inv-loop bins scale top fit total₀ i₀ total i = Folded (observedStep bins scale (devianceAt fit scale)) (neg zero) top total i
+Inv-loop bins scale top fit total₀ i₀ total i =
+    Folded (observedStep bins scale (devianceAt fit scale)) (neg zero) top total i
 
 abbrev μ-loop : tie.MeasureT-loop
 μ-loop bins scale top fit total₀ i₀ total i = top - i
@@ -45,8 +46,11 @@ loop-less c = omega arith
 loop-again : tie.Need-loop-again Inv-loop μ-loop
 loop-again c =
     let at = c .before .before .before in
+    let args = at .before .before .args in
     goes-on _ _ _ (at .loop .inv) _ (omega arith)
-    (c .add-deviance .ensures ∙ ap (λ (n : ℕ). seenTerm n (at .loop .total) (devianceAt (at .before .before .args .fit) (at .before .before .args .scale) n (at .loop .i))) (c .before .recovered-at .ensures))
+    (c .add-deviance .ensures
+    ∙ ap (λ (n : ℕ). seenTerm n (at .loop .total) (devianceAt (args .fit) (args .scale) n (at .loop .i)))
+    (c .before .recovered-at .ensures))
 
 returns : tie.Need-returns Inv-loop μ-loop
 unfolding devianceOf overObserved

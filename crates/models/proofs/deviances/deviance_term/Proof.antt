@@ -1,5 +1,5 @@
 -- `models::deviances::deviance_term` meets its contract. Assumes nothing.
-use lib.Ieee.{div, ofBits}
+use lib.Ieee.{div, round, ofBits}
 use Rattle.models.specs.Deviances.{devianceTerm}
 use borrow.Author.Needs.{needs}
 use Rattle.models.proofs.deviances.deviance_term.Statement.{statement}
@@ -9,7 +9,7 @@ ln-requires : tie.Need-ln-requires
 ln-requires c κs = search needs
 
 returns : tie.Need-returns
-unfolding devianceTerm
+unfolding devianceTerm round ofBits
 returns c = rw (c .before .if1 .taken, c .ln .ensures)
 
 returns-2 : tie.Need-returns-2

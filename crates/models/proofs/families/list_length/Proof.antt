@@ -12,7 +12,12 @@ extra-parameters-requires : tie.Need-extra-parameters-requires
 extra-parameters-requires c κs = search needs
 
 add-result : tie.Need-add-result
-add-result c = record { fits = omega (arith, c .before .parameter-count .ensures, c .extra-parameters .ensures, count-few (c .before .before .args .error), extra-few (c .before .before .args .genome)) }
+add-result c =
+    let counted = c .before in
+    let args = counted .before .args in
+    let one-few = count-few (args .error) in
+    let other-few = extra-few (args .genome) in
+    record { fits = omega (arith, counted .parameter-count .ensures, c .extra-parameters .ensures, one-few, other-few) }
 
 returns : tie.Need-returns
 returns c = search needs

@@ -34,8 +34,12 @@ height-requires-3 c κs = search needs
 returns : tie.Need-returns
 unfolding heightsAt
 returns c =
-    rw (c .height3 .ensures, c .before .height2 .ensures, c .before .before .height .ensures)
-    (rw (c .before .before .before .ln-dnbinom .ensures, c .before .before .before .before .before .ln-single-copy .ensures, c .before .before .before .before .before .before .log-probability .ensures))
+    let second = c .before in
+    let first = second .before in
+    let repeat = first .before in
+    let single = repeat .before .before in
+    rw (c .height3 .ensures, second .height2 .ensures, first .height .ensures)
+    (rw (repeat .ln-dnbinom .ensures, single .ln-single-copy .ensures, single .before .log-probability .ensures))
 
 pub heights-at-spec : {M : Type 1} → statement M
 heights-at-spec =

@@ -13,7 +13,8 @@ use Rattle.models.proofs.likelihoods.likelihood.Statement.{statement}
 use Rattle.models.proofs.likelihoods.likelihood.Tie as tie
 
 abbrev Inv-loop : tie.InvT-loop
-Inv-loop bins scale top p m table steady total₀ i₀ total i = (steady ≡ steadyOf p) × Folded (observedStep bins scale (pointTerm p m table)) (neg zero) top total i
+Inv-loop bins scale top p m table steady total₀ i₀ total i =
+    (steady ≡ steadyOf p) × Folded (observedStep bins scale (pointTerm p m table)) (neg zero) top total i
 
 abbrev μ-loop : tie.MeasureT-loop
 μ-loop bins scale top p m table steady total₀ i₀ total i = top - i

@@ -25,8 +25,9 @@ returns : tie.Need-returns
 returns c =
     let mixed = c .before .before .before .before .before .before .before in
     let second = mixed .before .before in
-    rw (c .lse3 .ensures, mixed .mix-entry .ensures, mixed .before .log-probability-with .ensures, second .density2 .ensures, second .before .density .ensures)
-    (steady-point _ _ _ _ _ (second .before .before .before .pre))
+    let first = second .before in
+    rw (c .lse3 .ensures, mixed .mix-entry .ensures, mixed .before .log-probability-with .ensures)
+    (rw (second .density2 .ensures, first .density .ensures) (steady-point _ _ _ _ _ (first .before .before .pre)))
 
 pub point-spec : {M : Type 1} → statement M
 point-spec =

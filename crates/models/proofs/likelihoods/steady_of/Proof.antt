@@ -16,7 +16,11 @@ shelf-logs-requires : tie.Need-shelf-logs-requires
 shelf-logs-requires c κs = search needs
 
 returns : tie.Need-returns
-returns c = rw (c .shelf-logs .ensures, c .before .ln-tail .ensures, c .before .before .lobe-of2 .ensures, c .before .before .before .before .lobe-of .ensures)
+returns c =
+    let tail = c .before in
+    let second = tail .before in
+    rw
+    (c .shelf-logs .ensures, tail .ln-tail .ensures, second .lobe-of2 .ensures, second .before .before .lobe-of .ensures)
 
 pub steady-of-spec : {M : Type 1} → statement M
 steady-of-spec =

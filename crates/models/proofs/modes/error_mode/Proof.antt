@@ -1,5 +1,5 @@
 -- `models::modes::error_mode` meets its contract. Assumes nothing.
-use mathlib.Core.Path.{_≡_, sym, ap, _∙_}
+use mathlib.Core.Path.{sym, ap, _∙_}
 use borrow.Author.Tests.{lt-ltb, le-ltb, eq-eqb, ne-eqb}
 use Rattle.models.specs.declared.modes.Standing.{Standing}
 use Rattle.meaning.specs.Reply.{give}
@@ -24,14 +24,23 @@ highest-requires c κs = search needs
 
 returns-3 : tie.Need-returns-3
 unfolding errorModeOf
-returns-3 c = simp (le-ltb _ _ (c .before .before .before .if1 .left), ne-eqb _ _ (c .before .before .if2 .left), sym (ap (λ (b : Standing). b .nan) (c .before .highest .ensures)) ∙ c .if3 .taken)
+returns-3 c =
+    let best = c .before in
+    let some = best .before in
+    let flag = ap (λ (b : Standing). b .nan) (best .highest .ensures) in
+    simp (le-ltb _ _ (some .before .if1 .left), ne-eqb _ _ (some .if2 .left), sym flag ∙ c .if3 .taken)
 
 cast-t6 : tie.Need-cast-t6
 cast-t6 c = search needs
 
 returns-4 : tie.Need-returns-4
 unfolding errorModeOf
-returns-4 c = simp (le-ltb _ _ (c .before .before .before .before .if1 .left), ne-eqb _ _ (c .before .before .before .if2 .left), sym (ap (λ (b : Standing). b .nan) (c .before .before .highest .ensures)) ∙ c .before .if3 .left) (ap (λ (b : Standing). give (b .count)) (c .before .before .highest .ensures))
+returns-4 c =
+    let best = c .before .before in
+    let some = best .before in
+    let flag = ap (λ (b : Standing). b .nan) (best .highest .ensures) in
+    simp (le-ltb _ _ (some .before .if1 .left), ne-eqb _ _ (some .if2 .left), sym flag ∙ c .before .if3 .left)
+    (ap (λ (b : Standing). give (b .count)) (best .highest .ensures))
 
 pub error-mode-spec : {M : Type 1} → statement M
 error-mode-spec =

@@ -24,7 +24,8 @@ with-nan-requires c κs = search needs
 later-wins-requires : tie.Need-later-wins-requires
 later-wins-requires c κs = search needs
 
-module _ (p : ErrorParams) (count : ℕ) (best : Standing) (here : Float) (nan : Bool) (e : here ≡ logProbabilityOf p (ofCount count)) (n : nan ≡ withNan (best .nan) here) where
+module _ (p : ErrorParams) (count : ℕ) (best : Standing) (here : Float) (nan : Bool)
+    (e : here ≡ logProbabilityOf p (ofCount count)) (n : nan ≡ withNan (best .nan) here) where
   wins : laterWins (best .log) here ≡ true → stands count here nan ≡ higherOf p count best
   unfolding higherOf
   wins w = rw (n) (rw (e) (simp (sym (ap (laterWins (best .log)) e) ∙ w)))
@@ -34,10 +35,16 @@ module _ (p : ErrorParams) (count : ℕ) (best : Standing) (here : Float) (nan :
   stays w = rw (n) (rw (e) (simp (sym (ap (laterWins (best .log)) e) ∙ w)))
 
 returns : tie.Need-returns
-returns c = wins _ _ _ _ _ (c .before .before .before .log-probability-with .ensures) (c .before .before .with-nan .ensures) (sym (c .before .later-wins .ensures) ∙ c .if1 .taken)
+returns c =
+    let flag = c .before .before in
+    wins _ _ _ _ _ (flag .before .log-probability-with .ensures) (flag .with-nan .ensures)
+    (sym (c .before .later-wins .ensures) ∙ c .if1 .taken)
 
 returns-2 : tie.Need-returns-2
-returns-2 c = stays _ _ _ _ _ (c .before .before .before .log-probability-with .ensures) (c .before .before .with-nan .ensures) (sym (c .before .later-wins .ensures) ∙ c .if1 .left)
+returns-2 c =
+    let flag = c .before .before in
+    stays _ _ _ _ _ (flag .before .log-probability-with .ensures) (flag .with-nan .ensures)
+    (sym (c .before .later-wins .ensures) ∙ c .if1 .left)
 
 pub higher-spec : {M : Type 1} → statement M
 higher-spec =

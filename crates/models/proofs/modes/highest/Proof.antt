@@ -15,7 +15,9 @@ use Rattle.models.proofs.modes.highest.Statement.{statement}
 use Rattle.models.proofs.modes.highest.Tie as tie
 
 abbrev Inv-loop : tie.InvT-loop
-Inv-loop p top best₀ ln-tail count₀ best count = (ln-tail ≡ lnTailOf p) × (1 ≤ count) × (count ≤ top + 1) × (best ≡ fold (higherOf p) 1 count (stands 1 (inf true) false))
+Inv-loop p top best₀ ln-tail count₀ best count =
+    (ln-tail ≡ lnTailOf p) × (1 ≤ count) × (count ≤ top + 1) ×
+    (best ≡ fold (higherOf p) 1 count (stands 1 (inf true) false))
 
 abbrev μ-loop : tie.MeasureT-loop
 μ-loop p top best₀ ln-tail count₀ best count = top + 1 - count
@@ -24,7 +26,12 @@ ln-tail-requires : tie.Need-ln-tail-requires Inv-loop μ-loop
 ln-tail-requires c κs = search needs
 
 loop-holds : tie.Need-loop-holds Inv-loop μ-loop
-loop-holds c = (c .ln-tail .ensures, omega arith, omega arith, unfold div neg ofBits in sym (fold-none (higherOf _) 1 1 _ (omega arith)))
+loop-holds c = (
+  c .ln-tail .ensures,
+  omega arith,
+  omega arith,
+  unfold div neg ofBits in sym (fold-none (higherOf _) 1 1 _ (omega arith)),
+)
 
 higher-requires : tie.Need-higher-requires Inv-loop μ-loop
 higher-requires c κs = c .before .loop .inv .0
@@ -37,10 +44,15 @@ loop-less c = omega arith
 
 loop-again : tie.Need-loop-again Inv-loop μ-loop
 loop-again c =
-    let inv = c .before .before .loop .inv in
-    (inv .0, omega arith, omega arith, c .higher .ensures ∙ ap (higherOf _ _) (inv .3) ∙ sym (fold-more (higherOf _) 1 _ _ (inv .1)))
+    let inv = c .before .before .loop .inv in (
+      inv .0,
+      omega arith,
+      omega arith,
+      c .higher .ensures ∙ ap (higherOf _ _) (inv .3) ∙ sym (fold-more (higherOf _) 1 _ _ (inv .1)),
+    )
 
-ends : (p : ErrorParams) (top count : ℕ) (best : Standing) → count ≤ top + 1 → top < count → best ≡ fold (higherOf p) 1 count (stands 1 (inf true) false) → best ≡ highestOf p top
+ends : (p : ErrorParams) (top count : ℕ) (best : Standing) → count ≤ top + 1 → top < count
+    → best ≡ fold (higherOf p) 1 count (stands 1 (inf true) false) → best ≡ highestOf p top
 unfolding highestOf
 ends p top count best h k e =
     let reached : count ≡ top + 1 = omega arith in

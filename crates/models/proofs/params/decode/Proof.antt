@@ -1,4 +1,5 @@
 -- `models::params::decode` meets its contract. Assumes nothing.
+use Prim.Native.Nat.{_≤_}
 use native.Mathlib.Omega.{arith}
 use Rattle.models.specs.Params.{paramsOf}
 use Rattle.models.proofs.Lengths.{count-few}
@@ -42,20 +43,27 @@ at-requires-7 c κs = search needs
 error-params-at-requires : tie.Need-error-params-at-requires
 error-params-at-requires c κs = search needs
 
+-- the place after the list's base is known
+abbrev based : tie.After-error-params-at → tie.After-parameter-count
+based c = c .before .before .before .before .before .before .before .before .before .before .before
+
+base-few : (c : tie.After-error-params-at) → based c .parameter-count .result ≤ 7
+base-few c = omega (arith, based c .parameter-count .ensures, count-few (based c .before .before .args .error))
+
 add-at : tie.Need-add-at
-add-at c = record { fits = omega (arith, c .before .before .before .before .before .before .before .before .before .before .before .parameter-count .ensures, count-few (c .before .before .before .before .before .before .before .before .before .before .before .before .before .args .error)) }
+add-at c = record { fits = omega (arith, base-few c) }
 
 at-requires-8 : tie.Need-at-requires-8
 at-requires-8 c κs = search needs
 
 add-at-2 : tie.Need-add-at-2
-add-at-2 c = record { fits = omega (arith, c .before .before .before .before .before .before .before .before .before .before .before .before .parameter-count .ensures, count-few (c .before .before .before .before .before .before .before .before .before .before .before .before .before .before .args .error)) }
+add-at-2 c = record { fits = omega (arith, base-few (c .before)) }
 
 at-requires-9 : tie.Need-at-requires-9
 at-requires-9 c κs = search needs
 
 add-at-3 : tie.Need-add-at-3
-add-at-3 c = record { fits = omega (arith, c .before .before .before .before .before .before .before .before .before .before .before .before .before .parameter-count .ensures, count-few (c .before .before .before .before .before .before .before .before .before .before .before .before .before .before .before .args .error)) }
+add-at-3 c = record { fits = omega (arith, base-few (c .before .before)) }
 
 at-requires-10 : tie.Need-at-requires-10
 at-requires-10 c κs = search needs
@@ -71,7 +79,44 @@ ratio-at-requires c κs = search needs
 
 returns : tie.Need-returns
 unfolding paramsOf
-returns c = rw (c .ratio-at .ensures, c .before .at11 .ensures, c .before .before .shelf-part-at .ensures, c .before .before .before .at10 .ensures, c .before .before .before .before .at9 .ensures, c .before .before .before .before .before .at8 .ensures, c .before .before .before .before .before .before .error-params-at .ensures, c .before .before .before .before .before .before .before .at7 .ensures, c .before .before .before .before .before .before .before .before .at6 .ensures, c .before .before .before .before .before .before .before .before .before .at5 .ensures, c .before .before .before .before .before .before .before .before .before .before .exp .ensures, c .before .before .before .before .before .before .before .before .before .before .before .at4 .ensures, c .before .before .before .before .before .before .before .before .before .before .before .before .mode-at .ensures, c .before .before .before .before .before .before .before .before .before .before .before .before .before .at3 .ensures, c .before .before .before .before .before .before .before .before .before .before .before .before .before .before .ln-softmax3 .ensures, c .before .before .before .before .before .before .before .before .before .before .before .before .before .before .before .at2 .ensures, c .before .before .before .before .before .before .before .before .before .before .before .before .before .before .before .before .at .ensures, c .before .before .before .before .before .before .before .before .before .before .before .before .before .before .before .before .before .parameter-count .ensures)
+returns c =
+    let at11 = c .before in
+    let shelf = at11 .before in
+    let at10 = shelf .before in
+    let at9 = at10 .before in
+    let at8 = at9 .before in
+    let errors = at8 .before in
+    let at7 = errors .before in
+    let at6 = at7 .before in
+    let at5 = at6 .before in
+    let spread = at5 .before in
+    let at4 = spread .before in
+    let mode = at4 .before in
+    let at3 = mode .before in
+    let weights = at3 .before in
+    let at2 = weights .before in
+    let at1 = at2 .before in
+    let base = at1 .before in
+    rw (
+      c .ratio-at .ensures,
+      at11 .at11 .ensures,
+      shelf .shelf-part-at .ensures,
+      at10 .at10 .ensures,
+      at9 .at9 .ensures,
+      at8 .at8 .ensures,
+      errors .error-params-at .ensures,
+      at7 .at7 .ensures,
+      at6 .at6 .ensures,
+      at5 .at5 .ensures,
+      spread .exp .ensures,
+      at4 .at4 .ensures,
+      mode .mode-at .ensures,
+      at3 .at3 .ensures,
+      weights .ln-softmax3 .ensures,
+      at2 .at2 .ensures,
+      at1 .at .ensures,
+      base .parameter-count .ensures,
+    )
 
 pub decode-spec : {M : Type 1} → statement M
 decode-spec =

@@ -19,12 +19,10 @@ enum-told-2 : tie.Need-enum-told-2
 enum-told-2 c = search needs
 
 returns : tie.Need-returns
-returns c =
-    let told = c .before in
-    rw (told .enum-told .given .1, c .exp2 .ensures, told .before .before .exp .ensures, told .before .before .before .sigmoid .ensures)
+returns c = cc
 
 returns-2 : tie.Need-returns-2
-returns-2 c = rw (c .enum-told2 .given .1, c .before .before .exp .ensures, c .before .before .before .sigmoid .ensures)
+returns-2 c = cc
 
 pub error-params-at-spec : {M : Type 1} → statement M
 error-params-at-spec =

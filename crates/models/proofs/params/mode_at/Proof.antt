@@ -1,4 +1,5 @@
 -- `models::params::mode_at` meets its contract. Assumes nothing.
+use lib.Ieee.{round, ofBits}
 use Rattle.models.specs.Params.{modeOf}
 use borrow.Author.Needs.{needs}
 use Rattle.models.proofs.params.mode_at.Statement.{statement}
@@ -8,7 +9,7 @@ exp-requires : tie.Need-exp-requires
 exp-requires c κs = search needs
 
 returns : tie.Need-returns
-unfolding modeOf
+unfolding modeOf round ofBits
 returns c = rw (c .exp .ensures)
 
 pub mode-at-spec : {M : Type 1} → statement M

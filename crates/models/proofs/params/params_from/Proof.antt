@@ -22,7 +22,8 @@ returns-3 : tie.Need-returns-3
 unfolding paramsAnswerOf
 returns-3 c =
     let tests = c .before .before in
-    simp (le-ltb _ _ (tests .before .if1 .left), le-ltb _ _ (tests .if2 .left), sym (c .before .list-length .ensures), ne-eqb _ _ (c .if3 .taken))
+    let few = le-ltb _ _ (tests .if2 .left) in
+    simp (le-ltb _ _ (tests .before .if1 .left), few, sym (c .before .list-length .ensures), ne-eqb _ _ (c .if3 .taken))
 
 cast-decode : tie.Need-cast-decode
 cast-decode c = search needs
@@ -38,7 +39,10 @@ unfolding paramsAnswerOf
 returns-4 c =
     let last = c .before .before in
     let tests = last .before .before in
-    simp (le-ltb _ _ (tests .before .if1 .left), le-ltb _ _ (tests .if2 .left), sym (last .before .list-length .ensures), eq-eqb _ _ (last .if3 .left)) (ap give (c .decode .ensures))
+    let few = le-ltb _ _ (tests .if2 .left) in
+    let listed = sym (last .before .list-length .ensures) in
+    simp (le-ltb _ _ (tests .before .if1 .left), few, listed, eq-eqb _ _ (last .if3 .left))
+    (ap give (c .decode .ensures))
 
 pub params-from-spec : {M : Type 1} → statement M
 params-from-spec =

@@ -1,4 +1,5 @@
 -- `models::params::ratio_at` meets its contract. Assumes nothing.
+use lib.Ieee.{round, ofBits}
 use Rattle.models.specs.Params.{ratioOf}
 use borrow.Author.Needs.{needs}
 use Rattle.models.proofs.params.ratio_at.Statement.{statement}
@@ -8,7 +9,7 @@ sigmoid-requires : tie.Need-sigmoid-requires
 sigmoid-requires c κs = search needs
 
 returns : tie.Need-returns
-unfolding ratioOf
+unfolding ratioOf round ofBits
 returns c = rw (c .sigmoid .ensures)
 
 pub ratio-at-spec : {M : Type 1} → statement M

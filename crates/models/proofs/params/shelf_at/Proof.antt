@@ -1,4 +1,5 @@
 -- `models::params::shelf_at` meets its contract. Assumes nothing.
+use lib.Ieee.{round, ofBits}
 use Rattle.models.specs.Params.{shelfAt}
 use borrow.Author.Needs.{needs}
 use Rattle.models.proofs.params.shelf_at.Statement.{statement}
@@ -20,11 +21,13 @@ from-retained-requires : tie.Need-from-retained-requires
 from-retained-requires c κs = search needs
 
 returns : tie.Need-returns
-unfolding shelfAt
+unfolding shelfAt round ofBits
 returns c =
     let third = c .before .before in
-    let made = third .before .before .before in
-    rw (c .from-retained .ensures, third .sigmoid3 .ensures, third .before .before .sigmoid2 .ensures, made .shelf-concentration-bounds .ensures, made .before .sigmoid .ensures)
+    let second = third .before .before in
+    let made = second .before in
+    rw (c .from-retained .ensures, third .sigmoid3 .ensures, second .sigmoid2 .ensures)
+    (rw (made .shelf-concentration-bounds .ensures, made .before .sigmoid .ensures))
 
 pub shelf-at-spec : {M : Type 1} → statement M
 shelf-at-spec =

@@ -1,6 +1,4 @@
 -- `models::params::shelf_part_at` meets its contract. Assumes nothing.
-use mathlib.Core.Path.{ap}
-use Rattle.helpers.specs.declared.shelves.ShelfPart.the-variants.{Present}
 use borrow.Author.Needs.{needs}
 use Rattle.models.proofs.params.shelf_part_at.Statement.{statement}
 use Rattle.models.proofs.params.shelf_part_at.Tie as tie
@@ -18,7 +16,7 @@ returns : tie.Need-returns
 returns c = search needs
 
 returns-2 : tie.Need-returns-2
-returns-2 c = rw (c .before .enum-told2 .given .1) (ap Present (c .shelf-at .ensures))
+returns-2 c = cc
 
 pub shelf-part-at-spec : {M : Type 1} → statement M
 shelf-part-at-spec = tie.close (tie.spec enum-told enum-told-2 shelf-at-requires returns returns-2)

@@ -15,7 +15,7 @@ to-u32-requires c κs = search needs
 
 returns : tie.Need-returns
 unfolding roundedQuotientOf
-returns c = rw (c .to-u32 .ensures, c .before .round .ensures)
+returns c = cc
 
 pub rounded-quotient-spec : {M : Type 1} → statement M
 rounded-quotient-spec =

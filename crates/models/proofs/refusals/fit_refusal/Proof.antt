@@ -1,126 +1,144 @@
--- `models::refusals::fit_refusal` meets its contract: a test that does not hold is passed over, once for all behind it. Assumes nothing.
-use Prim.Native.Nat.{ℕ}
-use mathlib.Core.Path.{_≡_, sym, ap, _∙_}
+-- `models::refusals::fit_refusal` meets its contract: a row that has no number is passed over, once for all behind it.
+-- Assumes nothing.
+use Prim.Native.Nat.{ℕ, _<_}
+use mathlib.Core.Path.{_≡_, refl, sym, ap, _∙_}
 use mathlib.Core.Bool.{not}
-use mathlib.Core.List.{List}
+use mathlib.Core.List.{List, [], _∷_}
+use mathlib.Core.Logic.{inl, inr, ⊎-elim}
+use native.Mathlib.Omega.{arith}
 use borrow.Author.Needs.{needs}
-use borrow.Author.Tests.{lt-ltb, le-ltb, eq-eqb, ne-eqb}
-use lib.Dec.{ltb, eqb}
-use lib.ListN.{drop}
+use borrow.Author.Tests.{eq-eqb, ne-eqb, ltb-true, ltb-false}
+use lib.Dec.{eqb}
+use lib.ListN.{length}
 use Rattle.meaning.specs.Reply.{Test, firstOf}
-use Rattle.models.specs.Refusals.{fitTests}
+use Rattle.meaning.specs.Rows.{most, inOrder, few, many}
+use Rattle.meaning.proofs.Chains.{stops, goes-on}
+use Rattle.meaning.proofs.Rows.{Some, few-clear, few-found, many-clear, many-found}
+use Rattle.models.specs.Refusals.{spectrumTests, wrongList, shortTable, fitTests}
 use Rattle.models.proofs.refusals.fit_refusal.Statement.{statement}
 use Rattle.models.proofs.refusals.fit_refusal.Tie as tie
 
-abbrev tests : tie.Start → List Test
-tests s = let a = s .args in fitTests (a .bins .now) (a .scale) (a .window-end) (a .peak) (a .error) (a .genome) (a .listed) (a .room)
+-- ---- the rows: each, and all behind it
+module _ (s : tie.Start) where
+  abbrev bins : ℕ
+  bins = length (s .args .bins .now)
 
--- the first k tests do not hold
-abbrev Past : tie.Start → ℕ → Type 0
-Past s k = (r : ℕ) → r ≡ firstOf (drop k (tests s)) → r ≡ firstOf (tests s)
+  abbrev lows : List ℕ
+  lows = s .args .peak ∷ bins ∷ []
+
+  abbrev highs : List ℕ
+  highs = bins ∷ s .args .peak ∷ s .args .window-end ∷ []
+
+  abbrev low : List Test
+  low = few lows
+
+  abbrev high : List Test
+  high = many highs
+
+  abbrev spectrum : List Test
+  spectrum = let a = s .args in spectrumTests (a .bins .now) (a .scale) (a .window-end)
+
+  abbrev list : List Test
+  list = let a = s .args in wrongList (a .listed) (a .error) (a .genome)
+
+  abbrev table : List (List Test)
+  table = let a = s .args in shortTable (a .genome) (a .window-end) (a .room) ∷ []
+
+  abbrev after-spectrum : List (List Test)
+  after-spectrum = list ∷ table
+
+  abbrev after-high : List (List Test)
+  after-high = spectrum ∷ after-spectrum
+
+  abbrev all : List Test
+  all =
+      let a = s .args in
+      fitTests (a .bins .now) (a .scale) (a .window-end) (a .peak) (a .error) (a .genome) (a .listed) (a .room)
+
+  -- the number of these last rows is that of all
+  abbrev Number : List (List Test) → Type 0
+  Number rows = (n : ℕ) → n ≡ firstOf (inOrder rows) → n ≡ firstOf all
+
+-- ---- 1
+abbrev start-low : tie.Else2 → tie.Start
+start-low c = c .before .before .before
 
 returns : tie.Need-returns
 unfolding fitTests
-returns c = simp (lt-ltb _ _ (c .if1 .taken))
+returns c =
+    let s = c .before .before in
+    let which : Some (λ (n : ℕ). n < 2) (lows s) =
+    ⊎-elim (λ t. inl (t .taken)) (λ t. inr (inl (ltb-true _ _ (t .1 .taken)))) (c .if1 .came) in
+    stops (low s) (inOrder (high s ∷ after-high s)) 1 (few-found (lows s) which) (omega arith)
 
-past-1 : (c : tie.Else1) → Past (c .before .before) 1
+past-low : (c : tie.Else2) → Number (start-low c) (high (start-low c) ∷ after-high (start-low c))
 unfolding fitTests
-past-1 c r h = simp (le-ltb _ _ (c .if1 .left)) h
+past-low c =
+    let s = start-low c in
+    let none = few-clear (lows s) (c .before .if1 .left, (ltb-false _ _ (c .if2 .left), tt)) in
+    goes-on (low s) (inOrder (high s ∷ after-high s)) refl none
 
+-- ---- 2
 returns-2 : tie.Need-returns-2
-unfolding fitTests
-returns-2 c = past-1 (c .before) _ (simp (lt-ltb _ _ (c .if2 .taken)))
+returns-2 c =
+    let s = start-low (c .before) in
+    let which : Some (λ (n : ℕ). most < n) (highs s) =
+    ⊎-elim (λ t. inl (t .taken))
+    (⊎-elim (λ t. inr (inl (ltb-true _ _ (t .1 .taken)))) (λ t. inr (inr (inl (ltb-true _ _ (t .2 .taken))))))
+    (c .if3 .came) in
+    past-low (c .before) 2 (stops (high s) (inOrder (after-high s)) 2 (many-found (highs s) which) (omega arith))
 
-past-2 : (c : tie.Else2) → Past (c .before .before .before) 2
-unfolding fitTests
-past-2 c r h = past-1 (c .before) r (simp (le-ltb _ _ (c .if2 .left)) h)
+abbrev start-high : tie.Else5 → tie.Start
+start-high c = start-low (c .before .before .before)
+
+past-high : (c : tie.Else5) → Number (start-high c) (after-high (start-high c))
+past-high c n h =
+    let s = start-high c in
+    let none = many-clear (highs s)
+    (c .before .before .if3 .left, (ltb-false _ _ (c .before .if4 .left), (ltb-false _ _ (c .if5 .left), tt))) in
+    past-low (c .before .before .before) n (goes-on (high s) (inOrder (after-high s)) refl none n h)
+
+-- ---- 4, 5 and 6
+spectrum-refusal-requires : tie.Need-spectrum-refusal-requires
+spectrum-refusal-requires c κs = search needs
 
 returns-3 : tie.Need-returns-3
-unfolding fitTests
-returns-3 c = past-2 (c .before) _ (simp (lt-ltb _ _ (c .if3 .taken)))
+returns-3 c =
+    let s = start-high (c .before .before) in
+    let first = c .before .spectrum-refusal .ensures in
+    past-high (c .before .before) _
+    (stops (spectrum s) (inOrder (after-spectrum s)) _ first (omega (arith, c .if6 .taken)))
 
-past-3 : (c : tie.Else3) → Past (c .before .before .before .before) 3
-unfolding fitTests
-past-3 c r h = past-2 (c .before) r (simp (le-ltb _ _ (c .if3 .left)) h)
+abbrev start-spectrum : tie.Else6 → tie.Start
+start-spectrum c = start-high (c .before .before)
 
-returns-4 : tie.Need-returns-4
-unfolding fitTests
-returns-4 c = past-3 (c .before) _ (simp (lt-ltb _ _ (c .if4 .taken)))
+past-spectrum : (c : tie.Else6) → Number (start-spectrum c) (after-spectrum (start-spectrum c))
+past-spectrum c n h =
+    let s = start-spectrum c in
+    let none = sym (c .if6 .left) ∙ c .before .spectrum-refusal .ensures in
+    past-high (c .before .before) n
+    (goes-on (spectrum s) (inOrder (after-spectrum s)) (unfold spectrumTests in refl) none n h)
 
-past-4 : (c : tie.Else4) → Past (c .before .before .before .before .before) 4
-unfolding fitTests
-past-4 c r h = past-3 (c .before) r (simp (le-ltb _ _ (c .if4 .left)) h)
-
-returns-5 : tie.Need-returns-5
-unfolding fitTests
-returns-5 c = past-4 (c .before) _ (simp (lt-ltb _ _ (c .if5 .taken)))
-
-past-5 : (c : tie.Else5) → Past (c .before .before .before .before .before .before) 5
-unfolding fitTests
-past-5 c r h = past-4 (c .before) r (simp (le-ltb _ _ (c .if5 .left)) h)
-
-all-zero-requires : tie.Need-all-zero-requires
-all-zero-requires c κs = search needs
-
-returns-6 : tie.Need-returns-6
-unfolding fitTests
-returns-6 c = past-5 (c .before .before) _ (simp (sym (c .before .all-zero .ensures) ∙ c .if6 .taken))
-
-past-6 : (c : tie.Else6) → Past (c .before .before .before .before .before .before .before .before) 6
-unfolding fitTests
-past-6 c r h = past-5 (c .before .before) r (simp (sym (c .before .all-zero .ensures) ∙ c .if6 .left) h)
-
-returns-7 : tie.Need-returns-7
-unfolding fitTests
-returns-7 c = past-6 (c .before) _ (simp (eq-eqb _ _ (c .if7 .taken)))
-
-past-7 : (c : tie.Else7) → Past (c .before .before .before .before .before .before .before .before .before) 7
-unfolding fitTests
-past-7 c r h = past-6 (c .before) r (simp (ne-eqb _ _ (c .if7 .left)) h)
-
-returns-8 : tie.Need-returns-8
-unfolding fitTests
-returns-8 c = past-7 (c .before) _ (simp (lt-ltb _ _ (c .if8 .taken)))
-
-past-8 : (c : tie.Else8) → Past (c .before .before .before .before .before .before .before .before .before .before) 8
-unfolding fitTests
-past-8 c r h = past-7 (c .before) r (simp (le-ltb _ _ (c .if8 .left)) h)
-
-cast-none-recovered : tie.Need-cast-none-recovered
-cast-none-recovered c = search needs
-
-none-recovered-requires : tie.Need-none-recovered-requires
-none-recovered-requires c κs = search needs
-
-returns-9 : tie.Need-returns-9
-unfolding fitTests
-returns-9 c = past-8 (c .before .before) _ (simp (sym (c .before .none-recovered .ensures) ∙ c .if9 .taken))
-
-past-9 : (c : tie.Else9) → Past (c .before .before .before .before .before .before .before .before .before .before .before .before) 9
-unfolding fitTests
-past-9 c r h = past-8 (c .before .before) r (simp (sym (c .before .none-recovered .ensures) ∙ c .if9 .left) h)
-
+-- ---- 7
 list-length-requires : tie.Need-list-length-requires
 list-length-requires c κs = search needs
 
-returns-10 : tie.Need-returns-10
-unfolding fitTests
-returns-10 c = past-9 (c .before .before) _ (simp (ap not (ap (eqb _) (sym (c .before .list-length .ensures)) ∙ ne-eqb _ _ (c .if10 .taken))))
+returns-4 : tie.Need-returns-4
+returns-4 c =
+    let wrong = ap (eqb _) (sym (c .before .list-length .ensures)) ∙ ne-eqb _ _ (c .if7 .taken) in
+    past-spectrum (c .before .before) 7 (simp (ap not wrong))
 
-past-10 : (c : tie.Else10) → Past (c .before .before .before .before .before .before .before .before .before .before .before .before .before .before) 10
-unfolding fitTests
-past-10 c r h = past-9 (c .before .before) r (simp (ap not (eq-eqb _ _ (c .if10 .left ∙ c .before .list-length .ensures))) h)
+past-list : (c : tie.Else7) → Number (start-spectrum (c .before .before)) (table (start-spectrum (c .before .before)))
+past-list c n h =
+    let right = eq-eqb _ _ (c .if7 .left ∙ c .before .list-length .ensures) in
+    past-spectrum (c .before .before) n (simp (ap not right) h)
 
-table-demand-requires : tie.Need-table-demand-requires
-table-demand-requires c κs = search needs
+-- ---- 10
+table-refusal-requires : tie.Need-table-refusal-requires
+table-refusal-requires c κs = search needs
 
-returns-11 : tie.Need-returns-11
-unfolding fitTests
-returns-11 c = past-10 (c .before .before) _ (simp (ap (ltb _) (sym (c .before .table-demand .ensures)) ∙ lt-ltb _ _ (c .if11 .taken)))
-
-returns-12 : tie.Need-returns-12
-unfolding fitTests
-returns-12 c = past-10 (c .before .before) _ (simp (ap (ltb _) (sym (c .before .table-demand .ensures)) ∙ le-ltb _ _ (c .if11 .left)))
+returns-5 : tie.Need-returns-5
+returns-5 c = past-list (c .before) _ (c .table-refusal .ensures)
 
 pub fit-refusal-spec : {M : Type 1} → statement M
 fit-refusal-spec =
@@ -128,18 +146,9 @@ fit-refusal-spec =
     (tie.spec
     returns
     returns-2
+    spectrum-refusal-requires
     returns-3
-    returns-4
-    returns-5
-    all-zero-requires
-    returns-6
-    returns-7
-    returns-8
-    cast-none-recovered
-    none-recovered-requires
-    returns-9
     list-length-requires
-    returns-10
-    table-demand-requires
-    returns-11
-    returns-12)
+    returns-4
+    table-refusal-requires
+    returns-5)

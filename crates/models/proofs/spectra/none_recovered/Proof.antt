@@ -20,9 +20,6 @@ abbrev μ-loop : tie.MeasureT-loop
 loop-holds : tie.Need-loop-holds Inv-loop μ-loop
 loop-holds c = begins _ _ _
 
-cast-recovered-at : tie.Need-cast-recovered-at Inv-loop μ-loop
-cast-recovered-at c = search needs
-
 recovered-at-requires : tie.Need-recovered-at-requires Inv-loop μ-loop
 recovered-at-requires c κs = search needs
 
@@ -48,7 +45,6 @@ none-recovered-spec =
     Inv-loop
     μ-loop
     loop-holds
-    cast-recovered-at
     recovered-at-requires
     returns
     add-i

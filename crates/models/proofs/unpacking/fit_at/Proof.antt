@@ -1,14 +1,24 @@
 -- `models::unpacking::fit_at` meets its contract. Assumes nothing.
-use mathlib.Core.Path.{_≡_, sym, ap, _∙_}
-use native.Mathlib.Omega.{arith}
-use Rattle.models.proofs.Filled.{front-is, front-room}
-use Rattle.models.proofs.Unpacked.{fit-is}
+use mathlib.Core.List.{List}
 use borrow.Author.Needs.{needs}
+use lib.Ieee.{Float}
+use lib.ListN.{length}
+use Rattle.models.specs.Tables.{entriesIn}
+use Rattle.models.proofs.Filled.{front-is, front-room, entries-few}
+use Rattle.models.proofs.Unpacked.{fit-is}
 use Rattle.models.proofs.unpacking.fit_at.Statement.{statement}
 use Rattle.models.proofs.unpacking.fit_at.Tie as tie
 
 fill-table-requires : tie.Need-fill-table-requires
 fill-table-requires c κs = search needs
+
+-- where the table was written
+module _ (c : tie.After-fill-table) where
+  abbrev start : tie.Start
+  start = c .before .before .before .before
+
+  abbrev entries : List Float
+  entries = let a = start .args in entriesIn (a .p .shelf) (a .p .mean) (a .window .end) (length (a .table .now))
 
 sub-masses-of : tie.Need-sub-masses-of
 sub-masses-of c = search needs
@@ -18,31 +28,30 @@ part-masses-of-start c = search needs
 
 part-masses-of-end : tie.Need-part-masses-of-end
 part-masses-of-end c =
-    let fill = c .before .before .before .fill-table in
-    let start = c .before .before .before .before .before .before .before in
-    front-room (start .args .p .shelf) (start .args .p .mean) (start .args .top) (start .args .table .now) _ _ (fill .ensures .0) (fill .ensures .1) (start .pre .0) (omega arith)
+    let filled = c .before .before .before in
+    let fill = filled .fill-table in
+    let a = start filled .args in
+    front-room (entries filled) (a .table .now) _ _ (fill .ensures .0) (fill .ensures .1)
+    (entries-few (a .p .shelf) (a .p .mean) (a .window .end) (length (a .table .now)))
 
 masses-of-requires : tie.Need-masses-of-requires
 masses-of-requires c κs = search needs
 
-fit-before-deviance-requires : tie.Need-fit-before-deviance-requires
-fit-before-deviance-requires c κs = search needs
-
-conditional-deviance-requires : tie.Need-conditional-deviance-requires
-conditional-deviance-requires c κs = search needs
-
-with-deviance-requires : tie.Need-with-deviance-requires
-with-deviance-requires c κs = search needs
+fit-of-requires : tie.Need-fit-of-requires
+fit-of-requires c κs = search needs
 
 same-length : tie.Need-same-length
 same-length c = search needs
 
 returns : tie.Need-returns
 returns c =
-    let fill = c .before .before .before .before .before .before .before .before .fill-table in
-    let start = c .before .before .before .before .before .before .before .before .before .before .before .before in (
-      fit-is (start .args .bins .now) (start .args .scale) (start .args .top) (start .args .error) (start .args .genome) (start .args .p) (start .args .cost) (start .args .iterations) _ _ _ _ _
-          (front-is (start .args .p .shelf) (start .args .p .mean) (start .args .top) (start .args .table .now) _ _ (fill .ensures .0) (fill .ensures .1)) (c .before .before .before .masses-of .ensures) (c .before .before .fit-before-deviance .ensures) (c .before .conditional-deviance .ensures) (c .with-deviance .ensures),
+    let measured = c .before in
+    let filled = measured .before .before .before .before .before in
+    let fill = filled .fill-table in
+    let a = start filled .args in (
+      fit-is (a .bins .now) (a .window) (a .error) (a .genome) (a .p) (a .cost) (a .iterations) _ (entries filled) _ _
+          (front-is (entries filled) (a .table .now) _ _ (fill .ensures .0) (fill .ensures .1))
+          (measured .masses-of .ensures) (c .fit-of .ensures),
       fill .ensures .1,
     )
 
@@ -55,8 +64,6 @@ fit-at-spec =
     part-masses-of-start
     part-masses-of-end
     masses-of-requires
-    fit-before-deviance-requires
-    conditional-deviance-requires
-    with-deviance-requires
+    fit-of-requires
     same-length
     returns)

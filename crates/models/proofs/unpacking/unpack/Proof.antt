@@ -1,14 +1,12 @@
--- `models::unpacking::unpack` meets its contract. Assumes nothing.
-use mathlib.Core.Path.{_≡_, sym, _∙_}
+-- `models::unpacking::unpack` meets its contract: the refusals, then what `unpack_at` answers. Assumes nothing.
+use Prim.Native.Nat.{_<_}
 use native.Mathlib.Omega.{arith}
-use Rattle.models.proofs.Passed.{passed, passed-roomy}
-use Rattle.models.proofs.Unpacked.{refused-answer, refused-table, given-answer, given-table}
 use borrow.Author.Needs.{needs}
+use lib.ListN.{length}
+use Rattle.models.proofs.Passed.{Passed, all-passed}
+use Rattle.models.proofs.Unpacked.{refused-answer, refused-table, given-answer, given-table}
 use Rattle.models.proofs.unpacking.unpack.Statement.{statement}
 use Rattle.models.proofs.unpacking.unpack.Tie as tie
-
-used-scale-requires : tie.Need-used-scale-requires
-used-scale-requires c κs = search needs
 
 fit-refusal-requires : tie.Need-fit-refusal-requires
 fit-refusal-requires c κs = search needs
@@ -16,54 +14,69 @@ fit-refusal-requires c κs = search needs
 empty-fit-requires : tie.Need-empty-fit-requires
 empty-fit-requires c κs = search needs
 
+abbrev start : tie.After-fit-refusal → tie.Start
+start c = c .before .before .before .before
+
 returns : tie.Need-returns
 returns c =
-    let start = c .before .before .before .before .before .before .before in
-    let refusal = c .before .before .fit-refusal in (
-      refused-answer (start .args .bins .now) (start .args .scale) _ (start .args .window-end) (start .args .peak) (start .args .error) (start .args .genome) (start .args .theta .now) (start .args .cost) (start .args .iterations) (c .before .before .before .used-scale .ensures) (start .args .table .now) _ (refusal .ensures) _ (omega (arith, c .before .if1 .taken)) (c .empty-fit .ensures),
-      refused-table (start .args .bins .now) (start .args .scale) _ (start .args .window-end) (start .args .peak) (start .args .error) (start .args .genome) (start .args .theta .now) (start .args .cost) (start .args .iterations) (c .before .before .before .used-scale .ensures) (start .args .table .now) _ (refusal .ensures) _ (omega (arith, c .before .if1 .taken)) (c .empty-fit .ensures),
+    let refusal = c .before .before in
+    let a = start refusal .args in
+    let first = refusal .fit-refusal .ensures in
+    let some : 0 < refusal .fit-refusal .result = omega (arith, c .before .if1 .taken) in (
+      refused-answer (a .bins .now) (a .scale) (a .window-end) (a .peak) (a .error) (a .genome) (a .theta .now)
+          (a .table .now) _ first (a .cost) (a .iterations) _ some (c .empty-fit .ensures),
+      refused-table (a .bins .now) (a .scale) (a .window-end) (a .peak) (a .error) (a .genome) (a .theta .now)
+          (a .table .now) _ first (a .cost) (a .iterations) _ some (c .empty-fit .ensures),
     )
 
-cast-decode : tie.Need-cast-decode
-cast-decode c = let all = passed (c .before .before .before .before .before .before .args .bins .now) _ _ _ (c .before .before .before .before .before .before .args .error) _ _ _ (sym (c .if1 .left) ∙ c .before .fit-refusal .ensures) in omega (arith, all .peak-few)
+-- where nothing is refused
+passed : (c : tie.Else1) → let a = start (c .before) .args in
+    Passed (a .bins .now) (a .scale) (a .window-end) (a .peak) (a .genome) (length (a .table .now))
+passed c =
+    let a = start (c .before) .args in
+    all-passed (a .bins .now) (a .scale) (a .window-end) (a .peak) (a .error) (a .genome) (a .theta .now) _ _
+    (c .before .fit-refusal .ensures) (c .if1 .left)
 
-int-to-float-decode : tie.Need-int-to-float-decode
-int-to-float-decode c = search needs
+cast-window-of : tie.Need-cast-window-of
+cast-window-of c = let all = passed c in omega (arith, all .end-few)
 
-decode-requires : tie.Need-decode-requires
-decode-requires c κs = search needs
+window-of-requires : tie.Need-window-of-requires
+window-of-requires c κs = search needs
 
-cast-fit-at : tie.Need-cast-fit-at
-cast-fit-at c = let all = passed (c .before .before .before .before .before .before .before .before .args .bins .now) _ _ _ (c .before .before .before .before .before .before .before .before .args .error) _ _ _ (sym (c .before .before .if1 .left) ∙ c .before .before .before .fit-refusal .ensures) in omega (arith, all .end-few)
+cast-unpack-at : tie.Need-cast-unpack-at
+cast-unpack-at c = let all = passed (c .before) in omega (arith, all .peak-few)
 
-fit-at-requires : tie.Need-fit-at-requires
-fit-at-requires c κs =
-    let all = passed (c .before .before .before .before .before .before .before .before .before .args .bins .now) _ _ _ (c .before .before .before .before .before .before .before .before .before .args .error) _ _ _ (sym (c .before .before .before .if1 .left) ∙ c .before .before .before .before .fit-refusal .ensures) in
-    (passed-roomy (c .before .before .before .before .before .before .before .before .before .args .error) _ (c .before .before .before .before .before .before .before .before .before .args .theta .now) _ all (c .before .decode .ensures), all .end-some)
+unpack-at-requires : tie.Need-unpack-at-requires
+unpack-at-requires c κs = search needs
 
 same-length : tie.Need-same-length
 same-length c = search needs
 
 returns-2 : tie.Need-returns-2
 returns-2 c =
-    let start = c .before .before .before .before .before .before .before .before .before .before .before .before in
-    let fitted = c .before .before .fit-at in (
-      given-answer (start .args .bins .now) (start .args .scale) _ (start .args .window-end) (start .args .peak) (start .args .error) (start .args .genome) (start .args .theta .now) (start .args .cost) (start .args .iterations) (c .before .before .before .before .before .before .before .before .used-scale .ensures) (start .args .table .now) _ (c .before .before .before .before .before .before .before .fit-refusal .ensures) _ (c .before .before .before .before .before .before .if1 .left) _ (c .before .before .before .before .decode .ensures) (fitted .ensures .0),
-      given-table (start .args .bins .now) (start .args .scale) _ (start .args .window-end) (start .args .peak) (start .args .error) (start .args .genome) (start .args .theta .now) (start .args .cost) (start .args .iterations) (c .before .before .before .before .before .before .before .before .used-scale .ensures) (start .args .table .now) _ (c .before .before .before .before .before .before .before .fit-refusal .ensures) _ (c .before .before .before .before .before .before .if1 .left) _ (c .before .before .before .before .decode .ensures) (fitted .ensures .0) _ (fitted .ensures .1),
+    let fitted = c .before .before in
+    let window = fitted .before .before in
+    let left = window .before in
+    let a = start (left .before) .args in
+    let first = left .before .fit-refusal .ensures in (
+      given-answer (a .bins .now) (a .scale) (a .window-end) (a .peak) (a .error) (a .genome) (a .theta .now)
+          (a .table .now) _ first (a .cost) (a .iterations) _ (left .if1 .left) _
+          (window .window-of .ensures) (fitted .unpack-at .ensures .0),
+      given-table (a .bins .now) (a .scale) (a .window-end) (a .peak) (a .error) (a .genome) (a .theta .now)
+          (a .table .now) _ first (a .cost) (a .iterations) _ (left .if1 .left) _
+          (window .window-of .ensures) (fitted .unpack-at .ensures .0) _ (fitted .unpack-at .ensures .1),
     )
 
 pub unpack-spec : {M : Type 1} → statement M
 unpack-spec =
     tie.close
     (tie.spec
-    used-scale-requires
     fit-refusal-requires
     empty-fit-requires
     returns
-    cast-decode
-    int-to-float-decode
-    decode-requires
-    cast-fit-at
-    fit-at-requires
+    cast-window-of
+    window-of-requires
+    cast-unpack-at
+    unpack-at-requires
     same-length
     returns-2)

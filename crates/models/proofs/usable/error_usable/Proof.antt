@@ -1,6 +1,14 @@
--- `models::usable::error_usable` meets its contract: each `return` rewrites the tests that led there. Assumes nothing.
-use mathlib.Core.Path.{sym, _∙_}
+-- `models::usable::error_usable` meets its contract: `two` to `four` are its first so many tests.
+-- Assumes nothing.
+use mathlib.Core.Path.{_≡_, refl}
+use mathlib.Core.Bool.{Bool, not, _&&_}
+use mathlib.Core.Logic.{⊎-elim}
+use lib.Ieee.{lt, le}
+use lib.Ieee.Scale.{finite}
+use Rattle.routines.specs.Constants.{zero, one}
 use Rattle.models.specs.Usable.{errorUsable}
+use Rattle.models.specs.declared.errors.ErrorParams.{ErrorParams}
+use Rattle.models.proofs.Both.{went-on, stopped}
 use borrow.Author.Needs.{needs}
 use Rattle.models.proofs.usable.error_usable.Statement.{statement}
 use Rattle.models.proofs.usable.error_usable.Tie as tie
@@ -8,37 +16,55 @@ use Rattle.models.proofs.usable.error_usable.Tie as tie
 is-finite-requires : tie.Need-is-finite-requires
 is-finite-requires c κs = search needs
 
-returns : tie.Need-returns
-unfolding errorUsable
-returns c = rw (sym (c .before .is-finite .ensures) ∙ c .if1 .left)
-
-returns-2 : tie.Need-returns-2
-unfolding errorUsable
-returns-2 c = rw (sym (c .before .before .before .is-finite .ensures) ∙ c .before .before .if1 .taken, c .if2 .taken)
-
-returns-3 : tie.Need-returns-3
-unfolding errorUsable
-returns-3 c = rw (sym (c .before .before .before .before .before .is-finite .ensures) ∙ c .before .before .before .before .if1 .taken, c .before .before .if2 .left, c .if3 .left)
-
-returns-4 : tie.Need-returns-4
-unfolding errorUsable
-returns-4 c = rw (sym (c .before .before .before .before .before .before .before .is-finite .ensures) ∙ c .before .before .before .before .before .before .if1 .taken, c .before .before .before .before .if2 .left, c .before .before .if3 .taken, c .if4 .left)
-
 shape-usable-requires : tie.Need-shape-usable-requires
 shape-usable-requires c κs = search needs
 
-returns-5 : tie.Need-returns-5
+abbrev two : ErrorParams → Bool
+two p = finite (p .«tail_exponent») && not (le (p .«tail_exponent») zero)
+
+abbrev three : ErrorParams → Bool
+three p = two p && le zero (p .«singleton_probability»)
+
+abbrev four : ErrorParams → Bool
+four p = three p && lt (p .«singleton_probability») one
+
+abbrev of-two : tie.Joined1 → ErrorParams
+of-two c = c .before .before .args .p
+
+is-two : (c : tie.Joined1) → c .if1 .if2 ≡ two (of-two c)
+is-two c =
+    let so = c .before .is-finite .ensures in
+    ⊎-elim (λ w. went-on so (w .0 .taken) refl (w .2)) (λ w. stopped _ so (w .0 .left) (w .1)) (c .if1 .came)
+
+abbrev of-three : tie.Joined2 → ErrorParams
+of-three c = of-two (c .before)
+
+is-three : (c : tie.Joined2) → c .if2 .if3 ≡ three (of-three c)
+is-three c =
+    let so = is-two (c .before) in
+    ⊎-elim (λ w. went-on so (w .0 .taken) refl (w .2)) (λ w. stopped _ so (w .0 .left) (w .1)) (c .if2 .came)
+
+abbrev of-four : tie.Joined3 → ErrorParams
+of-four c = of-three (c .before)
+
+is-four : (c : tie.Joined3) → c .if3 .if4 ≡ four (of-four c)
+is-four c =
+    let so = is-three (c .before) in
+    ⊎-elim (λ w. went-on so (w .0 .taken) refl (w .2)) (λ w. stopped _ so (w .0 .left) (w .1)) (c .if3 .came)
+
+returns : tie.Need-returns
 unfolding errorUsable
-returns-5 c = rw (sym (c .before .before .before .before .before .before .before .before .is-finite .ensures) ∙ c .before .before .before .before .before .before .before .if1 .taken, c .before .before .before .before .before .if2 .left, c .before .before .before .if3 .taken, c .before .if4 .taken) (c .shape-usable .ensures)
+returns c = went-on (is-four (c .before .before)) (c .before .if4 .taken) (c .shape-usable .ensures) refl
+
+returns-2 : tie.Need-returns-2
+unfolding errorUsable
+returns-2 c = stopped _ (is-four (c .before)) (c .if4 .left) refl
 
 pub error-usable-spec : {M : Type 1} → statement M
 error-usable-spec =
     tie.close
     (tie.spec
     is-finite-requires
-    returns
-    returns-2
-    returns-3
-    returns-4
     shape-usable-requires
-    returns-5)
+    returns
+    returns-2)

@@ -1,6 +1,14 @@
--- `models::usable::params_usable` meets its contract: each `return` rewrites the tests that led there. Assumes nothing.
-use mathlib.Core.Path.{sym, _∙_}
-use Rattle.models.specs.Usable.{paramsUsable}
+-- `models::usable::params_usable` meets its contract: `two` to `five` are its first so many tests.
+-- Assumes nothing.
+use mathlib.Core.Path.{_≡_, refl}
+use mathlib.Core.Bool.{Bool, not, _&&_}
+use mathlib.Core.Logic.{⊎-elim}
+use lib.Ieee.{le}
+use lib.Ieee.Scale.{finite}
+use Rattle.routines.specs.Constants.{zero}
+use Rattle.models.specs.Usable.{errorUsable, paramsUsable}
+use Rattle.models.specs.declared.params.Params.{Params}
+use Rattle.models.proofs.Both.{went-on, stopped}
 use borrow.Author.Needs.{needs}
 use Rattle.models.proofs.usable.params_usable.Statement.{statement}
 use Rattle.models.proofs.usable.params_usable.Tie as tie
@@ -8,54 +16,78 @@ use Rattle.models.proofs.usable.params_usable.Tie as tie
 is-finite-requires : tie.Need-is-finite-requires
 is-finite-requires c κs = search needs
 
-returns : tie.Need-returns
-unfolding paramsUsable
-returns c = rw (sym (c .before .is-finite .ensures) ∙ c .if1 .left)
-
 is-finite-requires-2 : tie.Need-is-finite-requires-2
 is-finite-requires-2 c κs = search needs
-
-returns-2 : tie.Need-returns-2
-unfolding paramsUsable
-returns-2 c = rw (sym (c .before .before .before .is-finite .ensures) ∙ c .before .before .if1 .taken, sym (c .before .is-finite2 .ensures) ∙ c .if2 .left)
 
 is-finite-requires-3 : tie.Need-is-finite-requires-3
 is-finite-requires-3 c κs = search needs
 
-returns-3 : tie.Need-returns-3
-unfolding paramsUsable
-returns-3 c = rw (sym (c .before .before .before .before .before .is-finite .ensures) ∙ c .before .before .before .before .if1 .taken, sym (c .before .before .before .is-finite2 .ensures) ∙ c .before .before .if2 .taken, sym (c .before .is-finite3 .ensures) ∙ c .if3 .left)
-
-returns-4 : tie.Need-returns-4
-unfolding paramsUsable
-returns-4 c = rw (sym (c .before .before .before .before .before .before .before .is-finite .ensures) ∙ c .before .before .before .before .before .before .if1 .taken, sym (c .before .before .before .before .before .is-finite2 .ensures) ∙ c .before .before .before .before .if2 .taken, sym (c .before .before .before .is-finite3 .ensures) ∙ c .before .before .if3 .taken, c .if4 .taken)
-
 error-usable-requires : tie.Need-error-usable-requires
 error-usable-requires c κs = search needs
-
-returns-5 : tie.Need-returns-5
-unfolding paramsUsable
-returns-5 c = rw (sym (c .before .before .before .before .before .before .before .before .before .is-finite .ensures) ∙ c .before .before .before .before .before .before .before .before .if1 .taken, sym (c .before .before .before .before .before .before .before .is-finite2 .ensures) ∙ c .before .before .before .before .before .before .if2 .taken, sym (c .before .before .before .before .before .is-finite3 .ensures) ∙ c .before .before .before .before .if3 .taken, c .before .before .if4 .left, sym (c .before .error-usable .ensures) ∙ c .if5 .left)
 
 shelf-usable-requires : tie.Need-shelf-usable-requires
 shelf-usable-requires c κs = search needs
 
-returns-6 : tie.Need-returns-6
+abbrev two : Params → Bool
+two p = finite (p .mean) && finite (p .dispersion)
+
+abbrev three : Params → Bool
+three p = two p && finite (p .«target_mode»)
+
+abbrev four : Params → Bool
+four p = three p && not (le (p .mean) zero)
+
+abbrev five : Params → Bool
+five p = four p && errorUsable (p .«error_params»)
+
+abbrev of-two : tie.Joined1 → Params
+of-two c = c .before .before .args .p
+
+is-two : (c : tie.Joined1) → c .if1 .if2 ≡ two (of-two c)
+is-two c =
+    let so = c .before .is-finite .ensures in
+    ⊎-elim (λ w. went-on so (w .0 .taken) (w .1 .ensures) (w .2)) (λ w. stopped _ so (w .0 .left) (w .1)) (c .if1 .came)
+
+abbrev of-three : tie.Joined2 → Params
+of-three c = of-two (c .before)
+
+is-three : (c : tie.Joined2) → c .if2 .if3 ≡ three (of-three c)
+is-three c =
+    let so = is-two (c .before) in
+    ⊎-elim (λ w. went-on so (w .0 .taken) (w .1 .ensures) (w .2)) (λ w. stopped _ so (w .0 .left) (w .1)) (c .if2 .came)
+
+abbrev of-four : tie.Joined3 → Params
+of-four c = of-three (c .before)
+
+is-four : (c : tie.Joined3) → c .if3 .if4 ≡ four (of-four c)
+is-four c =
+    let so = is-three (c .before) in
+    ⊎-elim (λ w. went-on so (w .0 .taken) refl (w .2)) (λ w. stopped _ so (w .0 .left) (w .1)) (c .if3 .came)
+
+abbrev of-five : tie.Joined4 → Params
+of-five c = of-four (c .before)
+
+is-five : (c : tie.Joined4) → c .if4 .if5 ≡ five (of-five c)
+is-five c =
+    let so = is-four (c .before) in
+    ⊎-elim (λ w. went-on so (w .0 .taken) (w .1 .ensures) (w .2)) (λ w. stopped _ so (w .0 .left) (w .1)) (c .if4 .came)
+
+returns : tie.Need-returns
 unfolding paramsUsable
-returns-6 c = rw (sym (c .before .before .before .before .before .before .before .before .before .before .is-finite .ensures) ∙ c .before .before .before .before .before .before .before .before .before .if1 .taken, sym (c .before .before .before .before .before .before .before .before .is-finite2 .ensures) ∙ c .before .before .before .before .before .before .before .if2 .taken, sym (c .before .before .before .before .before .before .is-finite3 .ensures) ∙ c .before .before .before .before .before .if3 .taken, c .before .before .before .if4 .left, sym (c .before .before .error-usable .ensures) ∙ c .before .if5 .taken) (c .shelf-usable .ensures)
+returns c = went-on (is-five (c .before .before)) (c .before .if5 .taken) (c .shelf-usable .ensures) refl
+
+returns-2 : tie.Need-returns-2
+unfolding paramsUsable
+returns-2 c = stopped _ (is-five (c .before)) (c .if5 .left) refl
 
 pub params-usable-spec : {M : Type 1} → statement M
 params-usable-spec =
     tie.close
     (tie.spec
     is-finite-requires
-    returns
     is-finite-requires-2
-    returns-2
     is-finite-requires-3
-    returns-3
-    returns-4
     error-usable-requires
-    returns-5
     shelf-usable-requires
-    returns-6)
+    returns
+    returns-2)

@@ -1,5 +1,4 @@
 -- `models::usable::shelf_usable` meets its contract. Assumes nothing.
-use Rattle.models.specs.Usable.{shelfUsable}
 use borrow.Author.Needs.{needs}
 use Rattle.models.proofs.usable.shelf_usable.Statement.{statement}
 use Rattle.models.proofs.usable.shelf_usable.Tie as tie
@@ -17,7 +16,7 @@ returns : tie.Need-returns
 returns c = search needs
 
 returns-2 : tie.Need-returns-2
-returns-2 c = rw (c .before .before .shelf .given .1) (c .shelf-is-valid .ensures)
+returns-2 c = cc
 
 pub shelf-usable-spec : {M : Type 1} → statement M
 shelf-usable-spec =

@@ -1,5 +1,5 @@
 -- `models::window_masses::mass_usable` meets its contract. Assumes nothing.
-use mathlib.Core.Path.{sym, _∙_}
+use lib.Ieee.{round, ofBits}
 use Rattle.models.specs.Masses.{massUsable}
 use borrow.Author.Needs.{needs}
 use Rattle.models.proofs.window_masses.mass_usable.Statement.{statement}
@@ -9,12 +9,12 @@ is-finite-requires : tie.Need-is-finite-requires
 is-finite-requires c κs = search needs
 
 returns : tie.Need-returns
-unfolding massUsable
-returns c = rw (sym (c .before .is-finite .ensures) ∙ c .if1 .left)
+unfolding massUsable round ofBits
+returns c = cc
 
 returns-2 : tie.Need-returns-2
-unfolding massUsable
-returns-2 c = rw (sym (c .before .is-finite .ensures) ∙ c .if1 .taken)
+unfolding massUsable round ofBits
+returns-2 c = cc
 
 pub mass-usable-spec : {M : Type 1} → statement M
 mass-usable-spec = tie.close (tie.spec is-finite-requires returns returns-2)

@@ -15,7 +15,10 @@ log-nb-mass-to-requires c κs = search needs
 
 returns : tie.Need-returns
 unfolding windowMassesOf
-returns c = rw (c .log-nb-mass-to .ensures, c .before .before .single-copy-log-mass-to .ensures, c .before .before .before .log-window-mass-to .ensures)
+returns c =
+    let single = c .before .before in
+    let error = single .before in
+    rw (c .log-nb-mass-to .ensures, single .single-copy-log-mass-to .ensures, error .log-window-mass-to .ensures)
 
 pub masses-of-spec : {M : Type 1} → statement M
 masses-of-spec =

@@ -1,6 +1,9 @@
 -- `models::window_masses::masses_usable` meets its contract. Assumes nothing.
-use mathlib.Core.Path.{sym, _∙_}
-use Rattle.models.specs.Masses.{massesUsable}
+use mathlib.Core.Path.{_≡_, refl}
+use mathlib.Core.Bool.{_&&_}
+use mathlib.Core.Logic.{⊎-elim}
+use Rattle.models.specs.Masses.{massUsable, massesUsable}
+use Rattle.models.proofs.Both.{went-on, stopped}
 use borrow.Author.Needs.{needs}
 use Rattle.models.proofs.window_masses.masses_usable.Statement.{statement}
 use Rattle.models.proofs.window_masses.masses_usable.Tie as tie
@@ -8,31 +11,28 @@ use Rattle.models.proofs.window_masses.masses_usable.Tie as tie
 mass-usable-requires : tie.Need-mass-usable-requires
 mass-usable-requires c κs = search needs
 
-returns : tie.Need-returns
-unfolding massesUsable
-returns c = rw (sym (c .before .mass-usable .ensures) ∙ c .if1 .left)
-
 mass-usable-requires-2 : tie.Need-mass-usable-requires-2
 mass-usable-requires-2 c κs = search needs
-
-returns-2 : tie.Need-returns-2
-unfolding massesUsable
-returns-2 c = rw (sym (c .before .before .before .mass-usable .ensures) ∙ c .before .before .if1 .taken, sym (c .before .mass-usable2 .ensures) ∙ c .if2 .left)
 
 mass-usable-requires-3 : tie.Need-mass-usable-requires-3
 mass-usable-requires-3 c κs = search needs
 
-returns-3 : tie.Need-returns-3
+two : (c : tie.Joined1)
+    → let m = c .before .before .args .m in c .if1 .if2 ≡ (massUsable (m .error) && massUsable (m .single))
+two c =
+    let one = c .before .mass-usable .ensures in
+    ⊎-elim (λ w. went-on one (w .0 .taken) (w .1 .ensures) (w .2)) (λ w. stopped _ one (w .0 .left) (w .1))
+    (c .if1 .came)
+
+returns : tie.Need-returns
 unfolding massesUsable
-returns-3 c = rw (sym (c .before .before .before .before .mass-usable .ensures) ∙ c .before .before .before .if1 .taken, sym (c .before .before .mass-usable2 .ensures) ∙ c .before .if2 .taken) (c .mass-usable3 .ensures)
+returns c = went-on (two (c .before .before)) (c .before .if2 .taken) (c .mass-usable3 .ensures) refl
+
+returns-2 : tie.Need-returns-2
+unfolding massesUsable
+returns-2 c = stopped _ (two (c .before)) (c .if2 .left) refl
 
 pub masses-usable-spec : {M : Type 1} → statement M
 masses-usable-spec =
     tie.close
-    (tie.spec
-    mass-usable-requires
-    returns
-    mass-usable-requires-2
-    returns-2
-    mass-usable-requires-3
-    returns-3)
+    (tie.spec mass-usable-requires mass-usable-requires-2 mass-usable-requires-3 returns returns-2)

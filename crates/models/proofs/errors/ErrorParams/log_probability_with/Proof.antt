@@ -24,7 +24,9 @@ returns-2 : tie.Need-returns-2
 unfolding logProbabilityOf
 returns-2 c =
     let first = c .before .before in
-    rw (first .before .if1 .left) (rw (c .ln-sub-exp .ensures, c .before .log-survival-from-two2 .ensures, first .log-survival-from-two .ensures, first .before .before .pre))
+    rw (first .before .if1 .left)
+    (rw (c .ln-sub-exp .ensures, c .before .log-survival-from-two2 .ensures)
+    (rw (first .log-survival-from-two .ensures, first .before .before .pre)))
 
 pub log-probability-with-spec : {M : Type 1} → statement M
 log-probability-with-spec =

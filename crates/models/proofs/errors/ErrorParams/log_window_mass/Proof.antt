@@ -23,7 +23,9 @@ log-window-mass-to-requires c κs = search needs
 
 returns-3 : tie.Need-returns-3
 unfolding logWindowMassOf
-returns-3 c = simp (le-ltb _ _ (c .before .before .if1 .left), ne-eqb _ _ (c .before .if2 .left)) (ap give (c .log-window-mass-to .ensures))
+returns-3 c =
+    let some = c .before in
+    simp (le-ltb _ _ (some .before .if1 .left), ne-eqb _ _ (some .if2 .left)) (ap give (c .log-window-mass-to .ensures))
 
 pub log-window-mass-spec : {M : Type 1} → statement M
 log-window-mass-spec =

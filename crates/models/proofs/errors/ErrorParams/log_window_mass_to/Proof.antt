@@ -21,7 +21,10 @@ ln-requires c κs = search needs
 
 returns : tie.Need-returns
 unfolding logWindowMassTo
-returns c = rw (c .ln .ensures, c .before .expm1 .ensures, c .before .before .log-survival-from-two .ensures, c .before .before .before .before .ln-tail .ensures)
+returns c =
+    let survival = c .before .before in
+    let tail = survival .before .before in
+    rw (c .ln .ensures, c .before .expm1 .ensures, survival .log-survival-from-two .ensures, tail .ln-tail .ensures)
 
 pub log-window-mass-to-spec : {M : Type 1} → statement M
 log-window-mass-to-spec =

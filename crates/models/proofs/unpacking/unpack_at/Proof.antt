@@ -1,0 +1,29 @@
+-- `models::unpacking::unpack_at` meets its contract. Assumes nothing.
+use mathlib.Core.Path.{_≡_, ap, _∙_}
+use borrow.Author.Needs.{needs}
+use Rattle.models.specs.Unpacking.{unpackAt}
+use Rattle.models.proofs.unpacking.unpack_at.Statement.{statement}
+use Rattle.models.proofs.unpacking.unpack_at.Tie as tie
+
+int-to-float-decode : tie.Need-int-to-float-decode
+int-to-float-decode c = search needs
+
+decode-requires : tie.Need-decode-requires
+decode-requires c κs = search needs
+
+fit-at-requires : tie.Need-fit-at-requires
+fit-at-requires c κs = search needs
+
+same-length : tie.Need-same-length
+same-length c = search needs
+
+returns : tie.Need-returns
+unfolding unpackAt
+returns c =
+    let fitted = c .before .before in
+    let decoded = fitted .before .before .decode .ensures in
+    (fitted .fit-at .ensures .0 ∙ rw decoded, fitted .fit-at .ensures .1 ∙ rw decoded)
+
+pub unpack-at-spec : {M : Type 1} → statement M
+unpack-at-spec =
+    tie.close (tie.spec int-to-float-decode decode-requires fit-at-requires same-length returns)
