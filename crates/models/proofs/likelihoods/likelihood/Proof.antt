@@ -1,11 +1,11 @@
 -- `models::likelihoods::likelihood` meets its contract. Assumes nothing.
 use borrow.Author.Needs.{needs}
-use mathlib.Core.Path.{_≡_, sym}
+use mathlib.Core.Path.{_≡_, refl, sym}
 use Prim.Native.Nat.{_-_}
 use native.Mathlib.Omega.{arith}
 use lib.Ieee.{neg, ofBits}
 use Rattle.routines.specs.Constants.{zero}
-use Rattle.models.proofs.Loops.{Folded, begins, goes-on, ends}
+use Rattle.meaning.proofs.Loops.{Folded, begins, goes-on, ends}
 use Rattle.models.specs.Spectra.{observedStep, overObserved}
 use Rattle.models.specs.Likelihoods.{pointTerm, likelihoodOf}
 use Rattle.models.specs.Hoists.{steadyOf}
@@ -14,7 +14,7 @@ use Rattle.models.proofs.likelihoods.likelihood.Tie as tie
 
 abbrev Inv-loop : tie.InvT-loop
 Inv-loop bins scale top p m table steady total₀ i₀ total i =
-    (steady ≡ steadyOf p) × Folded (observedStep bins scale (pointTerm p m table)) (neg zero) top total i
+    (steady ≡ steadyOf p) × Folded (observedStep bins scale (pointTerm p m table)) (neg zero) 0 top total i
 
 abbrev μ-loop : tie.MeasureT-loop
 μ-loop bins scale top p m table steady total₀ i₀ total i = top - i
@@ -24,7 +24,7 @@ steady-of-requires c κs = search needs
 
 loop-holds : tie.Need-loop-holds Inv-loop μ-loop
 unfolding neg ofBits
-loop-holds c = (c .steady-of .ensures, begins _ _ _)
+loop-holds c = (c .steady-of .ensures, begins _ _ _ _ _ (omega arith) refl)
 
 cast-recovered-at : tie.Need-cast-recovered-at Inv-loop μ-loop
 cast-recovered-at c = search needs
@@ -50,11 +50,11 @@ loop-less c = omega arith
 loop-again : tie.Need-loop-again Inv-loop μ-loop
 loop-again c =
     let inv = c .before .before .before .loop .inv in
-    (inv .0, goes-on _ _ _ (inv .1) _ (omega arith) (rw (sym (c .before .recovered-at .ensures)) (c .add-point .ensures)))
+    (inv .0, goes-on _ _ _ _ (inv .1) _ (omega arith) (rw (sym (c .before .recovered-at .ensures)) (c .add-point .ensures)))
 
 returns : tie.Need-returns Inv-loop μ-loop
 unfolding likelihoodOf overObserved
-returns c = ends _ _ _ (c .before .loop .inv .1) (omega arith)
+returns c = ends _ _ _ _ (c .before .loop .inv .1) (omega arith)
 
 pub likelihood-spec : {M : Type 1} → statement M
 likelihood-spec =

@@ -7,19 +7,20 @@ use native.Mathlib.Omega.{arith}
 use borrow.Author.Tests.{eq-eqb, ne-eqb}
 use lib.Dec.{eqb}
 use lib.ListN.{length, getD}
-use Rattle.models.proofs.Loops.{Folded, begins, all-holds, all-more, all-fails}
+use Rattle.meaning.proofs.Loops.{Folded, begins}
+use Rattle.models.proofs.Loops.{all-holds, all-more, all-fails}
 use Rattle.models.specs.Spectra.{allStep}
 use Rattle.models.proofs.spectra.all_zero.Statement.{statement}
 use Rattle.models.proofs.spectra.all_zero.Tie as tie
 
 abbrev Inv-loop : tie.InvT-loop
-Inv-loop bins i₀ i = Folded (allStep (λ (j : ℕ). eqb (getD bins j 0) 0)) true (length bins) true i
+Inv-loop bins i₀ i = Folded (allStep (λ (j : ℕ). eqb (getD bins j 0) 0)) true 0 (length bins) true i
 
 abbrev μ-loop : tie.MeasureT-loop
 μ-loop bins i₀ i = length bins - i
 
 loop-holds : tie.Need-loop-holds Inv-loop μ-loop
-loop-holds c = begins _ _ _
+loop-holds c = begins _ _ _ _ _ (omega arith) refl
 
 mul-if1 : tie.Need-mul-if1 Inv-loop μ-loop
 mul-if1 c = search needs

@@ -6,20 +6,20 @@ use native.Mathlib.Omega.{arith}
 use lib.ListN.{length}
 use lib.Ieee.{neg, ofBits}
 use Rattle.routines.specs.Constants.{zero}
-use Rattle.models.proofs.Loops.{Folded, begins, goes-on, ends}
+use Rattle.meaning.proofs.Loops.{Folded, begins, goes-on, ends}
 use Rattle.models.specs.Spectra.{fullStep, fullTotalOf}
 use Rattle.models.proofs.spectra.full_total.Statement.{statement}
 use Rattle.models.proofs.spectra.full_total.Tie as tie
 
 abbrev Inv-loop : tie.InvT-loop
-Inv-loop bins total₀ i₀ total i = Folded (fullStep bins) (neg zero) (length bins) total i
+Inv-loop bins total₀ i₀ total i = Folded (fullStep bins) (neg zero) 0 (length bins) total i
 
 abbrev μ-loop : tie.MeasureT-loop
 μ-loop bins total₀ i₀ total i = length bins - i
 
 loop-holds : tie.Need-loop-holds Inv-loop μ-loop
 unfolding neg ofBits
-loop-holds c = begins _ _ _
+loop-holds c = begins _ _ _ _ _ (omega arith) refl
 
 mul-total : tie.Need-mul-total Inv-loop μ-loop
 mul-total c = search needs
@@ -37,11 +37,11 @@ loop-less : tie.Need-loop-less Inv-loop μ-loop
 loop-less c = omega arith
 
 loop-again : tie.Need-loop-again Inv-loop μ-loop
-loop-again c = goes-on _ _ _ (c .before .before .before .loop .inv) _ (omega arith) refl
+loop-again c = goes-on _ _ _ _ (c .before .before .before .loop .inv) _ (omega arith) refl
 
 returns : tie.Need-returns Inv-loop μ-loop
 unfolding fullTotalOf
-returns c = ends _ _ _ (c .before .loop .inv) (omega arith)
+returns c = ends _ _ _ _ (c .before .loop .inv) (omega arith)
 
 pub full-total-spec : {M : Type 1} → statement M
 full-total-spec =

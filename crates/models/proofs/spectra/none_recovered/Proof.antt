@@ -6,19 +6,20 @@ use Prim.Native.Nat.{ℕ, _-_}
 use native.Mathlib.Omega.{arith}
 use borrow.Author.Tests.{eq-eqb, ne-eqb}
 use lib.Dec.{eqb}
-use Rattle.models.proofs.Loops.{Folded, begins, all-holds, all-more, all-fails}
+use Rattle.meaning.proofs.Loops.{Folded, begins}
+use Rattle.models.proofs.Loops.{all-holds, all-more, all-fails}
 use Rattle.models.specs.Spectra.{allStep, recoveredAt}
 use Rattle.models.proofs.spectra.none_recovered.Statement.{statement}
 use Rattle.models.proofs.spectra.none_recovered.Tie as tie
 
 abbrev Inv-loop : tie.InvT-loop
-Inv-loop bins scale top i₀ i = Folded (allStep (λ (j : ℕ). eqb (recoveredAt bins scale j) 0)) true top true i
+Inv-loop bins scale top i₀ i = Folded (allStep (λ (j : ℕ). eqb (recoveredAt bins scale j) 0)) true 0 top true i
 
 abbrev μ-loop : tie.MeasureT-loop
 μ-loop bins scale top i₀ i = top - i
 
 loop-holds : tie.Need-loop-holds Inv-loop μ-loop
-loop-holds c = begins _ _ _
+loop-holds c = begins _ _ _ _ _ (omega arith) refl
 
 recovered-at-requires : tie.Need-recovered-at-requires Inv-loop μ-loop
 recovered-at-requires c κs = search needs

@@ -6,20 +6,20 @@ use native.Mathlib.Omega.{arith}
 use lib.Ieee.{neg, ofBits}
 use Rattle.routines.specs.Constants.{zero}
 use Rattle.routines.specs.Ops.{ofCount}
-use Rattle.models.proofs.Loops.{Folded, begins, goes-on, ends}
+use Rattle.meaning.proofs.Loops.{Folded, begins, goes-on, ends}
 use Rattle.models.specs.Spectra.{observedStep, overObserved, seenTerm}
 use Rattle.models.proofs.spectra.observed_total.Statement.{statement}
 use Rattle.models.proofs.spectra.observed_total.Tie as tie
 
 abbrev Inv-loop : tie.InvT-loop
-Inv-loop bins scale top total₀ i₀ total i = Folded (observedStep bins scale (λ (n j : ℕ). ofCount n)) (neg zero) top total i
+Inv-loop bins scale top total₀ i₀ total i = Folded (observedStep bins scale (λ (n j : ℕ). ofCount n)) (neg zero) 0 top total i
 
 abbrev μ-loop : tie.MeasureT-loop
 μ-loop bins scale top total₀ i₀ total i = top - i
 
 loop-holds : tie.Need-loop-holds Inv-loop μ-loop
 unfolding neg ofBits
-loop-holds c = begins _ _ _
+loop-holds c = begins _ _ _ _ _ (omega arith) refl
 
 cast-recovered-at : tie.Need-cast-recovered-at Inv-loop μ-loop
 cast-recovered-at c = search needs
@@ -37,11 +37,11 @@ loop-less : tie.Need-loop-less Inv-loop μ-loop
 loop-less c = omega arith
 
 loop-again : tie.Need-loop-again Inv-loop μ-loop
-loop-again c = goes-on _ _ _ (c .before .before .before .loop .inv) _ (omega arith) (c .add-seen .ensures ∙ ap (λ (n : ℕ). seenTerm n (c .before .before .before .loop .total) (ofCount n)) (c .before .recovered-at .ensures))
+loop-again c = goes-on _ _ _ _ (c .before .before .before .loop .inv) _ (omega arith) (c .add-seen .ensures ∙ ap (λ (n : ℕ). seenTerm n (c .before .before .before .loop .total) (ofCount n)) (c .before .recovered-at .ensures))
 
 returns : tie.Need-returns Inv-loop μ-loop
 unfolding overObserved
-returns c = ends _ _ _ (c .before .loop .inv) (omega arith)
+returns c = ends _ _ _ _ (c .before .loop .inv) (omega arith)
 
 pub observed-total-spec : {M : Type 1} → statement M
 observed-total-spec =
