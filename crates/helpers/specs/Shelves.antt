@@ -6,7 +6,8 @@ use lib.ListN.{getD}
 use lib.Ieee.{Float, inf, lt, toUnsigned}
 use Rattle.meaning.specs.Fold.{fold}
 use Rattle.meaning.specs.Over.{over}
-use Rattle.meaning.specs.Reply.{Reply, give, chain, onGive}
+use Rattle.meaning.specs.Reply.{Reply, give, chain}
+use Rattle.meaning.specs.Lent.{onGive}
 use Rattle.meaning.specs.Rows.{short, windowTests}
 use Rattle.routines.specs.Constants.{one}
 use Rattle.routines.specs.Lgamma.{lgammaOf}

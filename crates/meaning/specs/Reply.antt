@@ -32,9 +32,3 @@ abbrev pub numberOf : {A : Type 0} → Reply A → ℕ
 numberOf (refuse n) = n
 numberOf (broken place) = 3
 numberOf (give a) = 0
-
--- what stands in lent memory afterwards: x where there is an answer, and y where there is none
-abbrev pub onGive : {A B : Type 0} → Reply A → B → B → B
-onGive (refuse n) x y = y
-onGive (broken place) x y = y
-onGive (give a) x y = x

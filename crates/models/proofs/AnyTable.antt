@@ -9,7 +9,8 @@ use lib.Dec.{eqb}
 use lib.ListN.{length}
 use lib.Ieee.{Float}
 use Rattle.meaning.specs.Over.{over}
-use Rattle.meaning.specs.Reply.{Reply, refuse, broken, give, Test, test, chain, onGive}
+use Rattle.meaning.specs.Reply.{Reply, refuse, broken, give, Test, test, chain}
+use Rattle.meaning.specs.Lent.{onGive}
 use Rattle.meaning.proofs.Chains.{gave-passed}
 use Rattle.meaning.proofs.Overs.{over-none}
 use Rattle.routines.specs.Ops.{ofCount}

@@ -6,7 +6,8 @@ use lib.ListN.{length}
 use lib.Ieee.{Float, inf, neg, lt, le}
 use lib.Ieee.Scale.{finite}
 use Rattle.meaning.specs.Over.{over}
-use Rattle.meaning.specs.Reply.{Reply, give, chain, onGive}
+use Rattle.meaning.specs.Reply.{Reply, give, chain}
+use Rattle.meaning.specs.Lent.{onGive}
 use Rattle.routines.specs.Constants.{zero, half}
 use Rattle.routines.specs.Ops.{ofCount}
 use Rattle.models.specs.Fits.{roundtripOf}

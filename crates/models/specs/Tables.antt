@@ -2,7 +2,7 @@
 use Prim.Native.Nat.{ℕ}
 use mathlib.Core.List.{List, []}
 use lib.Ieee.{Float}
-use Rattle.meaning.specs.Reply.{onGive}
+use Rattle.meaning.specs.Lent.{onGive}
 use Rattle.helpers.specs.Shelves.{shelfLogTableOf}
 use Rattle.helpers.specs.declared.shelves.ShelfPart.{ShelfPart}
 use Rattle.helpers.specs.declared.shelves.ShelfPart.the-variants.{Absent, Present}

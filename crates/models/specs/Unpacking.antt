@@ -4,7 +4,8 @@ use mathlib.Core.List.{List, [], _∷_}
 use lib.ListN.{length}
 use lib.Ieee.{Float, neg}
 use Rattle.meaning.specs.Over.{over}
-use Rattle.meaning.specs.Reply.{Reply, refuse, broken, give, chain, onGive}
+use Rattle.meaning.specs.Reply.{Reply, refuse, broken, give, chain}
+use Rattle.meaning.specs.Lent.{onGive}
 use Rattle.routines.specs.Constants.{zero}
 use Rattle.routines.specs.Exp.{expOf}
 use Rattle.routines.specs.Ln.{lnOf}
