@@ -25,7 +25,7 @@ pub struct SpectrumFit {
     // The mode that the mean was made of. It is kept to show where rounding has lost it.
     pub target_mode: f64,
     pub error_params: ErrorParams,
-    // Under the single-copy lobe, where the model has one.
+    // It lies under the single-copy lobe, where the model has one.
     pub shelf: ShelfPart,
     // The repeat lobe's mean over the single-copy lobe's.
     pub repeat_ratio: f64,
@@ -33,9 +33,9 @@ pub struct SpectrumFit {
     pub genome_kmers: f64,
     pub error_kmers: f64,
     pub repeat_kmers: f64,
-    // Of the window, in the sample.
+    // The window's, in the sample.
     pub log_likelihood: f64,
-    // Of the valid fits the lowest is selected.
+    // The valid fit with the lowest is selected.
     pub bic: f64,
     // 2 times the sum of observed ln(observed / expected) over the window, in the sample.
     pub deviance: f64,

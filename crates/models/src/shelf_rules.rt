@@ -5,13 +5,14 @@ ghost use Rattle.models.specs.ShelfRules.{retainedOf, concentrationOf, b
 use helpers::shelves::Shelf;
 use routines::pick::is_finite;
 
-// Of the single-copy k-mers: with a larger share the shelf could swallow the lobe.
+// The shelf's largest share of the single-copy k-mers: with more it could swallow the lobe.
 pub const SHELF_MAX_SHARE: f64 = 0.5;
 
-// Of their coverage, on average: with less the shelf came to lie on the error tail, at counts 0 and 1.
+// The least fraction of coverage that its k-mers keep on average: with less it came to lie on the error tail, at counts 0
+// and 1.
 pub const SHELF_MIN_RETAINED: f64 = 0.3;
 
-// Of a + b: with more the shelf is a spike.
+// The largest a + b: with more the shelf is a spike.
 pub const SHELF_MAX_CONCENTRATION: f64 = 20.0;
 
 // Rounding in a / (a + b) may land a hair outside a bound that the map itself keeps.
