@@ -1,12 +1,10 @@
 pub mod Pick
 pub mod Tables
 pub mod Starts
-pub mod Powers
 pub mod Whole
 pub mod Held
 pub mod Exp
 pub mod LnTable
-pub mod Logs
 pub mod Ln
 pub mod Expm1
 pub mod Lgamma
