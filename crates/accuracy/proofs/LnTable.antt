@@ -8,9 +8,8 @@ use native.Mathlib.Omega.{arith}
 use lib.Dec.{T, leb, ltb, leb→le, ltb→lt}
 use lib.ListN.{getD}
 use lib.Ieee.{Float, nan, inf, fin, binary64, ofBits}
-use lib.Ieee.Scale.{finite}
 use lib.Ieee.Fits.{and-l, and-r, down-pos}
-use Rattle.entries.specs.Fractions.{Fraction, sumOver, plus, half, exactly, valueOf, isNumber, nextUp, nextDown, middle, nearest}
+use Rattle.entries.specs.Fractions.{Fraction, sumOver, plus, half, exactly, valueOf, isFinite, isNumber, nextUp, nextDown, middle, nearest}
 use Rattle.entries.specs.Series.{terms, least, most, expLess, expMore}
 use Rattle.entries.specs.Series as Entries
 use Rattle.entries.specs.LnTable.{Patterns, lnRows}
@@ -153,7 +152,7 @@ at-sound h k l =
 middles : (isLess isMore : Fraction → Bool) (l : ℕ) → T (nearest isLess isMore l)
     → T (isLess (middle (nextDown l) l)) × T (isMore (middle l (nextUp l)))
 middles isLess isMore l t =
-    let A = isNumber l && finite (ofBits binary64 (nextDown l)) && finite (ofBits binary64 (nextUp l)) in
+    let A = isNumber l && isFinite (nextDown l) && isFinite (nextUp l) in
     let B = isLess (middle (nextDown l) l) in
     let C = isMore (middle l (nextUp l)) in
     (and-r A B (and-l (A && B) C t), and-r (A && B) C t)

@@ -2,4 +2,5 @@
 pub mod Powers
 pub mod Logs
 mod Grows
+pub mod Neighbours
 pub mod Pieces

@@ -1,9 +1,9 @@
--- For every z of a row of ln's table |B z - 1| < 1 / 200: z grows with its pattern, and B z with z, so that the row's two ends
--- are enough. Assumes nothing.
+-- For every z of a row of ln's table |B z - 1| < 1 / 200: z grows with its pattern, and B z with z, so that the
+-- row's two ends are enough. Assumes nothing.
 use mathlib.Core.Path.{_≡_}
 use mathlib.Core.Bool.{Bool, true, false, _&&_, true≢false}
 use Prim.Native.Nat.{ℕ, suc, _+_, _*_, _^_, _≤_, _<_}
-use native.Mathlib.Nat.{le-trans, mul-le-mul-right, mul-lt-mul-of-pos-right, lt-of-mul-lt-mul-right}
+use native.Mathlib.Nat.{lt-of-le-of-lt, mul-le-mul-right, mul-lt-mul-of-pos-right, lt-of-mul-lt-mul-right}
 use native.Mathlib.Omega.{arith}
 use lib.Dec.{T, ltb→lt, lt→ltb}
 use lib.ListN.{getD}
@@ -16,7 +16,7 @@ use Rattle.entries.specs.Fractions.{Fraction, ratio, times, less, exactl
 use Rattle.entries.specs.LnTable.{Patterns, lnRows, bIn}
 use Rattle.entries.specs.Logs.{pieceStart, short, closeAt, closeAtEnds, inverseNearest, inSteps, logNearest, lnRowHolds}
 use Rattle.entries.proofs.Logs.{logs-nearest}
-use Rattle.entries.proofs.Grows.{Normal, grid, has-grid, grid-grows}
+use Rattle.entries.proofs.Grows.{grid, above-zero, grid-grows}
 
 -- ---- B u and B z, against a bound P / Q: B is n / d, u is nu / du, z is nz / dz
 raise : (P Q n d nu du nz dz : ℕ) → 0 < dz → nu * dz ≤ nz * du → P * (d * du) < n * nu * Q → P * (d * dz) < n * nz * Q
@@ -67,29 +67,29 @@ module _ (a b l P Q : ℕ) (L : 0 < l) where
       (transfer (k * up i) (m * up e) (down i) (down e) b a l l L L (q .1) (p .1) (mul-le-mul-right l h))
       (ltb→lt (n * (m * up e) * Q) (P * (d * down e)) t))
 
--- ---- between two patterns
-module _ (b m z n : ℕ) (M : Normal m) (N : Normal n) (h : m ≤ z) (k : z ≤ n) where
+-- ---- between two patterns of values above zero
+module _ (b m z n : ℕ) (N : n < 2047 * 2 ^ 52) (h : m ≤ z) (k : z ≤ n) where
   abbrev overLow : ℕ → Bool
   overLow y = less (ratio 199 200) (times (valueOf b) (valueOf y))
 
   abbrev underHigh : ℕ → Bool
   underHigh y = less (times (valueOf b) (valueOf y)) (ratio 201 200)
 
-  Z : Normal z
-  Z = (le-trans (M .0) h, narrow z n (2047 * 2 ^ 52) k (N .1))
-    where
-      narrow : (z n u : ℕ) → z ≤ n → n < u → z < u
-      narrow z n u h k = omega arith
+  Z : z < 2047 * 2 ^ 52
+  Z = lt-of-le-of-lt k N
+
+  M : m < 2047 * 2 ^ 52
+  M = lt-of-le-of-lt h Z
 
   above : T (overLow m) → T (overLow z)
   above =
       rises (grid m) (grid z) (2 ^ 1074) 199 200 (pow-pos 1074) (ofBits binary64 m) (ofBits binary64 z) (valueOf b)
-      (has-grid m M) (has-grid z Z) (grid-grows m z (M .0) h)
+      (above-zero m M) (above-zero z Z) (grid-grows m z h)
 
   below : T (overLow z) → T (underHigh n) → T (underHigh z)
   below =
       falls (grid n) (grid z) (2 ^ 1074) 201 200 (pow-pos 1074) (ofBits binary64 n) (ofBits binary64 z) (valueOf b) 199 200
-      (has-grid n N) (has-grid z Z) (grid-grows z n (Z .0) k)
+      (above-zero n N) (above-zero z Z) (grid-grows z n k)
 
   close-between : T (closeAt m b) → T (closeAt n b) → T (closeAt z b)
   close-between p q =
@@ -112,20 +112,7 @@ pieces-close i h n l u =
     let e : T (closeAtEnds i b) = ends i (getD lnRows i (0, 0, 0, 0)) (logs-nearest i h) in
     let E = closeAt (pieceStart i) b in
     let F = closeAt (pieceStart (suc i)) b in
-    close-between b (pieceStart i) n (pieceStart (suc i)) (start i (wide i h)) (start (suc i) (next i h)) l u
-    (and-l E F e) (and-r E F e)
+    close-between b (pieceStart i) n (pieceStart (suc i)) (to i h) l u (and-l E F e) (and-r E F e)
   where
-    start : (i : ℕ) → i < 129 → Normal (pieceStart i)
-    start i h = (from i, to i h)
-      where
-        from : (i : ℕ) → 2 ^ 52 ≤ 0x3fe6b00000000000 + i * 2 ^ 45
-        from i = omega arith
-
-        to : (i : ℕ) → i < 129 → 0x3fe6b00000000000 + i * 2 ^ 45 < 2047 * 2 ^ 52
-        to i h = omega arith
-
-    next : (i : ℕ) → i < 128 → suc i < 129
-    next i h = omega arith
-
-    wide : (i : ℕ) → i < 128 → i < 129
-    wide i h = omega arith
+    to : (i : ℕ) → i < 128 → 0x3fe6b00000000000 + suc i * 2 ^ 45 < 2047 * 2 ^ 52
+    to i h = omega arith

@@ -2,7 +2,7 @@
 -- Nothing is rounded or cut off. Definitions only. Assumes nothing.
 use Prim.Native.Nat.{ℕ, suc, _+_, _-_, _*_, _%_, _^_}
 use mathlib.Core.Bool.{Bool, true, false, not, _&&_, Bool·beq, cond}
-use lib.Dec.{ltb, eqb}
+use lib.Dec.{T, ltb, eqb}
 use lib.Ieee.{Float, nan, inf, fin, binary64, up, down, unlike, below, ofBits}
 use lib.Ieee.Scale.{finite}
 
@@ -45,17 +45,24 @@ exactly (fin s m e) = (s, m * up e, down e)
 abbrev pub valueOf : ℕ → Fraction
 valueOf bits = exactly (ofBits binary64 bits)
 
+abbrev pub isFinite : ℕ → Bool
+isFinite bits = finite (ofBits binary64 bits)
+
 -- finite, and not -0
 abbrev pub isNumber : ℕ → Bool
-isNumber bits = finite (ofBits binary64 bits) && not (eqb bits (2 ^ 63))
+isNumber bits = isFinite bits && not (eqb bits (2 ^ 63))
 
 -- The patterns of the next value up and the next value down. Below zero, where the sign's bit adds 2 ^ 63, a larger pattern
--- is a lower value; just below 0 stands 2 ^ 63 + 1
+-- is a lower value; just below 0 stands 2 ^ 63 + 1. No value lies between: `none-above`, `none-below` of Neighbours.antt
 abbrev pub nextUp : ℕ → ℕ
 nextUp bits = cond (ltb bits (2 ^ 63)) (suc bits) (bits - 1)
 
 abbrev pub nextDown : ℕ → ℕ
 nextDown bits = cond (eqb bits 0) (2 ^ 63 + 1) (cond (ltb bits (2 ^ 63)) (bits - 1) (suc bits))
+
+-- the value with the pattern k does not lie between those with the patterns m and n
+abbrev pub NotBetween : ℕ → ℕ → ℕ → Type 0
+NotBetween m k n = T (less (valueOf m) (valueOf k)) → T (less (valueOf k) (valueOf n)) → ⊥
 
 abbrev pub middle : ℕ → ℕ → Fraction
 middle a b = half (plus (valueOf a) (valueOf b))
@@ -64,5 +71,5 @@ middle a b = half (plus (valueOf a) (valueOf b))
 -- x is given by two tests: which fractions are less than x, and which are more
 abbrev pub nearest : (Fraction → Bool) → (Fraction → Bool) → ℕ → Bool
 nearest isLess isMore bits =
-    isNumber bits && finite (ofBits binary64 (nextDown bits)) && finite (ofBits binary64 (nextUp bits))
+    isNumber bits && isFinite (nextDown bits) && isFinite (nextUp bits)
     && isLess (middle (nextDown bits) bits) && isMore (middle bits (nextUp bits))
