@@ -15,8 +15,6 @@ pub mod ShapesLn
 pub mod Products
 pub mod Rows
 pub mod Patterns
-pub mod Powers
-pub mod Logs
 pub mod Commutes
 pub mod Rounding
 pub mod Values

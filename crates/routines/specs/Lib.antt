@@ -1,13 +1,11 @@
 pub mod Pick
 pub mod Tables
 pub mod Starts
-pub mod Powers
 pub mod Whole
 pub mod Constants
 pub mod Held
 pub mod Exp
 pub mod LnTable
-pub mod Logs
 pub mod Ln
 pub mod Expm1
 pub mod Lgamma

@@ -1,13 +1,13 @@
-// ln's tables: 128 pieces of the octave from 0.7089.. on. Each is a `match` and no array: an array in a `const` is copied to the stack
-// at each call.
+// ln's tables: 128 pieces of the octave from 0.7089.. on, by the rule `logs-nearest` of crates/entries.
+// Each is a `match` and no array: an array in a `const` is copied to the stack at each call.
 ghost use mathlib.Core.Path.{_≡_};
 ghost use Prim.Native.Nat.{_%_};
 ghost use Rattle.routines.specs.LnTable.{pieceOf, logOf, pieceParts, logParts};
 
-// A value c in the middle of the piece, and 1/c, of nine binary digits.
+// C and B: B is a whole number of 2^-9, and C the f64 nearest to 1/B.
 pub struct Piece(pub f64, pub f64);
 
-// ln c in two parts, the first a multiple of 2^-42.
+// H and L: H is a whole number of 2^-42, and L the f64 nearest to ln C - H.
 pub struct LogOfPiece(pub f64, pub f64);
 
 // Piece i, counted modulo 128.

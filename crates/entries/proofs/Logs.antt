@@ -7,8 +7,8 @@ use lib.ListN.{length, getD}
 use lib.Ieee.{ofBits}
 use Rattle.meaning.specs.Table.{wrong}
 use Rattle.meaning.proofs.Rules.{each}
-use Rattle.routines.specs.LnTable.{lnRows}
-use Rattle.routines.specs.Logs.{lnRowHolds}
+use Rattle.entries.specs.LnTable.{lnRows}
+use Rattle.entries.specs.Logs.{lnRowHolds}
 
 none-wrong : wrong lnRowHolds 0 lnRows ≡ []
 unfolding lnRows ofBits

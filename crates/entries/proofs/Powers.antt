@@ -7,10 +7,10 @@ use lib.ListN.{length, getD}
 use lib.Ieee.{ofBits}
 use Rattle.meaning.specs.Table.{wrong}
 use Rattle.meaning.proofs.Rules.{each}
-use Rattle.routines.specs.Tables.{rows}
-use Rattle.routines.specs.Powers.{nearestRow}
+use Rattle.entries.specs.ExpTable.{rows}
+use Rattle.entries.specs.Powers.{powerRowHolds}
 
-none-wrong : wrong nearestRow 0 rows ≡ []
+none-wrong : wrong powerRowHolds 0 rows ≡ []
 unfolding rows ofBits
 none-wrong = refl
 
@@ -19,5 +19,5 @@ unfolding rows
 count = refl
 
 -- THE RULE
-pub powers-nearest : (i : ℕ) → i < 32 → T (nearestRow i (getD rows i (0, 0)))
-powers-nearest i h = each nearestRow (0, 0) rows none-wrong i (subst (λ (n : ℕ). i < n) (sym count) h)
+pub powers-nearest : (i : ℕ) → i < 32 → T (powerRowHolds i (getD rows i (0, 0)))
+powers-nearest i h = each powerRowHolds (0, 0) rows none-wrong i (subst (λ (n : ℕ). i < n) (sym count) h)
