@@ -11,6 +11,7 @@ use crate::lobes::ln_dpois;
 use crate::log_sums::lse2;
 use crate::shelves::ShelfPart;
 use crate::shelves::mix_shelf;
+use meaning::limits::MOST;
 use routines::ln::ln;
 
 // ln of the Poisson's mass on 1 to `top`: each term is the one before times mean / (count + 1).
@@ -60,7 +61,7 @@ pub fn log_nb_mass_to(mean: f64, dispersion: f64, top: u16) -> f64
 pub fn log_nb_mass(mean: f64, dispersion: f64, top: usize) -> Number
     ensures { λ r. ⌜ numberSays r ≡ logNbMassOf mean dispersion top ⌝ }
 {
-    if top > 65535 {
+    if top > MOST {
         return Number::Refused(2);
     }
     if top == 0 {
@@ -116,7 +117,7 @@ pub fn single_copy_log_mass(
 ) -> Number
     ensures { λ r. ⌜ numberSays r ≡ singleCopyLogMassOf mean dispersion shelf (now (table .entry)) top ⌝ }
 {
-    if top > 65535 {
+    if top > MOST {
         return Number::Refused(2);
     }
     if top == 0 {

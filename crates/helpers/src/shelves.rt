@@ -10,6 +10,7 @@ use crate::hoists::shelf_logs;
 use crate::lobes::ln_dnbinom;
 use crate::log_sums::lse2;
 use meaning::answers::Written;
+use meaning::limits::MOST;
 use routines::casts::to_u64;
 use routines::lgamma::lgamma;
 use routines::ln::ln;
@@ -92,7 +93,7 @@ pub fn shelf_log_table(mean: f64, shelf: Shelf, top: usize, table: &mut [f64]) -
     ensures { λ r. ⌜ writtenSays r ≡ shelfLogTableOf mean top (length (now (table .entry))) ⌝ }
     ensures { λ _. ⌜ now (table .exit) ≡ tableAfter mean shelf top (now (table .entry)) ⌝ }
 {
-    if top > 65535 {
+    if top > MOST {
         return Written::Refused(2);
     }
     if top == 0 {

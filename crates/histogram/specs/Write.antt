@@ -3,9 +3,11 @@ use Prim.Native.Nat.{ℕ}
 use mathlib.Core.List.{List, [], _∷_}
 use lib.Dec.{ltb}
 use lib.ListN.{length}
-use Rattle.meaning.specs.Reply.{Reply, refuse, give, chain, test}
+use Rattle.meaning.specs.Reply.{Reply, give, chain, test}
+use Rattle.meaning.specs.Rows.{inOrder, few, short}
 use Rattle.histogram.specs.File.{mostBins, writeOf}
 
 -- into a slice of so many bytes
 unfoldable pub writeHistogramOf : List ℕ → ℕ → Reply (List ℕ)
-writeHistogramOf xs room = chain (test (ltb (length xs) 2) 1 ∷ test (ltb mostBins (length xs)) 2 ∷ test (ltb room (length (writeOf xs))) 10 ∷ []) (give (writeOf xs))
+writeHistogramOf xs room =
+    chain (inOrder (few (length xs ∷ []) ∷ (test (ltb mostBins (length xs)) 2 ∷ []) ∷ short room (length (writeOf xs)) ∷ [])) (give (writeOf xs))

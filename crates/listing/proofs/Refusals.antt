@@ -5,6 +5,7 @@ use mathlib.Core.List.{List}
 use lib.ListN.{length}
 use borrow.Author.Tests.{lt-ltb, le-ltb}
 use Rattle.meaning.specs.Reply.{refuse, give}
+use Rattle.meaning.specs.Rows.{most as limit}
 use Rattle.listing.specs.Listing.{listingOf, refusalOf, listHistogramOf, listRefusalOf}
 
 module _ (place room : ℕ) where
@@ -22,15 +23,15 @@ module _ (xs : List ℕ) (room : ℕ) where
   too-few h = rw (lt-ltb (length xs) 2 h)
 
   module _ (two : 2 ≤ length xs) where
-    pub too-many : 65535 < length xs → listHistogramOf xs room ≡ refuse 2
+    pub too-many : limit < length xs → listHistogramOf xs room ≡ refuse 2
     unfolding listHistogramOf
-    too-many h = rw (le-ltb (length xs) 2 two, lt-ltb 65535 (length xs) h)
+    too-many h = rw (le-ltb (length xs) 2 two, lt-ltb limit (length xs) h)
 
-    module _ (most : length xs ≤ 65535) where
+    module _ (most : length xs ≤ limit) where
       pub too-short : room < length (listingOf xs) → listHistogramOf xs room ≡ refuse 10
       unfolding listHistogramOf
-      too-short h = rw (le-ltb (length xs) 2 two, le-ltb 65535 (length xs) most, lt-ltb room (length (listingOf xs)) h)
+      too-short h = rw (le-ltb (length xs) 2 two, le-ltb limit (length xs) most, lt-ltb room (length (listingOf xs)) h)
 
       pub lists : length (listingOf xs) ≤ room → listHistogramOf xs room ≡ give (listingOf xs)
       unfolding listHistogramOf
-      lists h = rw (le-ltb (length xs) 2 two, le-ltb 65535 (length xs) most, le-ltb room (length (listingOf xs)) h)
+      lists h = rw (le-ltb (length xs) 2 two, le-ltb limit (length xs) most, le-ltb room (length (listingOf xs)) h)

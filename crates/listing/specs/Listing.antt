@@ -4,9 +4,9 @@ use Prim.Native.Nat.{ℕ, suc, _+_, _*_}
 use Prim.Native.Char.{code}
 use Prim.Native.String.{String, [] as none, _∷_ as _then_}
 use mathlib.Core.List.{List, [], _∷_, _++_}
-use lib.Dec.{ltb}
 use lib.ListN.{length}
-use Rattle.meaning.specs.Reply.{Reply, refuse, broken, give, chain, test}
+use Rattle.meaning.specs.Reply.{Reply, refuse, broken, give, chain}
+use Rattle.meaning.specs.Rows.{inOrder, few, many, short}
 use Rattle.listing.specs.Decimal.{decimalOf}
 use Rattle.histogram.specs.File.{mostBins, readOf}
 
@@ -50,7 +50,8 @@ longestListing = 10 + 16 * mostBins
 
 -- ---- the calls: 1 for fewer than 2 bins, 2 for more than 65,535, 10 where the bytes are too few
 unfoldable pub listHistogramOf : List ℕ → ℕ → Reply (List ℕ)
-listHistogramOf xs room = chain (test (ltb (length xs) 2) 1 ∷ test (ltb 65535 (length xs)) 2 ∷ test (ltb room (length (listingOf xs))) 10 ∷ []) (give (listingOf xs))
+listHistogramOf xs room =
+    chain (inOrder (few (length xs ∷ []) ∷ many (length xs ∷ []) ∷ short room (length (listingOf xs)) ∷ [])) (give (listingOf xs))
 
 unfoldable pub listRefusalOf : ℕ → ℕ → Reply (List ℕ)
-listRefusalOf place room = chain (test (ltb room (length (refusalOf place))) 10 ∷ []) (give (refusalOf place))
+listRefusalOf place room = chain (short room (length (refusalOf place))) (give (refusalOf place))

@@ -4,17 +4,16 @@ ghost use Prim.Native.Nat.{_≤_};
 ghost use lib.ListN.{length};
 ghost use Rattle.listing.specs.Decimal.{decimalOf};
 ghost use Rattle.meaning.specs.Over.{over};
+ghost use Rattle.meaning.specs.Rows.{most};
 ghost use Rattle.meaning.specs.Lent.{laid, counted};
 ghost use Rattle.listing.specs.Listing.{lineOf, rowOf, rowsOf, listHistogramOf, listRefusalOf};
 ghost use Rattle.meaning.specs.Answers.{writtenSays};
 use histogram::reader::MAX_FILE_BINS;
 use meaning::answers::Written;
+use meaning::limits::MOST;
 
 // No file's listing is longer: ten bytes for the first line, and for each bin four digits, ten digits, a space and the end of the line.
 pub const LONGEST_LISTING: usize = 10 + 16 * MAX_FILE_BINS;
-
-// The most bins that a call takes.
-const MAX_BINS: usize = 65535;
 
 fn wide(n: u32) -> u64
     ensures { λ r. ⌜ r ≡ n ⌝ }
@@ -108,7 +107,7 @@ fn put_rows(out: &mut [u8], bins: &[u32]) -> usize
 }
 
 fn rows_size(bins: &[u32]) -> usize
-    requires { ⌜ length (now bins) ≤ 65535 ⌝ }
+    requires { ⌜ length (now bins) ≤ most ⌝ }
     ensures { λ r. ⌜ r ≡ length (rowsOf 1 (now (bins .entry))) ⌝ }
 {
     let mut size: usize = 0;
@@ -130,7 +129,7 @@ pub fn list_histogram(bins: &[u32], out: &mut [u8]) -> Written
     if bins.len() < 2 {
         return Written::Refused(1);
     }
-    if bins.len() > MAX_BINS {
+    if bins.len() > MOST {
         return Written::Refused(2);
     }
     let count = bins.len() as u64;
