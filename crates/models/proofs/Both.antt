@@ -1,4 +1,5 @@
--- What `a && b` comes to by the way that the code went: b's test where a's held, and a's own where it did not. Assumes nothing.
+-- What `a && b` comes to by the way that the code went: b's test where a's held, and a's own where it did not.
+-- Assumes nothing.
 use mathlib.Core.Path.{_≡_, sym, _∙_}
 use mathlib.Core.Bool.{Bool, true, false, _&&_}
 
