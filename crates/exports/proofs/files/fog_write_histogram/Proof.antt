@@ -6,8 +6,8 @@ use Rattle.exports.proofs.files.fog_write_histogram.Tie as tie
 write-histogram-requires : tie.Need-write-histogram-requires
 write-histogram-requires c κs = search needs
 
-flat-bytes-requires : tie.Need-flat-bytes-requires
-flat-bytes-requires c κs = search needs
+flat-written-requires : tie.Need-flat-written-requires
+flat-written-requires c κs = search needs
 
 same-length : tie.Need-same-length
 same-length c = search needs
@@ -15,8 +15,8 @@ same-length c = search needs
 returns : tie.Need-returns
 returns c =
     let call = c .before .before .before in
-    (rw (c .flat-bytes .ensures, call .write-histogram .ensures .0), call .write-histogram .ensures .1)
+    (rw (c .flat-written .ensures, call .write-histogram .ensures .0), call .write-histogram .ensures .1)
 
 pub fog-write-histogram-spec : {M : Type 1} → statement M
 fog-write-histogram-spec =
-    tie.close (tie.spec write-histogram-requires flat-bytes-requires same-length returns)
+    tie.close (tie.spec write-histogram-requires flat-written-requires same-length returns)
