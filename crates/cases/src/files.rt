@@ -43,14 +43,18 @@ fn file(bytes: &[u8]) {
     listing_of(bytes);
 }
 
-// The first numbers: the form, and the bin counts 0, 1, 2 and 2,048.
-fn heads() {
+// The first number, the form.
+fn forms() {
     file(b"");
     file(b"\x00");
     file(b"\x02");
     file(b"\x81");
     file(b"\x81\x00");
     file(b"\x01");
+}
+
+// The second, the bin count: 0, 1, 2 and 2,048.
+fn counts() {
     file(b"\x01\x80");
     file(b"\x01\x00");
     file(b"\x01\x01\x00");
@@ -60,7 +64,7 @@ fn heads() {
     file(b"\x01\x80\x80\x01");
 }
 
-// The bins: missing, cut short, too long, the largest and one above it, and bytes behind the last.
+// The bins: missing, cut short, too long.
 fn bins() {
     file(b"\x01\x03\xAC\x02\x00\x05");
     file(b"\x01\x02");
@@ -68,6 +72,10 @@ fn bins() {
     file(b"\x01\x02\x05\x80");
     file(b"\x01\x02\x80\x00\x00");
     file(b"\x01\x02\x05\x80\x00");
+}
+
+// The largest bin and one above it, and bytes behind the last.
+fn largest() {
     file(b"\x01\x02\xFF\xFF\xFF\xFF\x0F\x00");
     file(b"\x01\x02\x00\xFF\xFF\xFF\xFF\x0F");
     file(b"\x01\x02\x80\x80\x80\x80\x10\x00");
@@ -131,8 +139,10 @@ fn reading() {
 }
 
 pub(crate) fn all() {
-    heads();
+    forms();
+    counts();
     bins();
+    largest();
     most(0, 2050);
     most(4294967295, 10238);
     writing();

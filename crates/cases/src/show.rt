@@ -19,37 +19,39 @@ fn end() {
     io::write_all(STDOUT_FILENO, b"\n");
 }
 
-pub(crate) fn one(name: &[u8], x: f64, answer: f64) {
-    io::write_all(STDOUT_FILENO, name);
-    space();
+pub(crate) fn one(text: &[u8], x: f64, answer: f64) {
+    name(text);
     bits(x);
     space();
-    bits(answer);
-    end();
+    value(answer);
 }
 
-pub(crate) fn two(name: &[u8], a: f64, b: f64, answer: f64) {
-    io::write_all(STDOUT_FILENO, name);
-    space();
+pub(crate) fn two(text: &[u8], a: f64, b: f64, answer: f64) {
+    name(text);
     bits(a);
     space();
     bits(b);
     space();
-    bits(answer);
-    end();
+    value(answer);
 }
 
-pub(crate) fn cast(name: &[u8], x: f64, answer: u64) {
-    io::write_all(STDOUT_FILENO, name);
-    space();
+pub(crate) fn cast(text: &[u8], x: f64, answer: u64) {
+    name(text);
     bits(x);
     space();
     io::print_decimal(STDOUT_FILENO, answer);
     end();
 }
 
-fn name(text: &[u8]) {
+pub(crate) fn name(text: &[u8]) {
     io::write_all(STDOUT_FILENO, text);
+    space();
+}
+
+// A name that ends in a number.
+pub(crate) fn label(text: &[u8], n: u64) {
+    name(text);
+    io::print_decimal(STDOUT_FILENO, n);
     space();
 }
 
@@ -59,19 +61,13 @@ pub(crate) fn number(text: &[u8], n: u64) {
     end();
 }
 
-pub(crate) fn answered(text: &[u8], value: f64) {
-    name(text);
-    bits(value);
+pub(crate) fn value(x: f64) {
+    bits(x);
     end();
 }
 
 pub(crate) fn refused(n: u8) {
     number(b"refused", n as u64);
-}
-
-pub(crate) fn number_refused(text: &[u8], n: u8) {
-    name(text);
-    refused(n);
 }
 
 fn byte(b: u8) {
@@ -101,9 +97,7 @@ pub(crate) fn text(text: &[u8], n: usize) {
 }
 
 pub(crate) fn written(text: &[u8], n: u64, answer: Written) {
-    name(text);
-    io::print_decimal(STDOUT_FILENO, n);
-    space();
+    label(text, n);
     match answer {
         Written::Items(size) => number(b"bytes", size as u64),
         Written::Refused(k) => refused(k),
@@ -111,9 +105,7 @@ pub(crate) fn written(text: &[u8], n: u64, answer: Written) {
 }
 
 pub(crate) fn read(text: &[u8], n: u64, answer: FileRead) {
-    name(text);
-    io::print_decimal(STDOUT_FILENO, n);
-    space();
+    label(text, n);
     match answer {
         FileRead::Bins(size) => number(b"bins", size as u64),
         FileRead::Broken(place) => number(b"refused 3 at", place as u64),

@@ -1,14 +1,21 @@
-// A fit, parameters and an error component in a row's words, and what is read off a fit. The places are those of oracle/src/words.rs.
-use crate::tables;
+// A fit in a row's words and back, and what is read off one. The places are those of oracle/src/words.rs.
+use crate::answers::Answer;
+use crate::answers::float;
+use crate::answers::small;
+use crate::answers::whole;
+use crate::shapes::error_number;
+use crate::shapes::error_of;
+use crate::shapes::genome_number;
+use crate::shapes::genome_of;
+use crate::shapes::part;
+use crate::shapes::part_words;
+use crate::shapes::shape;
+use crate::shapes::shape_words;
+use crate::words::from;
 use crate::words::number;
-use crate::words::same;
 use crate::words::word;
 use helpers::answers::Count;
-use helpers::shelves::ShelfPart;
 use models::errors::ErrorParams;
-use models::errors::ShapePart;
-use models::families::ErrorModel;
-use models::families::GenomeModel;
 use models::fit::SpectrumFit;
 use models::fit::component_total_ratio;
 use models::fit::mode_roundtrip_error;
@@ -18,52 +25,29 @@ use models::heights::HeightsAnswer;
 use models::heights::component_heights;
 use models::modes::error_mode;
 
-pub(crate) fn error_of(n: u64) -> ErrorModel {
-    if n == 0 {
-        return ErrorModel::FreeSingletonWeibull;
-    }
-    ErrorModel::SingletonPareto
-}
+pub(crate) const COMPONENT_TOTAL_RATIO: u64 = 66;
 
-pub(crate) fn genome_of(n: u64) -> GenomeModel {
-    if n == 0 {
-        return GenomeModel::NegativeBinomial;
-    }
-    GenomeModel::ShelfNegativeBinomial
-}
+pub(crate) const MODE_ROUNDTRIP_ERROR: u64 = 67;
 
-fn shape(present: u64, x: f64) -> ShapePart {
-    if present == 0 {
-        return ShapePart::Absent;
-    }
-    ShapePart::Present(x)
-}
+pub(crate) const PRIMARY_MODE: u64 = 68;
 
-pub(crate) fn errors(row: &[u64], present: u64, i: usize) -> ErrorParams {
-    let second = tables::next(i);
-    ErrorParams {
-        singleton_probability: number(row, i),
-        tail_exponent: number(row, second),
-        weibull_shape: shape(present, number(row, tables::next(second))),
-    }
-}
+pub(crate) const REPEAT_MODE: u64 = 69;
 
-fn part(row: &[u64], present: u64, i: usize) -> ShelfPart {
-    if present == 0 {
-        return ShelfPart::Absent;
-    }
-    ShelfPart::Present(tables::shelf(row, i))
-}
+pub(crate) const ERROR_MODE: u64 = 70;
 
-// The 33 words of a fit.
-pub(crate) fn fit(w: &[u64]) -> SpectrumFit {
-    let error_model = error_of(word(w, 0));
-    let genome_model = genome_of(word(w, 1));
-    let error_params = errors(w, word(w, 2), 12);
-    let shelf = part(w, word(w, 3), 15);
+pub(crate) const COMPONENT_HEIGHTS: u64 = 71;
+
+// 33 words.
+fn fit(w: &[u64]) -> SpectrumFit {
+    let error_params = ErrorParams {
+        singleton_probability: number(w, 12),
+        tail_exponent: number(w, 13),
+        weibull_shape: shape(word(w, 2), number(w, 14)),
+    };
+    let shelf = part(word(w, 3), number(w, 15), number(w, 16), number(w, 17));
     SpectrumFit {
-        error_model: error_model,
-        genome_model: genome_model,
+        error_model: error_of(word(w, 0)),
+        genome_model: genome_of(word(w, 1)),
         w_error: number(w, 6),
         w_single: number(w, 7),
         w_repeat: number(w, 8),
@@ -88,99 +72,90 @@ pub(crate) fn fit(w: &[u64]) -> SpectrumFit {
     }
 }
 
-pub(crate) fn error_holds(e: ErrorModel, n: u64) -> bool {
-    match e {
-        ErrorModel::FreeSingletonWeibull => n == 0,
-        ErrorModel::SingletonPareto => n == 1,
+// A number and a fit's 33 words, at the front of the words that they are held against.
+pub(crate) fn fitted(number: u64, f: SpectrumFit) -> Answer {
+    let e = f.error_params;
+    let masses = f.component_log_window_masses;
+    let totals = f.component_log_totals;
+    let error_model = f.error_model;
+    let genome_model = f.genome_model;
+    let weibull = e.weibull_shape;
+    let part = f.shelf;
+    let error = error_number(error_model);
+    let genome = genome_number(genome_model);
+    let shape = shape_words(weibull);
+    let shelf = part_words(part);
+    Answer {
+        at: 0,
+        wholes: 7,
+        floats: 27,
+        n: [
+            number,
+            error,
+            genome,
+            shape.present,
+            shelf.present,
+            f.fit_window_end as u64,
+            f.best_iterations,
+        ],
+        x: [
+            f.w_error,
+            f.w_single,
+            f.w_repeat,
+            f.mean,
+            f.dispersion,
+            f.target_mode,
+            e.singleton_probability,
+            e.tail_exponent,
+            shape.a,
+            shelf.a,
+            shelf.b,
+            shelf.c,
+            f.repeat_ratio,
+            f.genome_kmers,
+            f.error_kmers,
+            f.repeat_kmers,
+            f.log_likelihood,
+            f.bic,
+            f.deviance,
+            masses[0],
+            masses[1],
+            masses[2],
+            totals[0],
+            totals[1],
+            totals[2],
+            f.observed_total,
+            f.full_distinct_total,
+        ],
     }
 }
 
-pub(crate) fn genome_holds(g: GenomeModel, n: u64) -> bool {
-    match g {
-        GenomeModel::NegativeBinomial => n == 0,
-        GenomeModel::ShelfNegativeBinomial => n == 1,
-    }
-}
-
-// An error component whose presence is `present`, in words i on; an absent shape is 0.
-pub(crate) fn errors_hold(e: ErrorParams, present: u64, w: &[u64], i: usize) -> bool {
-    let shape = e.weibull_shape;
-    let second = tables::next(i);
-    same(e.singleton_probability, word(w, i))
-        && same(e.tail_exponent, word(w, second))
-        && shape_holds(shape, present, word(w, tables::next(second)))
-}
-
-fn shape_holds(shape: ShapePart, present: u64, bits: u64) -> bool {
-    match shape {
-        ShapePart::Absent => present == 0 && bits == 0,
-        ShapePart::Present(x) => present == 1 && same(x, bits),
-    }
-}
-
-// The same of a shelf.
-pub(crate) fn part_holds(shelf: ShelfPart, present: u64, w: &[u64], i: usize) -> bool {
-    let second = tables::next(i);
-    let third = tables::next(second);
-    match shelf {
-        ShelfPart::Absent => {
-            present == 0 && word(w, i) == 0 && word(w, second) == 0 && word(w, third) == 0
-        }
-        ShelfPart::Present(s) => {
-            present == 1
-                && same(s.share, word(w, i))
-                && same(s.alpha, word(w, second))
-                && same(s.beta, word(w, third))
-        }
-    }
-}
-
-fn mode_holds(answer: Count, n: u64, count: u64) -> bool {
+fn count(answer: Count) -> Answer {
     match answer {
-        Count::Whole(c) => n == 0 && c == count,
-        Count::Refused(r) => n == r as u64 && count == 0,
+        Count::Whole(c) => small(34, 2, 0, c, 0, 0.0, 0.0, 0.0),
+        Count::Refused(n) => small(34, 2, n as u64, 0, 0, 0.0, 0.0, 0.0),
     }
 }
 
-fn heights_hold(answer: HeightsAnswer, w: &[u64]) -> bool {
+fn heights(answer: HeightsAnswer) -> Answer {
     match answer {
-        HeightsAnswer::At(h) => {
-            word(w, 0) == 0
-                && same(h.error, word(w, 1))
-                && same(h.single, word(w, 2))
-                && same(h.repeat, word(w, 3))
-        }
-        HeightsAnswer::Refused(r) => {
-            word(w, 0) == r as u64 && word(w, 1) == 0 && word(w, 2) == 0 && word(w, 3) == 0
-        }
+        HeightsAnswer::At(h) => small(35, 1, 0, 0, 3, h.error, h.single, h.repeat),
+        HeightsAnswer::Refused(n) => small(35, 1, n as u64, 0, 3, 0.0, 0.0, 0.0),
     }
 }
 
-fn number_read(call: u64, f: SpectrumFit) -> f64 {
-    if call == 66 {
-        return component_total_ratio(f);
-    }
-    mode_roundtrip_error(f)
-}
-
-fn mode_read(call: u64, f: SpectrumFit) -> u64 {
-    if call == 68 {
-        return primary_mode(f);
-    }
-    repeat_mode(f)
-}
-
-// A fit, and behind it a count for two of the calls, and the answer.
-pub(crate) fn holds(call: u64, row: &[u64]) -> bool {
-    let w = tables::behind(row, 1);
-    let rest = tables::behind(row, 34);
+// `at` is the count that one of the calls has behind the fit.
+fn read(call: u64, f: SpectrumFit, at: u64) -> Answer {
     match call {
-        66 | 67 => same(number_read(call, fit(w)), word(rest, 0)),
-        68 | 69 => mode_read(call, fit(w)) == word(rest, 0),
-        70 => mode_holds(error_mode(fit(w)), word(rest, 0), word(rest, 1)),
-        _ => heights_hold(
-            component_heights(fit(w), word(rest, 0) as usize),
-            tables::behind(rest, 1),
-        ),
+        COMPONENT_TOTAL_RATIO => float(34, component_total_ratio(f)),
+        MODE_ROUNDTRIP_ERROR => float(34, mode_roundtrip_error(f)),
+        PRIMARY_MODE => whole(34, primary_mode(f)),
+        REPEAT_MODE => whole(34, repeat_mode(f)),
+        ERROR_MODE => count(error_mode(f)),
+        _ => heights(component_heights(f, at as usize)),
     }
+}
+
+pub(crate) fn answer(call: u64, row: &[u64]) -> Answer {
+    read(call, fit(from(row, 1)), word(row, 34))
 }

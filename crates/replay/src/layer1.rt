@@ -1,7 +1,11 @@
-// Layer 1: whether the port gives the row's answer. The numbers are those of oracle/src/layer1.rs.
-use crate::words::number;
-use crate::words::same;
-use crate::words::word;
+// Layer 1: a row's answer by the port. The numbers are those of oracle/src/layer1.rs.
+use crate::answers::Answer;
+use crate::answers::float;
+use crate::answers::none;
+use crate::answers::pair;
+use crate::answers::whole;
+use crate::row::Row;
+use crate::words::flag;
 use routines::casts::from_u64;
 use routines::casts::to_u32;
 use routines::casts::to_u64;
@@ -23,97 +27,119 @@ use routines::tables::weibull_starts;
 use routines::whole::floor;
 use routines::whole::round;
 
-fn finite_holds(row: &[u64]) -> bool {
-    if is_finite(number(row, 1)) {
-        word(row, 2) == 1
-    } else {
-        word(row, 2) == 0
+const EXP: u64 = 1;
+
+const LN: u64 = 2;
+
+const EXPM1: u64 = 3;
+
+const LGAMMA: u64 = 4;
+
+const ROUND: u64 = 5;
+
+const FLOOR: u64 = 6;
+
+const MAX: u64 = 7;
+
+const MIN: u64 = 8;
+
+const IS_FINITE: u64 = 9;
+
+const TO_U64: u64 = 10;
+
+const TO_U32: u64 = 11;
+
+const FROM_U64: u64 = 12;
+
+const AT_LEAST: u64 = 13;
+
+const AT_MOST: u64 = 14;
+
+const TAIL: u64 = 15;
+
+const POWER_AT: u64 = 16;
+
+const PIECE_AT: u64 = 17;
+
+const LOG_AT: u64 = 18;
+
+const PARETO_STARTS: u64 = 19;
+
+const WEIBULL_STARTS: u64 = 20;
+
+fn routine(call: u64, x: f64) -> f64 {
+    match call {
+        EXP => exp(x),
+        LN => ln(x),
+        EXPM1 => expm1(x),
+        LGAMMA => lgamma(x),
+        ROUND => round(x),
+        FLOOR => floor(x),
+        _ => tail(x),
     }
 }
 
-fn power_holds(row: &[u64]) -> bool {
-    let p = power_at(word(row, 1));
-    same(p.value, word(row, 2)) && same(p.rest, word(row, 3))
+fn pick(call: u64, a: f64, b: f64) -> f64 {
+    match call {
+        MAX => max(a, b),
+        MIN => min(a, b),
+        AT_LEAST => at_least(a, b),
+        _ => at_most(a, b),
+    }
 }
 
-fn piece_holds(row: &[u64]) -> bool {
-    let p = piece_at(word(row, 1));
-    same(p.0, word(row, 2)) && same(p.1, word(row, 3))
+fn cast(call: u64, x: f64) -> u64 {
+    match call {
+        IS_FINITE => flag(is_finite(x)),
+        TO_U64 => to_u64(x),
+        _ => to_u32(x) as u64,
+    }
 }
 
-fn log_holds(row: &[u64]) -> bool {
-    let p = log_at(word(row, 1));
-    same(p.0, word(row, 2)) && same(p.1, word(row, 3))
+fn power(i: u64) -> Answer {
+    let p = power_at(i);
+    pair(2, p.value, p.rest)
+}
+
+fn piece(i: u64) -> Answer {
+    let p = piece_at(i);
+    pair(2, p.0, p.1)
+}
+
+fn log(i: u64) -> Answer {
+    let p = log_at(i);
+    pair(2, p.0, p.1)
 }
 
 // Behind the last start the row holds 0.
-fn pareto_holds(row: &[u64]) -> bool {
+fn pareto(i: usize) -> f64 {
     let starts = pareto_starts();
-    let i = word(row, 1) as usize;
-    if i < 6 {
-        return same(starts[i], word(row, 2));
-    }
-    word(row, 2) == 0
+    if i < 6 { starts[i] } else { 0.0 }
 }
 
-fn weibull_holds(row: &[u64]) -> bool {
+fn weibull(i: usize) -> f64 {
     let starts = weibull_starts();
-    let i = word(row, 1) as usize;
-    if i < 9 {
-        return same(starts[i], word(row, 2));
-    }
-    word(row, 2) == 0
+    if i < 9 { starts[i] } else { 0.0 }
 }
 
-fn routine_holds(call: u64, x: f64, answer: u64) -> bool {
+fn table(call: u64, i: u64) -> Answer {
     match call {
-        1 => same(exp(x), answer),
-        2 => same(ln(x), answer),
-        3 => same(expm1(x), answer),
-        4 => same(lgamma(x), answer),
-        5 => same(round(x), answer),
-        6 => same(floor(x), answer),
-        15 => same(tail(x), answer),
-        _ => false,
+        FROM_U64 => float(2, from_u64(i)),
+        POWER_AT => power(i),
+        PIECE_AT => piece(i),
+        LOG_AT => log(i),
+        PARETO_STARTS => float(2, pareto(i as usize)),
+        WEIBULL_STARTS => float(2, weibull(i as usize)),
+        _ => none(),
     }
 }
 
-fn pick_holds(call: u64, a: f64, b: f64, answer: u64) -> bool {
+pub(crate) fn answer(r: Row) -> Answer {
+    let call = r.call;
     match call {
-        7 => same(max(a, b), answer),
-        8 => same(min(a, b), answer),
-        13 => same(at_least(a, b), answer),
-        14 => same(at_most(a, b), answer),
-        _ => false,
-    }
-}
-
-fn cast_holds(call: u64, row: &[u64]) -> bool {
-    match call {
-        9 => finite_holds(row),
-        10 => to_u64(number(row, 1)) == word(row, 2),
-        11 => to_u32(number(row, 1)) as u64 == word(row, 2),
-        12 => same(from_u64(word(row, 1)), word(row, 2)),
-        _ => false,
-    }
-}
-
-fn table_holds(call: u64, row: &[u64]) -> bool {
-    match call {
-        16 => power_holds(row),
-        17 => piece_holds(row),
-        18 => log_holds(row),
-        19 => pareto_holds(row),
-        20 => weibull_holds(row),
-        _ => false,
-    }
-}
-
-pub(crate) fn holds(call: u64, row: &[u64]) -> bool {
-    match call {
-        1..=6 | 15 => routine_holds(call, number(row, 1), word(row, 2)),
-        7 | 8 | 13 | 14 => pick_holds(call, number(row, 1), number(row, 2), word(row, 3)),
-        9..=12 => cast_holds(call, row),
-        _ => table_holds(call, row),
+        EXP | LN | EXPM1 | LGAMMA | ROUND | FLOOR | TAIL => float(2, routine(call, r.x1)),
+        MAX | MIN | AT_LEAST | AT_MOST => float(3, pick(call, r.x1, r.x2)),
+        IS_FINITE | TO_U64 | TO_U32 => whole(2, cast(call, r.x1)),
+        _ => table(call, r.w1),
     }
 }

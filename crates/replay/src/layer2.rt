@@ -1,9 +1,14 @@
-// Layer 2: whether the port gives the row's answer. The numbers are those of oracle/src/layer2/.
-use crate::tables;
-use crate::words::number;
-use crate::words::same;
-use crate::words::word;
-use helpers::answers::Number;
+// Layer 2: a row's answer by the port. The numbers are those of oracle/src/layer2/.
+use crate::answers::Answer;
+use crate::answers::float;
+use crate::answers::none;
+use crate::answers::number;
+use crate::answers::pair;
+use crate::answers::small;
+use crate::answers::whole;
+use crate::row::Row;
+use crate::shapes::part;
+use crate::words::flag;
 use helpers::hoists::Lobe;
 use helpers::hoists::density;
 use helpers::hoists::lobe_of;
@@ -18,144 +23,179 @@ use helpers::log_sums::lse3;
 use helpers::log_sums::sigmoid;
 use helpers::masses::log_nb_mass;
 use helpers::masses::log_nb_mass_to;
+use helpers::shelves::Shelf;
+use helpers::shelves::ShelfPart;
 use helpers::shelves::ln_dbetabinom;
 use helpers::shelves::ln_single_copy;
 use helpers::shelves::mix_shelf;
 use helpers::shelves::shelf_trials;
 
-fn softmax_holds(row: &[u64]) -> bool {
-    let logs = ln_softmax3(number(row, 1), number(row, 2), number(row, 3));
-    same(logs.first, word(row, 4))
-        && same(logs.second, word(row, 5))
-        && same(logs.third, word(row, 6))
-}
+const LSE2: u64 = 32;
 
-fn flag(b: bool) -> u64 {
-    if b { 1 } else { 0 }
-}
+const LSE3: u64 = 33;
 
-fn lobe_holds(row: &[u64]) -> bool {
-    let l = lobe_of(number(row, 1), number(row, 2));
-    if flag(l.poisson) != word(row, 3) {
-        return false;
+const LN_SOFTMAX3: u64 = 34;
+
+const LN_SUB_EXP: u64 = 35;
+
+const SIGMOID: u64 = 36;
+
+const LN_DPOIS: u64 = 37;
+
+const LN_DNBINOM: u64 = 38;
+
+const LOBE_OF: u64 = 39;
+
+const DENSITY: u64 = 40;
+
+const DISCRETE_NB_MODE: u64 = 41;
+
+const LOG_NB_MASS: u64 = 42;
+
+const LOG_NB_MASS_TO: u64 = 43;
+
+const SHELF_TRIALS: u64 = 44;
+
+const LN_DBETABINOM: u64 = 45;
+
+const LN_SINGLE_COPY: u64 = 47;
+
+const MIX_SHELF: u64 = 48;
+
+const SHELF_LOGS: u64 = 52;
+
+// ---- a few floats
+
+fn of_one(call: u64, x: f64) -> f64 {
+    match call {
+        SIGMOID => sigmoid(x),
+        _ => shelf_trials(x),
     }
-    same(l.mean, word(row, 4))
-        && same(l.rate, word(row, 5))
-        && same(l.size, word(row, 6))
-        && same(l.gamma, word(row, 7))
-        && same(l.start, word(row, 8))
-        && same(l.slope, word(row, 9))
 }
 
-fn density_holds(row: &[u64]) -> bool {
+fn of_two(call: u64, x: f64, y: f64) -> f64 {
+    match call {
+        LSE2 => lse2(x, y),
+        LN_SUB_EXP => ln_sub_exp(x, y),
+        _ => ln_dpois(x, y),
+    }
+}
+
+fn of_three(call: u64, x: f64, y: f64, z: f64) -> f64 {
+    match call {
+        LSE3 => lse3(x, y, z),
+        _ => ln_dnbinom(x, y, z),
+    }
+}
+
+fn softmax(x: f64, y: f64, z: f64) -> Answer {
+    let logs = ln_softmax3(x, y, z);
+    small(4, 0, 0, 0, 3, logs.first, logs.second, logs.third)
+}
+
+fn of_floats(call: u64, x: f64, y: f64, z: f64, t: f64) -> Answer {
+    match call {
+        SIGMOID | SHELF_TRIALS => float(2, of_one(call, x)),
+        LSE2 | LN_SUB_EXP | LN_DPOIS => float(3, of_two(call, x, y)),
+        LSE3 | LN_DNBINOM => float(4, of_three(call, x, y, z)),
+        LN_DBETABINOM => float(5, ln_dbetabinom(x, y, z, t)),
+        LN_SOFTMAX3 => softmax(x, y, z),
+        DISCRETE_NB_MODE => whole(3, discrete_nb_mode(x, y)),
+        LOBE_OF => lobe(x, y),
+        _ => none(),
+    }
+}
+
+// ---- a lobe
+
+fn lobe(x: f64, y: f64) -> Answer {
+    let l = lobe_of(x, y);
+    Answer {
+        at: 3,
+        wholes: 1,
+        floats: 6,
+        n: [flag(l.poisson), 0, 0, 0, 0, 0, 0],
+        x: [
+            l.mean,
+            l.rate,
+            l.size,
+            l.gamma,
+            l.start,
+            l.slope,
+            0.0,
+            0.0,
+            0.0,
+            0.0,
+            0.0,
+            0.0,
+            0.0,
+            0.0,
+            0.0,
+            0.0,
+            0.0,
+            0.0,
+            0.0,
+            0.0,
+            0.0,
+            0.0,
+            0.0,
+            0.0,
+            0.0,
+            0.0,
+            0.0,
+        ],
+    }
+}
+
+fn density_at(r: Row) -> f64 {
     let lobe = Lobe {
-        poisson: word(row, 1) != 0,
-        mean: number(row, 2),
-        rate: number(row, 3),
-        size: number(row, 4),
-        gamma: number(row, 5),
-        start: number(row, 6),
-        slope: number(row, 7),
+        poisson: r.w1 != 0,
+        mean: r.x2,
+        rate: r.x3,
+        size: r.x4,
+        gamma: r.x5,
+        start: r.x6,
+        slope: r.x7,
     };
-    same(density(lobe, number(row, 8)), word(row, 9))
+    density(lobe, r.x8)
 }
 
-// Whether an answer is the one whose number and value stand from word i on: beside a refusal the value is 0.
-pub(crate) fn answers(answer: Number, row: &[u64], i: usize) -> bool {
-    match answer {
-        Number::Value(value) => word(row, i) == 0 && same(value, word(row, tables::next(i))),
-        Number::Refused(n) => word(row, i) == n as u64 && word(row, tables::next(i)) == 0,
-    }
-}
+// ---- masses and shelves
 
-fn mass_holds(row: &[u64]) -> bool {
-    let answer = log_nb_mass(number(row, 1), number(row, 2), word(row, 3) as usize);
-    answers(answer, row, 4)
-}
-
-fn mass_to_holds(row: &[u64]) -> bool {
-    let top = word(row, 3);
+fn mass_to(x: f64, y: f64, top: u64) -> Answer {
     if top > 65535 {
-        return false;
+        return none();
     }
-    same(
-        log_nb_mass_to(number(row, 1), number(row, 2), top as u16),
-        word(row, 4),
-    )
+    float(4, log_nb_mass_to(x, y, top as u16))
 }
 
-fn single_holds(row: &[u64]) -> bool {
-    let shelf = tables::part(row, 4);
-    same(
-        ln_single_copy(number(row, 1), number(row, 2), number(row, 3), shelf),
-        word(row, 8),
-    )
+fn single(r: Row) -> f64 {
+    ln_single_copy(r.x1, r.x2, r.x3, part(r.w4, r.x5, r.x6, r.x7))
 }
 
-fn mixed_holds(row: &[u64]) -> bool {
-    let shelf = tables::shelf(row, 2);
-    same(
-        mix_shelf(number(row, 1), shelf, number(row, 5)),
-        word(row, 6),
-    )
+fn mixed(r: Row) -> f64 {
+    let shelf = Shelf {
+        share: r.x2,
+        alpha: r.x3,
+        beta: r.x4,
+    };
+    mix_shelf(r.x1, shelf, r.x5)
 }
 
-fn logs_hold(row: &[u64]) -> bool {
-    let logs = shelf_logs(tables::part(row, 1));
-    same(logs.rest, word(row, 5)) && same(logs.share, word(row, 6))
+fn logs(shelf: ShelfPart) -> Answer {
+    let logs = shelf_logs(shelf);
+    pair(5, logs.rest, logs.share)
 }
 
-fn log_sum_holds(call: u64, row: &[u64]) -> bool {
-    let x = number(row, 1);
-    let y = number(row, 2);
+pub(crate) fn answer(r: Row) -> Answer {
+    let call = r.call;
     match call {
-        32 => same(lse2(x, y), word(row, 3)),
-        33 => same(lse3(x, y, number(row, 3)), word(row, 4)),
-        34 => softmax_holds(row),
-        35 => same(ln_sub_exp(x, y), word(row, 3)),
-        36 => same(sigmoid(x), word(row, 2)),
-        _ => false,
-    }
-}
-
-fn density_call_holds(call: u64, row: &[u64]) -> bool {
-    let x = number(row, 1);
-    let y = number(row, 2);
-    match call {
-        37 => same(ln_dpois(x, y), word(row, 3)),
-        38 => same(ln_dnbinom(x, y, number(row, 3)), word(row, 4)),
-        39 => lobe_holds(row),
-        40 => density_holds(row),
-        41 => discrete_nb_mode(x, y) == word(row, 3),
-        44 => same(shelf_trials(x), word(row, 2)),
-        45 => same(
-            ln_dbetabinom(x, y, number(row, 3), number(row, 4)),
-            word(row, 5),
-        ),
-        47 => single_holds(row),
-        _ => false,
-    }
-}
-
-fn mass_call_holds(call: u64, row: &[u64]) -> bool {
-    match call {
-        42 => mass_holds(row),
-        43 => mass_to_holds(row),
-        46 => tables::table_holds(row),
-        48 => mixed_holds(row),
-        49 => tables::mix_holds(row),
-        50 => tables::single_mass_holds(row),
-        51 => tables::single_mass_to_holds(row),
-        52 => logs_hold(row),
-        53 => tables::entry_holds(row),
-        _ => false,
-    }
-}
-
-pub(crate) fn holds(call: u64, row: &[u64]) -> bool {
-    match call {
-        32..=36 => log_sum_holds(call, row),
-        37..=41 | 44 | 45 | 47 => density_call_holds(call, row),
-        _ => mass_call_holds(call, row),
+        DENSITY => float(9, density_at(r)),
+        LOG_NB_MASS => number(4, log_nb_mass(r.x1, r.x2, r.w3 as usize)),
+        LOG_NB_MASS_TO => mass_to(r.x1, r.x2, r.w3),
+        LN_SINGLE_COPY => float(8, single(r)),
+        MIX_SHELF => float(6, mixed(r)),
+        SHELF_LOGS => logs(part(r.w1, r.x2, r.x3, r.x4)),
+        _ => of_floats(call, r.x1, r.x2, r.x3, r.x4),
     }
 }

@@ -1,11 +1,18 @@
-// Layer 3: whether the port gives the row's answer. The numbers are those of oracle/src/layer3/.
-use crate::fits;
-use crate::layer2::answers;
-use crate::problems;
-use crate::tables;
-use crate::words::number;
-use crate::words::same;
-use crate::words::word;
+// Layer 3: a row's answer by the port. The numbers are those of oracle/src/layer3/.
+use crate::answers::Answer;
+use crate::answers::float;
+use crate::answers::none;
+use crate::answers::number;
+use crate::answers::pair;
+use crate::answers::whole;
+use crate::row::Row;
+use crate::shapes::error_of;
+use crate::shapes::genome_of;
+use crate::shapes::shape;
+use crate::words::bin;
+use crate::words::flag;
+use helpers::shelves::Shelf;
+use models::errors::ErrorParams;
 use models::families::list_length;
 use models::recovery::rounded_quotient;
 use models::recovery::used_scale;
@@ -14,60 +21,78 @@ use models::shelf_rules::retained;
 use models::shelf_rules::shelf_concentration_bounds;
 use models::shelf_rules::shelf_is_valid;
 
-fn flag(b: bool) -> u64 {
-    if b { 1 } else { 0 }
-}
+const LOG_PROBABILITY: u64 = 73;
+
+const LOG_WINDOW_MASS: u64 = 74;
+
+const RETAINED: u64 = 76;
+
+const CONCENTRATION: u64 = 77;
+
+const SHELF_CONCENTRATION_BOUNDS: u64 = 78;
+
+const SHELF_IS_VALID: u64 = 80;
+
+const USED_SCALE: u64 = 81;
+
+const ROUNDED_QUOTIENT: u64 = 82;
+
+const PARAMETER_COUNT: u64 = 88;
+
+const EXTRA_PARAMETERS: u64 = 89;
+
+const LIST_LENGTH: u64 = 90;
 
 // Singleton probability, tail exponent, shape, count or window end, presence.
-fn errors_hold(call: u64, row: &[u64]) -> bool {
-    let e = fits::errors(row, word(row, 5), 1);
-    if call == 73 {
-        return same(e.log_probability(number(row, 4)), word(row, 6));
+fn errors(r: Row) -> Answer {
+    let e = ErrorParams {
+        singleton_probability: r.x1,
+        tail_exponent: r.x2,
+        weibull_shape: shape(r.w5, r.x3),
+    };
+    if r.call == LOG_PROBABILITY {
+        return float(6, e.log_probability(r.x4));
     }
-    answers(e.log_window_mass(word(row, 4) as usize), row, 6)
+    number(6, e.log_window_mass(r.w4 as usize))
 }
 
-fn bounds_hold(row: &[u64]) -> bool {
-    let bounds = shelf_concentration_bounds(number(row, 1));
-    same(bounds.low, word(row, 2)) && same(bounds.high, word(row, 3))
+fn bounds(x: f64) -> Answer {
+    let b = shelf_concentration_bounds(x);
+    pair(2, b.low, b.high)
 }
 
-fn shelf_holds(call: u64, row: &[u64]) -> bool {
-    let s = tables::shelf(row, 1);
+fn shelf(r: Row) -> Answer {
+    let s = Shelf {
+        share: r.x1,
+        alpha: r.x2,
+        beta: r.x3,
+    };
+    let call = r.call;
     match call {
-        76 => same(retained(s), word(row, 4)),
-        77 => same(concentration(s), word(row, 4)),
-        78 => bounds_hold(row),
-        _ => flag(shelf_is_valid(s)) == word(row, 4),
+        RETAINED => float(4, retained(s)),
+        CONCENTRATION => float(4, concentration(s)),
+        _ => whole(4, flag(shelf_is_valid(s))),
     }
 }
 
-fn families_hold(call: u64, row: &[u64]) -> bool {
-    let error = fits::error_of(word(row, 1));
-    let genome = fits::genome_of(word(row, 1));
+fn families(call: u64, first: u64, second: u64) -> Answer {
+    let error = error_of(first);
     match call {
-        88 => error.parameter_count() as u64 == word(row, 2),
-        89 => genome.extra_parameters() as u64 == word(row, 2),
-        _ => list_length(error, fits::genome_of(word(row, 2))) as u64 == word(row, 3),
+        PARAMETER_COUNT => whole(2, error.parameter_count() as u64),
+        EXTRA_PARAMETERS => whole(2, genome_of(first).extra_parameters() as u64),
+        _ => whole(3, list_length(error, genome_of(second)) as u64),
     }
 }
 
-fn number_holds(call: u64, row: &[u64]) -> bool {
-    if call == 81 {
-        return same(used_scale(number(row, 1)), word(row, 2));
-    }
-    rounded_quotient(tables::bin(word(row, 2)), number(row, 1)) as u64 == word(row, 3)
-}
-
-pub(crate) fn holds(call: u64, row: &[u64]) -> bool {
+pub(crate) fn answer(r: Row) -> Answer {
+    let call = r.call;
     match call {
-        64 | 65 => problems::problem_holds(call, row),
-        66..=71 => fits::holds(call, row),
-        73 | 74 => errors_hold(call, row),
-        76 | 77 | 78 | 80 => shelf_holds(call, row),
-        81 | 82 => number_holds(call, row),
-        88..=90 => families_hold(call, row),
-        92 => problems::list_holds(row),
-        _ => false,
+        LOG_PROBABILITY | LOG_WINDOW_MASS => errors(r),
+        SHELF_CONCENTRATION_BOUNDS => bounds(r.x1),
+        RETAINED | CONCENTRATION | SHELF_IS_VALID => shelf(r),
+        USED_SCALE => float(2, used_scale(r.x1)),
+        ROUNDED_QUOTIENT => whole(3, rounded_quotient(bin(r.w2), r.x1) as u64),
+        PARAMETER_COUNT | EXTRA_PARAMETERS | LIST_LENGTH => families(call, r.w1, r.w2),
+        _ => none(),
     }
 }

@@ -1,11 +1,14 @@
 // Replays the sample of the oracle's answers on standard input, and says how many rows it read and how many the port answers otherwise.
+mod answers;
 mod fits;
 mod layer1;
 mod layer2;
 mod layer3;
-mod problems;
+mod lent;
+mod row;
 mod rows;
-mod tables;
+mod shapes;
+mod slices;
 mod words;
 
 use libc::STDIN_FILENO;

@@ -1,10 +1,16 @@
 // A row is a line of hexadecimal words with a space between: the call's number, its arguments, its answer. A line that starts
 // with # is a comment.
+use crate::answers::Answer;
+use crate::answers::agrees;
+use crate::fits;
 use crate::layer1;
 use crate::layer2;
 use crate::layer3;
+use crate::lent;
+use crate::row;
+use crate::row::Row;
+use crate::slices;
 use crate::words::digit;
-use crate::words::word;
 
 // Where the replay stands: the word of the row that is being read, whether the row is a comment or has a byte that no row has, the
 // rows and the differences so far, and whether there may be more to read.
@@ -28,16 +34,31 @@ pub(crate) fn begin() -> Replay {
     }
 }
 
+// The port's answer, of the calls that take no slice and no fit.
+fn answer(r: Row) -> Answer {
+    if r.call < 32 {
+        return layer1::answer(r);
+    }
+    if r.call < 64 {
+        return layer2::answer(r);
+    }
+    layer3::answer(r)
+}
+
 // Whether the port gives the row's answer.
 fn holds(row: &[u64]) -> bool {
-    let call = word(row, 0);
-    if call < 32 {
-        return layer1::holds(call, row);
+    let r = row::read(row);
+    let call = r.call;
+    match call {
+        lent::SHELF_LOG_TABLE | lent::COST | lent::UNPACK => lent::holds(r, row),
+        slices::MIX_SINGLE_COPY..=slices::SINGLE_COPY_LOG_MASS_TO
+        | slices::MIX_ENTRY
+        | slices::PARAMS_FROM => agrees(slices::answer(r, row), row),
+        fits::COMPONENT_TOTAL_RATIO..=fits::COMPONENT_HEIGHTS => {
+            agrees(fits::answer(call, row), row)
+        }
+        _ => agrees(answer(r), row),
     }
-    if call < 64 {
-        return layer2::holds(call, row);
-    }
-    layer3::holds(call, row)
 }
 
 // The same of the words up to the one at `place`.

@@ -1,18 +1,18 @@
--- `replay::tables::fill` meets its contract. Assumes nothing.
+-- `replay::lent::fill_bins` meets its contract. Assumes nothing.
 use borrow.Author.Needs.{needs}
 use mathlib.Core.Path.{_≡_}
 use Prim.Native.Nat.{_-_, _≤_}
 use native.Mathlib.Omega.{arith}
 use lib.ListN.{length, length-set}
 use Rattle.replay.proofs.Fronts.{counts}
-use Rattle.replay.proofs.tables.fill.Statement.{statement}
-use Rattle.replay.proofs.tables.fill.Tie as tie
+use Rattle.replay.proofs.lent.fill_bins.Statement.{statement}
+use Rattle.replay.proofs.lent.fill_bins.Tie as tie
 
 abbrev Inv-loop : tie.InvT-loop
-Inv-loop words n table₀ end i₀ table i = (i ≤ end) × (end ≤ length table) × (length table ≡ length table₀)
+Inv-loop words n bins₀ end i₀ bins i = (i ≤ end) × (end ≤ length bins) × (length bins ≡ length bins₀)
 
 abbrev μ-loop : tie.MeasureT-loop
-μ-loop words n table₀ end i₀ table i = end - i
+μ-loop words n bins₀ end i₀ bins i = end - i
 
 least-requires : tie.Need-least-requires Inv-loop μ-loop
 least-requires c κs = search needs
@@ -20,14 +20,17 @@ least-requires c κs = search needs
 loop-holds : tie.Need-loop-holds Inv-loop μ-loop
 loop-holds c = search needs
 
-number-requires : tie.Need-number-requires Inv-loop μ-loop
-number-requires c κs = search needs
+word-requires : tie.Need-word-requires Inv-loop μ-loop
+word-requires c κs = search needs
 
-mul-table : tie.Need-mul-table Inv-loop μ-loop
-mul-table c = search needs
+bin-requires : tie.Need-bin-requires Inv-loop μ-loop
+bin-requires c κs = search needs
 
-slice-write-table : tie.Need-slice-write-table Inv-loop μ-loop
-slice-write-table c = search needs
+mul-bins : tie.Need-mul-bins Inv-loop μ-loop
+mul-bins c = search needs
+
+slice-write-bins : tie.Need-slice-write-bins Inv-loop μ-loop
+slice-write-bins c = search needs
 
 add-i : tie.Need-add-i Inv-loop μ-loop
 add-i c = omega arith
@@ -37,7 +40,7 @@ loop-less c = omega arith
 
 loop-again : tie.Need-loop-again Inv-loop μ-loop
 loop-again c =
-    let kept = length-set (c .before .before .loop .table) (c .before .before .loop .i) (c .number .result) in
+    let kept = length-set (c .before .before .before .loop .bins) (c .before .before .before .loop .i) (c .bin .result) in
     (omega arith, omega (arith, kept), omega (arith, kept))
 
 same-length : tie.Need-same-length Inv-loop μ-loop
@@ -46,17 +49,18 @@ same-length c = search needs
 returns : tie.Need-returns Inv-loop μ-loop
 returns c = counts _ _ (omega arith)
 
-pub fill-spec : {M : Type 1} → statement M
-fill-spec =
+pub fill-bins-spec : {M : Type 1} → statement M
+fill-bins-spec =
     tie.close
     (tie.spec
     Inv-loop
     μ-loop
     least-requires
     loop-holds
-    number-requires
-    mul-table
-    slice-write-table
+    word-requires
+    bin-requires
+    mul-bins
+    slice-write-bins
     add-i
     loop-less
     loop-again

@@ -1,0 +1,71 @@
+-- `replay::answers::wholes_agree` meets its contract: it says yes only where the two are as long, and agree at every place. Assumes nothing.
+use Prim.Native.Nat.{ℕ, _≤_, _<_, _-_}
+use mathlib.Core.Path.{_≡_}
+use mathlib.Core.Bool.{false≢true}
+use native.Mathlib.Omega.{arith}
+use lib.ListN.{length, getD}
+use borrow.Author.Count.{below-none, below-more}
+use borrow.Author.Needs.{needs}
+use Rattle.replay.proofs.answers.wholes_agree.Statement.{statement}
+use Rattle.replay.proofs.answers.wholes_agree.Tie as tie
+
+abbrev Inv-loop : tie.InvT-loop
+Inv-loop ours words i₀ i = (i ≤ length ours) × (length ours ≡ length words) × ((k : ℕ) → k < i → getD ours k 0 ≡ getD words k 0)
+
+abbrev μ-loop : tie.MeasureT-loop
+μ-loop ours words i₀ i = length ours - i
+
+returns : tie.Need-returns Inv-loop μ-loop
+returns c = λ h. absurd (false≢true h)
+
+loop-holds : tie.Need-loop-holds Inv-loop μ-loop
+loop-holds c = (omega arith, omega arith, below-none _)
+
+mul-if2 : tie.Need-mul-if2 Inv-loop μ-loop
+mul-if2 c = search needs
+
+shared-slice-read-if2 : tie.Need-shared-slice-read-if2 Inv-loop μ-loop
+shared-slice-read-if2 c = omega arith
+
+mul-if2-2 : tie.Need-mul-if2-2 Inv-loop μ-loop
+mul-if2-2 c = search needs
+
+shared-slice-read-if2-2 : tie.Need-shared-slice-read-if2-2 Inv-loop μ-loop
+shared-slice-read-if2-2 c = omega arith
+
+returns-2 : tie.Need-returns-2 Inv-loop μ-loop
+returns-2 c = λ h. absurd (false≢true h)
+
+add-i : tie.Need-add-i Inv-loop μ-loop
+add-i c = omega arith
+
+loop-less : tie.Need-loop-less Inv-loop μ-loop
+loop-less c = omega arith
+
+loop-again : tie.Need-loop-again Inv-loop μ-loop
+loop-again c =
+    let inv = c .before .before .before .before .loop .inv in
+    (omega arith, omega arith, below-more _ _ (inv .2) (c .if2 .left))
+
+returns-3 : tie.Need-returns-3 Inv-loop μ-loop
+returns-3 c =
+    let inv = c .before .loop .inv in
+    λ h. (inv .1, λ k l. inv .2 k (omega (arith, l)))
+
+pub wholes-agree-spec : {M : Type 1} → statement M
+wholes-agree-spec =
+    tie.close
+    (tie.spec
+    Inv-loop
+    μ-loop
+    returns
+    loop-holds
+    mul-if2
+    shared-slice-read-if2
+    mul-if2-2
+    shared-slice-read-if2-2
+    returns-2
+    add-i
+    loop-less
+    loop-again
+    returns-3)
