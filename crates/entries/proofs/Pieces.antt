@@ -1,6 +1,5 @@
 -- For every z of a row of ln's table |B z - 1| < 1 / 200: z grows with its pattern, and B z with z, so that the
 -- row's two ends are enough. Assumes nothing.
-use mathlib.Core.Path.{_≡_}
 use mathlib.Core.Bool.{Bool, true, false, _&&_, true≢false}
 use Prim.Native.Nat.{ℕ, suc, _+_, _*_, _^_, _≤_, _<_}
 use native.Mathlib.Nat.{lt-of-le-of-lt, mul-le-mul-right, mul-lt-mul-of-pos-right, lt-of-mul-lt-mul-right}

@@ -1,7 +1,7 @@
 -- Exact fractions with a sign, the value of a bit pattern as one, and what it is to be the `f64` nearest to a number.
 -- Nothing is rounded or cut off. Definitions only. Assumes nothing.
 use Prim.Native.Nat.{ℕ, suc, _+_, _-_, _*_, _%_, _^_}
-use mathlib.Core.Bool.{Bool, true, false, not, _&&_, Bool·beq, cond}
+use mathlib.Core.Bool.{Bool, false, not, _&&_, Bool·beq, cond}
 use lib.Dec.{T, ltb, eqb}
 use lib.Ieee.{Float, nan, inf, fin, binary64, up, down, unlike, below, ofBits}
 use lib.Ieee.Scale.{finite}

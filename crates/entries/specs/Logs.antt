@@ -4,8 +4,8 @@
 -- H is a whole number of 2 ^ -42;
 -- L is the `f64` nearest to ln C - H. Definitions only. Assumes nothing.
 use Prim.Native.Nat.{ℕ, suc, _+_, _*_, _^_}
-use mathlib.Core.Bool.{Bool, false, _&&_}
-use Rattle.entries.specs.Fractions.{Fraction, ratio, one, plus, times, less, wholeIn, valueOf, isNumber, nearest}
+use mathlib.Core.Bool.{Bool, _&&_}
+use Rattle.entries.specs.Fractions.{ratio, one, plus, times, less, wholeIn, valueOf, isNumber, nearest}
 use Rattle.entries.specs.Series.{expLess, expMore}
 use Rattle.entries.specs.LnTable.{Patterns}
 

@@ -1,6 +1,6 @@
 -- The corners of layer 2 that document 01 keeps. The one of a NaN beside -inf is stated here alone. Assumes nothing.
-use mathlib.Core.Path.{_≡_, refl, sym, ap, _∙_, subst}
-use mathlib.Core.Bool.{Bool, true, false, _&&_, _||_, cond, true≢false, false≢true}
+use mathlib.Core.Path.{_≡_, refl, sym, ap, _∙_}
+use mathlib.Core.Bool.{Bool, true, false, _&&_, _||_, cond, false≢true}
 use Prim.Native.Nat.{ℕ, _-_, _*_, _/_, _^_, _≤_, _<_, min}
 use native.Mathlib.Nat.{le-div-iff-mul-le, mul-le-mul-right, le-trans}
 use native.Mathlib.Omega.{arith}
@@ -11,7 +11,7 @@ use lib.Ieee.{Float, nan, inf, fin, binary64, up, down, ofBits, lt, le, eq, ne, 
 use lib.Ieee.Fits.{down-pos, and-r, sub-fits}
 use lib.Ieee.Scale.{finite}
 use Rattle.routines.specs.Constants.{zero, one}
-use Rattle.routines.proofs.Ranges.{Kept, wide, floor-keeps}
+use Rattle.routines.proofs.Ranges.{wide, floor-keeps}
 use Rattle.helpers.specs.Lobes.{discreteNbModeOf, two64}
 use Rattle.routines.specs.Ops.{_⊖_}
 use Rattle.routines.specs.Pick.{maxOf, minOf}

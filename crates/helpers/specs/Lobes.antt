@@ -1,6 +1,6 @@
 -- Poisson and negative binomial, as math_helpers.rs has them, operation by operation. Definitions only. Assumes nothing.
 use Prim.Native.Nat.{ℕ}
-use mathlib.Core.Bool.{Bool, true, false, _&&_, cond}
+use mathlib.Core.Bool.{_&&_, cond}
 use lib.Ieee.{Float, binary64, ofBits, neg, lt, le, toUnsigned}
 use lib.Ieee.Scale.{finite}
 use Rattle.routines.specs.Constants.{zero, one}
@@ -10,7 +10,7 @@ use Rattle.routines.specs.Ops.{_⊕_, _⊖_, _⊗_, _⊘_}
 use Rattle.routines.specs.Pick.{minOf}
 use Rattle.routines.specs.Whole.{floorOf}
 
--- 1.0 + 1e-9
+-- 1.000000001: the Rust's 1.0 + 1e-9
 abbrev pub nearlyPoisson : Float
 nearlyPoisson = ofBits binary64 0x3ff000000044b830
 
@@ -31,7 +31,7 @@ lnDnbinomOf x mean dispersion =
     (let r = sizeOf mean dispersion in
     lgammaOf (x ⊕ r) ⊖ lgammaOf (x ⊕ one) ⊖ lgammaOf r ⊕ r ⊗ neg (lnOf dispersion) ⊕ x ⊗ logQOf dispersion)
 
--- 2^64: Rust's usize::MAX as f64
+-- 18446744073709551616.0: Rust's usize::MAX as f64
 abbrev pub two64 : Float
 two64 = ofBits binary64 0x43f0000000000000
 

@@ -1,5 +1,5 @@
 -- Log sums and their kin, as math_helpers.rs has them, operation by operation. Definitions only. Assumes nothing.
-use mathlib.Core.Bool.{Bool, true, false, _||_, cond}
+use mathlib.Core.Bool.{true, _||_, cond}
 use lib.Ieee.{Float, nan, inf, neg, lt, le, eq, ne}
 use lib.Ieee.Scale.{finite}
 use Rattle.routines.specs.Constants.{zero, one}

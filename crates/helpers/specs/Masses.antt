@@ -1,6 +1,6 @@
 -- Window masses, as math_helpers.rs has them, operation by operation; sums run from the left. Definitions only. Assumes nothing.
-use Prim.Native.Nat.{ℕ, suc, _+_, min}
-use mathlib.Core.Bool.{Bool, true, false, cond}
+use Prim.Native.Nat.{ℕ, _+_, min}
+use mathlib.Core.Bool.{true, cond}
 use mathlib.Core.List.{List}
 use lib.ListN.{length, getD}
 use lib.Ieee.{Float, inf, le}

@@ -1,4 +1,5 @@
-// Poisson and negative binomial. Ported from src/preprocessing/math_helpers.rs of bacpop/sparrowhawk-asm, f1f8af1232, Apache-2.0; ported and changed.
+// Poisson and negative binomial.
+// Ported from src/preprocessing/math_helpers.rs of bacpop/sparrowhawk-asm, f1f8af1232, Apache-2.0; ported and changed.
 ghost use mathlib.Core.Path.{_≡_};
 ghost use Rattle.helpers.specs.Lobes.{lnDpoisOf, lnDnbinomOf, discreteNbModeOf};
 use crate::hoists::density;

@@ -1,5 +1,5 @@
-// Window masses. Ported from src/preprocessing/math_helpers.rs of bacpop/sparrowhawk-asm, f1f8af1232, Apache-2.0; ported and changed:
-// the recurrence's closures are two named sums, and a window end is refused by number.
+// Window masses. The recurrence's closures are two named sums, and a window end is refused by number.
+// Ported from src/preprocessing/math_helpers.rs of bacpop/sparrowhawk-asm, f1f8af1232, Apache-2.0; ported and changed.
 ghost use mathlib.Core.Path.{_≡_};
 ghost use Prim.Native.Nat.{min as minℕ};
 ghost use Rattle.helpers.specs.Answers.{numberSays};

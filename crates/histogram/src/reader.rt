@@ -4,7 +4,7 @@ ghost use mathlib.Core.List.{List, []};
 ghost use Prim.Native.Nat.{ℕ, _+_, _-_, _^_, _≤_, _<_};
 ghost use lib.ListN.{length, take, getD};
 ghost use Rattle.histogram.specs.Number.{between, numberAtOf, numberSays};
-ghost use Rattle.histogram.specs.File.{mostBins, bins as Bins, readFrom};
+ghost use Rattle.histogram.specs.File.{bins as Bins, readFrom};
 ghost use Rattle.meaning.specs.Over.{over};
 ghost use Rattle.meaning.specs.Lent.{laid, counted};
 ghost use Rattle.histogram.specs.Read.{fitsIn, readHistogramOf, fileSays, heldSays, keptOf};

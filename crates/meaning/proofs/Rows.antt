@@ -8,7 +8,7 @@ use mathlib.Core.Logic.{_⊎_, inl, inr}
 use native.Mathlib.Omega.{arith}
 use borrow.Author.Tests.{ltb-false, eqb-false, lt-ltb, le-ltb}
 use lib.Dec.{ltb, eqb}
-use Rattle.meaning.specs.Reply.{Test, test, firstOf}
+use Rattle.meaning.specs.Reply.{test, firstOf}
 use Rattle.meaning.specs.Rows.{most, few, many, noWindow, outside, short, windowTests, inOrder}
 use Rattle.meaning.proofs.Chains.{parts}
 

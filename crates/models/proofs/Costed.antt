@@ -1,10 +1,8 @@
 -- The steps of the cost: where it stops, and what its answer and the table are then. Assumes nothing.
-use Prim.Native.Nat.{ℕ, _+_, _≤_, _<_}
-use mathlib.Core.Path.{_≡_, refl, sym, ap, _∙_}
-use mathlib.Core.Bool.{true, false, not}
+use Prim.Native.Nat.{ℕ}
+use mathlib.Core.Path.{_≡_, sym, ap, _∙_}
+use mathlib.Core.Bool.{true, false}
 use mathlib.Core.List.{List}
-use native.Mathlib.Omega.{arith}
-use lib.ListN.{length}
 use lib.Ieee.{Float, inf, neg, le}
 use lib.Ieee.Scale.{finite}
 use Rattle.meaning.specs.Over.{over}

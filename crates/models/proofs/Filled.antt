@@ -11,7 +11,7 @@ use lib.ListN.{length, take, drop}
 use lib.Ieee.{Float}
 use store.Seg.{take-pre}
 use Rattle.meaning.specs.Over.{over}
-use Rattle.meaning.specs.Reply.{Reply, refuse, broken, give, Test, test, chain}
+use Rattle.meaning.specs.Reply.{Reply, refuse, broken, give, test, chain}
 use Rattle.meaning.specs.Lent.{onGive}
 use Rattle.meaning.specs.Rows.{most, short, windowTests}
 use Rattle.meaning.proofs.Overs.{over-none, over-length}

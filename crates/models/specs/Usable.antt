@@ -1,7 +1,7 @@
 -- Which parameters the model can use, as models.rs has it. Its tests are free of effects, so they stand in the order of
 -- the components. Definitions only. Assumes nothing.
 use mathlib.Core.Bool.{Bool, true, not, _&&_}
-use lib.Ieee.{Float, lt, le}
+use lib.Ieee.{lt, le}
 use lib.Ieee.Scale.{finite}
 use Rattle.routines.specs.Constants.{zero, one}
 use Rattle.helpers.specs.declared.shelves.ShelfPart.{ShelfPart}

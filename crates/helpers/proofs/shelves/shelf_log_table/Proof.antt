@@ -1,12 +1,12 @@
 -- `helpers::shelves::shelf_log_table` meets its contract: each `return` is what the chain answers where the tests are as found. Assumes nothing.
 use mathlib.Core.Path.{_≡_, sym, ap, _∙_}
-use Prim.Native.Nat.{ℕ, suc, _+_}
+use Prim.Native.Nat.{suc, _+_}
 use native.Mathlib.Numerals.{add-one}
 use native.Mathlib.Omega.{arith}
 use borrow.Author.Tests.{lt-ltb, le-ltb, eq-eqb, ne-eqb}
 use lib.ListN.{length}
 use lib.Ieee.{Float}
-use Rattle.meaning.specs.Reply.{Reply, refuse, give}
+use Rattle.meaning.specs.Reply.{refuse, give}
 use Rattle.helpers.specs.Shelves.{shelfLogTableOf, shelfTrialsOf, lastOf}
 use Rattle.helpers.proofs.Tables.{table-refused, table-given}
 use borrow.Author.Needs.{needs}

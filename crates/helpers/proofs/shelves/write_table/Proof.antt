@@ -4,9 +4,7 @@ use mathlib.Core.Path.{_≡_, refl, ap, _∙_}
 use Prim.Native.Nat.{ℕ, _-_, _≤_, _<_, zero-le}
 use native.Mathlib.Omega.{arith}
 use lib.ListN.{length, length-set}
-use lib.Ieee.{Float}
 use Rattle.meaning.specs.Over.{over}
-use Rattle.routines.specs.Ops.{_⊕_}
 use Rattle.helpers.specs.Shelves.{tableOf, entryOf}
 use Rattle.helpers.proofs.Tables.{entry-first, entry-more, table-none, table-more}
 use Rattle.helpers.proofs.shelves.write_table.Statement.{statement}

@@ -1,8 +1,5 @@
 -- `models::tables::fill_table` meets its contract. Assumes nothing.
-use mathlib.Core.Path.{_≡_, refl, sym, ap, _∙_}
-use native.Mathlib.Omega.{arith}
-use lib.ListN.{length}
-use Rattle.meaning.specs.Over.{over}
+use mathlib.Core.Path.{sym}
 use Rattle.meaning.proofs.Overs.{over-none}
 use Rattle.models.specs.Tables.{entriesIn}
 use Rattle.models.proofs.Filled.{filled-items, filled-none, filled-table}

@@ -1,5 +1,5 @@
 -- `models::unpacking::unpack_at` meets its contract. Assumes nothing.
-use mathlib.Core.Path.{_≡_, ap, _∙_}
+use mathlib.Core.Path.{_∙_}
 use borrow.Author.Needs.{needs}
 use Rattle.models.specs.Unpacking.{unpackAt}
 use Rattle.models.proofs.unpacking.unpack_at.Statement.{statement}
