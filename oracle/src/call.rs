@@ -224,9 +224,11 @@ impl Call {
         }
     }
 
-    pub fn compare(&self, tally: &mut Tally) {
+    /// `part` of 20 takes one input of each 20 that a stratum is to have.
+    pub fn compare(&self, tally: &mut Tally, part: u64) {
         for stratum in self.strata() {
-            let mut row = Row::new(self.name, &stratum.name, self.answer, stratum.wanted);
+            let wanted = stratum.wanted.div_ceil(part);
+            let mut row = Row::new(self.name, &stratum.name, self.answer, wanted);
             let mut distance = Distance::new(self.name, &stratum.name);
             self.inputs(&stratum, |input| {
                 if (self.open)(input) {
@@ -238,7 +240,7 @@ impl Call {
                 if let (true, Some(unaltered)) = (stratum.ordinary, self.unaltered) {
                     distance.take(self.answer, &ours, &unaltered(input));
                 }
-                row.comparisons < stratum.wanted
+                row.comparisons < wanted
             });
             tally.add(row, stratum.ordinary);
             tally.distances.push(distance);

@@ -22,21 +22,22 @@ use tally::Tally;
 const ROWS: [usize; 2] = [8, 2];
 const LONGEST: [usize; 2] = [64, 128];
 
-/// What the command line asks for: one layer, one call, the replay's rows.
-#[derive(Default)]
+/// What the command line asks for: one layer, one call, one input of so many, the replay's rows.
 struct Asked {
     layer: Option<u64>,
     call: Option<String>,
+    part: u64,
     sample: bool,
 }
 
 fn asked() -> Asked {
-    let mut asked = Asked::default();
+    let mut asked = Asked { layer: None, call: None, part: 1, sample: false };
     let mut words = std::env::args().skip(1);
     while let Some(word) = words.next() {
         match word.as_str() {
             "--layer" => asked.layer = words.next().and_then(|n| n.parse().ok()),
             "--call" => asked.call = words.next(),
+            "--part" => asked.part = words.next().and_then(|n| n.parse().ok()).filter(|&n| n > 0).expect("--part takes a number"),
             "--sample" => asked.sample = true,
             _ => panic!("oracle: {word} is no option"),
         }
@@ -53,18 +54,18 @@ impl Asked {
 }
 
 /// Prints the tables; whether all is well.
-fn compare(calls: &[Call]) -> bool {
+fn compare(calls: &[Call], part: u64) -> bool {
     let mut tally = Tally::default();
     for call in calls {
         let started = Instant::now();
-        call.compare(&mut tally);
+        call.compare(&mut tally, part);
         eprintln!("{} .. {} s", call.name, started.elapsed().as_secs());
     }
-    let mut faults = tally.faults();
+    let mut faults = tally.faults(part);
     println!("## The port against the Rust\n\n{}\n{}\n", tally.call_table(), tally.totals());
     println!("## The numbers that came back\n\n{}", tally.refusal_table());
     println!("## The port against the unaltered Rust\n\n{}", tally.call_distances());
-    if calls.iter().any(|call| call.name == "cost") {
+    if part == 1 && calls.iter().any(|call| call.name == "cost") {
         let (table, apart) = layer3::usability::table();
         println!("## How often a cost is infinite\n\n{table}");
         faults.extend(apart);
@@ -85,7 +86,7 @@ fn main() {
             let upper = usize::from(call.number >= 64);
             print!("{}", call.sample(ROWS[upper], LONGEST[upper]));
         }
-    } else if !compare(&calls) {
+    } else if !compare(&calls, asked.part) {
         std::process::exit(1);
     }
 }

@@ -229,7 +229,7 @@ impl Tally {
     }
 
     /// Each difference's first input, and each stratum and call that was not reached.
-    pub fn faults(&self) -> Vec<String> {
+    pub fn faults(&self, part: u64) -> Vec<String> {
         let mut faults = Vec::new();
         for row in &self.rows {
             if row.differences > 0 {
@@ -239,7 +239,7 @@ impl Tally {
                 faults.push(format!("{}: not reached, {} of {}", row.name(), row.comparisons, row.wanted));
             }
         }
-        let short = self.calls().into_iter().filter(|call| self.comparisons(call) < EACH_CALL);
+        let short = self.calls().into_iter().filter(|call| self.comparisons(call) < EACH_CALL / part);
         faults.extend(short.map(|call| format!("{call}: {} comparisons are too few", self.comparisons(call))));
         faults.extend(self.hollow.iter().map(|name| format!("{name}: fewer than half of the answers are finite")));
         faults

@@ -1,4 +1,5 @@
--- On which side of e ^ x a number of units lies that is an ulp away from exp's value: a whole ulp is more than the claim
+-- On which side of e ^ x a number of units lies that is an ulp away from exp's value: a whole ulp is more than the
+-- claim
 -- allows. Assumes nothing.
 use mathlib.Core.Path.{_≡_}
 use mathlib.Core.Bool.{Bool, not}

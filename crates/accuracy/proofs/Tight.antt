@@ -1,4 +1,5 @@
--- The bounds of specs/Accuracy.antt leave no gap: for every E there is a P / Q with P / Q * E / (E + 1) ≤ e ^ x ≤ P / Q.
+-- The bounds of specs/Accuracy.antt leave no gap: for every E there is a P / Q with P / Q * E / (E + 1) ≤ e ^ x ≤ P /
+-- Q.
 -- With Agree they determine one number, which is e ^ x. P / Q is (1 - x / n) ^ -n for a large n. Assumes nothing.
 use mathlib.Core.Path.{_≡_, sym, ap, subst}
 use mathlib.Core.Bool.{Bool, true, false}

@@ -1,5 +1,6 @@
 -- Step 8 of exp changes no value. What the steps before it give for an x below 0 is already from 0 to 1, and what they
--- give for any other x is already 1 or more: a double on the other side of 1 is too far away from e ^ x. Assumes nothing.
+-- give for any other x is already 1 or more: a double on the other side of 1 is too far away from e ^ x. Assumes
+-- nothing.
 use mathlib.Core.Path.{_≡_, refl, sym, ap, _∙_, subst}
 use mathlib.Core.Logic.{_⊎_, inl, inr}
 use mathlib.Core.Bool.{Bool, true, false, not, cond}

@@ -1,4 +1,5 @@
-// Histogram files at the limits: each file's bytes and its listing, and what the writer makes of the limits' bin counts.
+// Histogram files at the limits: each file's bytes and its listing, and what the writer makes of the limits' bin
+// counts.
 use crate::show;
 use histogram::reader::FileRead;
 use histogram::reader::LONGEST_FILE;

@@ -1,4 +1,5 @@
--- A finite value in units of 2 ^ -1074, from its bit pattern, and that its size grows with the pattern. Assumes nothing.
+-- A finite value in units of 2 ^ -1074, from its bit pattern, and that its size grows with the pattern. Assumes
+-- nothing.
 use mathlib.Core.Path.{_≡_, refl, sym, ap, subst}
 use mathlib.Core.Logic.{inl, inr}
 use mathlib.Core.Bool.{Bool, true, false, not, cond}

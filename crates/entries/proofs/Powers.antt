@@ -1,4 +1,5 @@
--- Every row of exp's table keeps the rule of specs/Powers.antt: one computed test over the whole table. Assumes nothing.
+-- Every row of exp's table keeps the rule of specs/Powers.antt: one computed test over the whole table. Assumes
+-- nothing.
 use mathlib.Core.Path.{_≡_, refl, sym, subst}
 use mathlib.Core.List.{[]}
 use Prim.Native.Nat.{ℕ, _<_}

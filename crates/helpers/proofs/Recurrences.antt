@@ -1,4 +1,5 @@
--- The loops of the window masses, on the invariant of the loops over counts: one that adds up terms, each from the one before, and one over the table's entries. Assumes nothing.
+-- The loops of the window masses, on the invariant of the loops over counts: one that adds up terms, each from the one
+-- before, and one over the table's entries. Assumes nothing.
 use mathlib.Core.Path.{_≡_, sym, ap, _∙_}
 use mathlib.Core.Bool.{true}
 use mathlib.Core.Logic.{_⊎_, inl, inr}

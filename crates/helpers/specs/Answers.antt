@@ -1,4 +1,5 @@
--- What each answer says: its number and its value. The maps are injective (proofs/Says.antt). Definitions only. Assumes nothing.
+-- What each answer says: its number and its value. The maps are injective (proofs/Says.antt). Definitions only.
+-- Assumes nothing.
 use Prim.Native.Nat.{ℕ}
 use lib.Ieee.{Float}
 use Rattle.meaning.specs.Reply.{Reply, refuse, give}

@@ -1,5 +1,7 @@
--- For speed alone: the density of a lobe and the mixture with a shelf, with what does not change with the count worked out before.
--- Nothing here has to be held beside the Rust: `density-is` and `mix-entry-is` in proofs/Densities.antt show it equal to Lobes.antt and Shelves.antt. Definitions only. Assumes nothing.
+-- For speed alone: the density of a lobe and the mixture with a shelf, with what does not change with the count worked
+-- out before.
+-- Nothing here has to be held beside the Rust: `density-is` and `mix-entry-is` in proofs/Densities.antt show it equal
+-- to Lobes.antt and Shelves.antt. Definitions only. Assumes nothing.
 use mathlib.Core.Bool.{true, false, cond}
 use mathlib.Core.List.{List}
 use lib.Ieee.{Float, inf, neg, le}
@@ -17,7 +19,8 @@ use Rattle.helpers.specs.declared.shelves.ShelfPart.the-variants.{Absent
 
 -- ---- a lobe's density
 abbrev pub poissonOf : Float → Lobe
-poissonOf mean = record { poisson = true; mean = mean; rate = lnOf mean; size = zero; gamma = zero; start = zero; slope = zero }
+poissonOf mean =
+    record { poisson = true; mean = mean; rate = lnOf mean; size = zero; gamma = zero; start = zero; slope = zero }
 
 abbrev pub binomialOf : Float → Float → Lobe
 binomialOf mean dispersion =

@@ -1,4 +1,5 @@
--- Poisson and negative binomial, as math_helpers.rs has them, operation by operation. Definitions only. Assumes nothing.
+-- Poisson and negative binomial, as math_helpers.rs has them, operation by operation. Definitions only. Assumes
+-- nothing.
 use Prim.Native.Nat.{ℕ}
 use mathlib.Core.Bool.{_&&_, cond}
 use lib.Ieee.{Float, binary64, ofBits, neg, lt, le, toUnsigned}

@@ -29,7 +29,8 @@ abbrev pub softmax3Of : Float → Float → Float → Logs3
 softmax3Of a b c = let norm = lse3Of a b c in record { first = a ⊖ norm; second = b ⊖ norm; third = c ⊖ norm }
 
 unfoldable pub lnSubExpOf : Float → Float → Float
-lnSubExpOf high low = cond (eq high (inf true)) high (cond (lt high low || ne low low) nan (high ⊕ lnOf (neg (expm1Of (low ⊖ high)))))
+lnSubExpOf high low =
+    cond (eq high (inf true)) high (cond (lt high low || ne low low) nan (high ⊕ lnOf (neg (expm1Of (low ⊖ high)))))
 
 unfoldable pub sigmoidOf : Float → Float
 sigmoidOf v = cond (le zero v) (one ⊘ (one ⊕ expOf (neg v))) (expOf v ⊘ (one ⊕ expOf v))

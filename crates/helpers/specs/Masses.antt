@@ -1,4 +1,5 @@
--- Window masses, as math_helpers.rs has them, operation by operation; sums run from the left. Definitions only. Assumes nothing.
+-- Window masses, as math_helpers.rs has them, operation by operation; sums run from the left. Definitions only.
+-- Assumes nothing.
 use Prim.Native.Nat.{ℕ, _+_, min}
 use mathlib.Core.Bool.{true, cond}
 use mathlib.Core.List.{List}
@@ -27,7 +28,8 @@ abbrev pub poissonRatio : Float → ℕ → Float
 poissonRatio mean count = lnOf mean ⊖ lnOf (ofCount (count + 1))
 
 abbrev pub binomialRatio : Float → Float → ℕ → Float
-binomialRatio mean dispersion count = lnOf (ofCount count ⊕ sizeOf mean dispersion) ⊖ lnOf (ofCount (count + 1)) ⊕ logQOf dispersion
+binomialRatio mean dispersion count =
+    lnOf (ofCount count ⊕ sizeOf mean dispersion) ⊖ lnOf (ofCount (count + 1)) ⊕ logQOf dispersion
 
 -- the two named sums
 unfoldable pub poissonMassOf : Float → ℕ → Float
@@ -37,7 +39,8 @@ unfoldable pub binomialMassOf : Float → Float → ℕ → Float
 binomialMassOf mean dispersion top = recurrence (binomialRatio mean dispersion) (lnDnbinomOf one mean dispersion) top .0
 
 unfoldable pub logNbMassTo : Float → Float → ℕ → Float
-logNbMassTo mean dispersion top = cond (le dispersion nearlyPoisson) (poissonMassOf mean top) (binomialMassOf mean dispersion top)
+logNbMassTo mean dispersion top =
+    cond (le dispersion nearlyPoisson) (poissonMassOf mean top) (binomialMassOf mean dispersion top)
 
 -- ---- a window end is refused above 65,535 and at 0
 abbrev pub inWindow : ℕ → Float → Reply Float

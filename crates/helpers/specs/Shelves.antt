@@ -27,12 +27,14 @@ shelfTrialsOf mean = maxOf (roundOf mean) one
 unfoldable pub lnDbetabinomOf : Float → Float → Float → Float → Float
 lnDbetabinomOf x trials alpha beta =
     cond (lt trials x) (inf true)
-    (lgammaOf (trials ⊕ one) ⊖ lgammaOf (x ⊕ one) ⊖ lgammaOf (trials ⊖ x ⊕ one) ⊕ lgammaOf (x ⊕ alpha) ⊕ lgammaOf (trials ⊖ x ⊕ beta) ⊖ lgammaOf (trials ⊕ alpha ⊕ beta)
+    (lgammaOf (trials ⊕ one) ⊖ lgammaOf (x ⊕ one) ⊖ lgammaOf (trials ⊖ x ⊕ one) ⊕ lgammaOf (x ⊕ alpha)
+    ⊕ lgammaOf (trials ⊖ x ⊕ beta) ⊖ lgammaOf (trials ⊕ alpha ⊕ beta)
     ⊖ (lgammaOf alpha ⊕ lgammaOf beta ⊖ lgammaOf (alpha ⊕ beta)))
 
 -- ---- the table: entry 0, and each entry from the one before
 unfoldable pub tableStart : Float → Float → Float → Float
-tableStart trials alpha beta = lgammaOf (trials ⊕ beta) ⊕ lgammaOf (alpha ⊕ beta) ⊖ lgammaOf (trials ⊕ alpha ⊕ beta) ⊖ lgammaOf beta
+tableStart trials alpha beta =
+    lgammaOf (trials ⊕ beta) ⊕ lgammaOf (alpha ⊕ beta) ⊖ lgammaOf (trials ⊕ alpha ⊕ beta) ⊖ lgammaOf beta
 
 unfoldable pub tableStep : Float → Float → Float → Float → Float
 tableStep trials alpha beta x = lnOf (trials ⊖ x) ⊕ lnOf (x ⊕ alpha) ⊖ lnOf (x ⊕ one) ⊖ lnOf (trials ⊖ x ⊖ one ⊕ beta)
@@ -62,7 +64,8 @@ shelfLogTableOf mean top room =
 unfoldable pub tableAfter : Float → Shelf → ℕ → List Float → List Float
 tableAfter mean shelf top held =
     let trials = shelfTrialsOf mean in
-    onGive (shelfLogTableOf mean top (lib.ListN.length held)) (over (tableOf trials (shelf .alpha) (shelf .beta) (suc (lastOf trials top))) held) held
+    onGive (shelfLogTableOf mean top (lib.ListN.length held))
+    (over (tableOf trials (shelf .alpha) (shelf .beta) (suc (lastOf trials top))) held) held
 
 -- ---- the single-copy component
 abbrev pub mixed : Float → Shelf → Float → Float
@@ -70,7 +73,8 @@ mixed lobe s shelf = lse2Of (lnOf (one ⊖ s .share) ⊕ lobe) (lnOf (s .share) 
 
 unfoldable pub lnSingleCopyOf : Float → Float → Float → ShelfPart → Float
 lnSingleCopyOf count mean dispersion Absent = lnDnbinomOf count mean dispersion
-lnSingleCopyOf count mean dispersion (Present s) = mixed (lnDnbinomOf count mean dispersion) s (lnDbetabinomOf count (shelfTrialsOf mean) (s .alpha) (s .beta))
+lnSingleCopyOf count mean dispersion (Present s) =
+    mixed (lnDnbinomOf count mean dispersion) s (lnDbetabinomOf count (shelfTrialsOf mean) (s .alpha) (s .beta))
 
 -- the entry at a count, and -inf behind the table's end
 unfoldable pub entryAtOf : Float → List Float → Float

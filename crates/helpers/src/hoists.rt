@@ -1,4 +1,5 @@
-// What does not change with the count, worked out once: for speed alone. proofs/Densities.antt shows each equal to the plain form.
+// What does not change with the count, worked out once: for speed alone. proofs/Densities.antt shows each equal to the
+// plain form.
 // Ported from src/preprocessing/math_helpers.rs of bacpop/sparrowhawk-asm, f1f8af1232, Apache-2.0; ported and changed.
 ghost use mathlib.Core.Path.{_≡_};
 ghost use Rattle.helpers.specs.Hoists.{lobeOf, densityOf, shelfLogsOf, mixEntryOf};

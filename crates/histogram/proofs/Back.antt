@@ -1,4 +1,5 @@
--- From what is read to what was written: where the reader goes on to accept a file, the bytes of the next number are the writer's. Assumes nothing.
+-- From what is read to what was written: where the reader goes on to accept a file, the bytes of the next number are
+-- the writer's. Assumes nothing.
 use Prim.Native.Nat.{ℕ, suc, _+_, _*_, _/_, _%_, _^_, _≤_, _<_}
 use mathlib.Core.Path.{_≡_, refl, sym, ap, _∙_, subst}
 use mathlib.Core.List.{List, [], _∷_, _++_}

@@ -1,4 +1,5 @@
--- The numbers of a histogram file in turn, the form, the bin count and the bins: a whole number takes the reader on, and one at fault stops it where it starts.
+-- The numbers of a histogram file in turn, the form, the bin count and the bins: a whole number takes the reader on,
+-- and one at fault stops it where it starts.
 -- Assumes nothing.
 use Prim.Native.Nat.{ℕ, suc, _+_, _-_, _^_, _≤_, _<_}
 use mathlib.Core.Path.{_≡_, refl, ap, _∙_}

@@ -1,4 +1,5 @@
--- The reader stops at the first byte after which no continuation could be accepted: where it has not stopped, some bytes more make a file that is accepted.
+-- The reader stops at the first byte after which no continuation could be accepted: where it has not stopped, some
+-- bytes more make a file that is accepted.
 -- Assumes nothing.
 use Prim.Native.Nat.{ℕ, zero, suc, _+_, _^_, _≤_, _<_}
 use mathlib.Core.Path.{_≡_, refl, sym, ap, _∙_, subst}

@@ -1,4 +1,5 @@
--- The kinds of fault, and the place of each: a number cut short, one that is too long, one outside its range, one that is missing, and bytes behind the last bin. Assumes nothing.
+-- The kinds of fault, and the place of each: a number cut short, one that is too long, one outside its range, one that
+-- is missing, and bytes behind the last bin. Assumes nothing.
 use Prim.Native.Nat.{ℕ, suc, _+_, _/_, _%_, _≤_, _<_}
 use mathlib.Core.Path.{_≡_, refl, sym, ap, _∙_, subst}
 use mathlib.Core.List.{List, [], _∷_, _++_, append-nil}

@@ -1,4 +1,5 @@
--- From what is written to what is read: the bytes of a number of the range take the reader behind them with the number read, and so do those of several. Assumes nothing.
+-- From what is written to what is read: the bytes of a number of the range take the reader behind them with the number
+-- read, and so do those of several. Assumes nothing.
 use Prim.Native.Nat.{ℕ, suc, _+_, _*_, _/_, _%_, _^_, _≤_, _<_}
 use mathlib.Core.Path.{_≡_, sym, ap, _∙_, subst}
 use mathlib.Core.List.{List, [], _∷_, _++_, append-assoc}

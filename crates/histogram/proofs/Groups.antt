@@ -1,4 +1,5 @@
--- The bytes of a number: one where it is below 128; otherwise its lowest group, with the top bit set, and then the bytes of what is left. Assumes nothing.
+-- The bytes of a number: one where it is below 128; otherwise its lowest group, with the top bit set, and then the
+-- bytes of what is left. Assumes nothing.
 use Prim.Native.Nat.{ℕ, zero, suc, _+_, _/_, _%_, _^_, _≤_, _<_}
 use mathlib.Core.Path.{_≡_, refl, ap, _∙_}
 use mathlib.Core.Bool.{cond}

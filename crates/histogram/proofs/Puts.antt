@@ -1,4 +1,5 @@
--- Bytes put one behind the other into the front of lent memory: what is written so far, and what is still to come, make up the whole.
+-- Bytes put one behind the other into the front of lent memory: what is written so far, and what is still to come,
+-- make up the whole.
 -- A turn puts one byte, or lends the rest of the memory to the writer of the next bytes. Assumes nothing.
 use Prim.Native.Nat.{ℕ, _+_, _-_, _≤_}
 use mathlib.Core.Path.{_≡_, refl, sym, ap, _∙_}

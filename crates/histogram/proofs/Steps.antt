@@ -1,4 +1,5 @@
--- The fold of the one-byte step, a number at a time: a whole number takes the reader to the next one, and one at fault stops it where the number starts. Assumes nothing.
+-- The fold of the one-byte step, a number at a time: a whole number takes the reader to the next one, and one at fault
+-- stops it where the number starts. Assumes nothing.
 use Prim.Native.Nat.{ℕ, zero, suc, _+_, _≤_, _<_}
 use mathlib.Core.Path.{_≡_, refl, sym, ap, _∙_, subst}
 use mathlib.Core.List.{List, [], _∷_, _++_}

@@ -1,4 +1,5 @@
--- What a byte makes of a number, by cases: the laws of `takeByteOf`, one for each way that it can go, and what is known where a number goes on or ends.
+-- What a byte makes of a number, by cases: the laws of `takeByteOf`, one for each way that it can go, and what is
+-- known where a number goes on or ends.
 -- Assumes nothing.
 use Prim.Native.Nat.{ℕ, zero, suc, _+_, _%_, _^_, _≤_, _<_}
 use mathlib.Core.Path.{_≡_, refl, sym, ap, subst}

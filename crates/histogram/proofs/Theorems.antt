@@ -1,4 +1,5 @@
--- THE HISTOGRAM FILE, claim by claim, to be read beside document 01. `readOf` and `writeOf` are what the reader's and the writer's calls promise; a file is a list of bytes, which is what
+-- THE HISTOGRAM FILE, claim by claim, to be read beside document 01. `readOf` and `writeOf` are what the reader's and
+-- the writer's calls promise; a file is a list of bytes, which is what
 -- `Below 256` says. Assumes nothing.
 use Prim.Native.Nat.{ℕ, _≤_, _<_}
 use mathlib.Core.Path.{_≡_, sym, ap, _∙_}
@@ -75,7 +76,8 @@ trailing = faults.trailing
 pub in-parts : (state : State) (xs ys : List ℕ) → stepsOf state (xs ++ ys) ≡ stepsOf (stepsOf state xs) ys
 in-parts = steps.steps-append
 
--- the reader stops at the earliest byte: until then some bytes more make a file that is accepted, and from then on none do
+-- the reader stops at the earliest byte: until then some bytes more make a file that is accepted, and from then on
+-- none do
 pub continues-or-stops : (file : List ℕ) → Continues file ⊎ Stops file
 continues-or-stops = earliest.continues-or-stops
 

@@ -1,4 +1,5 @@
--- What the theorems speak of: bytes, numbers that may come in turn, and the first fault of a file. Definitions only. Assumes nothing.
+-- What the theorems speak of: bytes, numbers that may come in turn, and the first fault of a file. Definitions only.
+-- Assumes nothing.
 use Prim.Native.Nat.{ℕ, zero, suc, _+_, _*_, _^_, _≤_, _<_}
 use mathlib.Core.Path.{_≡_}
 use mathlib.Core.List.{List, [], _∷_, _++_}
@@ -43,7 +44,8 @@ Complete count = ⊥
 Complete (bins zero done) = Unit {0}
 Complete (bins (suc left) done) = ⊥
 
--- no number of the range stands at the front of the bytes: there is none, or it is cut short, too long, or outside the range
+-- no number of the range stands at the front of the bytes: there is none, or it is cut short, too long, or outside the
+-- range
 abbrev pub None : Range → List ℕ → Type 0
 None range bytes = (n : ℕ) (rest : List ℕ) → In range n → bytes ≡ numberBytes n ++ rest → ⊥
 

@@ -1,4 +1,5 @@
--- The histogram file: the form, which is 1, the bin count, each bin, and the end. Reading is a fold of a one-byte step over a small state.
+-- The histogram file: the form, which is 1, the bin count, each bin, and the end. Reading is a fold of a one-byte step
+-- over a small state.
 -- Definitions only. Assumes nothing.
 use Prim.Native.Nat.{ℕ, zero, suc, _+_, _-_, _^_}
 use mathlib.Core.List.{List, [], _∷_, _++_}
@@ -33,7 +34,8 @@ nextOf count n = bins n []
 nextOf (bins zero done) n = bins zero done
 nextOf (bins (suc left) done) n = bins left (done ++ (n ∷ []))
 
--- reading a number: the place where it starts, its value so far, and how many groups that is; or stopped, at the place of the fault
+-- reading a number: the place where it starts, its value so far, and how many groups that is; or stopped, at the place
+-- of the fault
 pub data State : Type 0 where
   reading : Stage → ℕ → ℕ → ℕ → State
   stopped : ℕ → State

@@ -1,5 +1,7 @@
--- The numbers of a file, in groups of seven bits: low group first, the top bit set on all but the last, shortest form only.
--- Reading takes a byte at a time, and gives a number up at the first byte after which none of its range can come. Definitions only. Assumes nothing.
+-- The numbers of a file, in groups of seven bits: low group first, the top bit set on all but the last, shortest form
+-- only.
+-- Reading takes a byte at a time, and gives a number up at the first byte after which none of its range can come.
+-- Definitions only. Assumes nothing.
 use Prim.Native.Nat.{ℕ, zero, suc, _+_, _*_, _/_, _%_, _^_}
 use mathlib.Core.Bool.{cond, _&&_, _||_}
 use mathlib.Core.List.{List, [], _∷_, _++_}
@@ -41,9 +43,12 @@ between least most = record { least = least; most = most }
 abbrev pub withGroup : ℕ → ℕ → ℕ → ℕ
 withGroup value groups byte = value + byte % 128 * 128 ^ groups
 
--- What a byte makes of a number: its value so far, with another group to come; the number; or nothing that its range allows.
--- A last byte is wrong where it is a zero behind other groups, since a shorter form says the same, or where the number is outside its range.
--- Any other byte is wrong where the least number that can still come, whose next group is its last and a 1, is above the range.
+-- What a byte makes of a number: its value so far, with another group to come; the number; or nothing that its range
+-- allows.
+-- A last byte is wrong where it is a zero behind other groups, since a shorter form says the same, or where the number
+-- is outside its range.
+-- Any other byte is wrong where the least number that can still come, whose next group is its last and a 1, is above
+-- the range.
 unfoldable pub takeByteOf : Range → ℕ → ℕ → ℕ → Taken
 takeByteOf range value groups byte =
     let sum = withGroup value groups byte in
@@ -66,7 +71,8 @@ foundBy Wrong start next on = broken start
 -- the number that starts at the place start, from the byte behind its first groups on
 unfoldable pub numberFrom : Range → ℕ → ℕ → ℕ → List ℕ → Reply Found
 numberFrom range start value groups [] = broken start
-numberFrom range start value groups (byte ∷ rest) = foundBy (takeByteOf range value groups byte) start (start + suc groups) (λ v. numberFrom range start v (suc groups) rest)
+numberFrom range start value groups (byte ∷ rest) =
+    foundBy (takeByteOf range value groups byte) start (start + suc groups) (λ v. numberFrom range start v (suc groups) rest)
 
 -- the number at a place of a file
 unfoldable pub numberAtOf : Range → List ℕ → ℕ → Reply Found

@@ -1,4 +1,5 @@
--- The writer's call: 1 for fewer than 2 bins, 2 for more than a file holds, 10 where the bytes do not fit; otherwise the file. Definitions only. Assumes nothing.
+-- The writer's call: 1 for fewer than 2 bins, 2 for more than a file holds, 10 where the bytes do not fit; otherwise
+-- the file. Definitions only. Assumes nothing.
 use Prim.Native.Nat.{ℕ}
 use mathlib.Core.List.{List, [], _∷_}
 use lib.Dec.{ltb}
@@ -10,4 +11,6 @@ use Rattle.histogram.specs.File.{mostBins, writeOf}
 -- into a slice of so many bytes
 unfoldable pub writeHistogramOf : List ℕ → ℕ → Reply (List ℕ)
 writeHistogramOf xs room =
-    chain (inOrder (few (length xs ∷ []) ∷ (test (ltb mostBins (length xs)) 2 ∷ []) ∷ short room (length (writeOf xs)) ∷ [])) (give (writeOf xs))
+    chain
+    (inOrder (few (length xs ∷ []) ∷ (test (ltb mostBins (length xs)) 2 ∷ []) ∷ short room (length (writeOf xs)) ∷ []))
+    (give (writeOf xs))

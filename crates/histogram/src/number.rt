@@ -1,10 +1,12 @@
-// The numbers of a file, in groups of seven bits: low group first, the top bit set on all but the last, shortest form only.
+// The numbers of a file, in groups of seven bits: low group first, the top bit set on all but the last, shortest form
+// only.
 ghost use mathlib.Core.Path.{_≡_};
 ghost use Prim.Native.Nat.{_≤_, _^_};
 ghost use lib.ListN.{length};
 ghost use Rattle.histogram.specs.Number.{numberBytes, between, takeByteOf, numberAtOf, numberSays};
 
-// What a byte makes of a number: its value so far, with another group to come; the number; or nothing that its range allows.
+// What a byte makes of a number: its value so far, with another group to come; the number; or nothing that its range
+// allows.
 pub enum Taken {
     More(u64),
     Whole(u64),
@@ -45,7 +47,8 @@ fn tenth_byte(least: u64, most: u64, value: u64, byte: u8) -> Taken
     Taken::Whole(value + TOP)
 }
 
-// One byte more of a number from `least` to `most`, behind groups that add up to `value`; its own group counts `weight`.
+// One byte more of a number from `least` to `most`, behind groups that add up to `value`; its own group counts
+// `weight`.
 fn take_byte(least: u64, most: u64, value: u64, groups: usize, weight: u64, byte: u8) -> Taken
     requires { ⌜ (weight ≡ 128 ^ groups) × (value ≤ most) ⌝ }
     ensures { λ r. ⌜ r ≡ takeByteOf (between least most) value groups byte ⌝ }

@@ -72,7 +72,8 @@ fn put_file(out: &mut [u8], bins: &[u32]) -> usize
     head + put_bins(&mut out[head..], bins)
 }
 
-// The file of some bins into the first of the lent bytes; 1 for fewer than 2 bins, 2 for more than a file holds, 10 where the bytes are too few.
+// The file of some bins into the first of the lent bytes; 1 for fewer than 2 bins, 2 for more than a file holds, 10
+// where the bytes are too few.
 // A refusal writes nothing, and the bytes past the file stand as found.
 pub fn write_histogram(bins: &[u32], out: &mut [u8]) -> Written
     ensures { λ r. ⌜ writtenSays r ≡ counted (writeHistogramOf (now (bins .entry)) (length (now (out .entry)))) ⌝ }

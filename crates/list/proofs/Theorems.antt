@@ -1,4 +1,5 @@
--- THE LISTING PROGRAM reads the first bytes of a file, one more than the longest accepted file has, and what it writes for them is the listing of the whole file, however long that is.
+-- THE LISTING PROGRAM reads the first bytes of a file, one more than the longest accepted file has, and what it writes
+-- for them is the listing of the whole file, however long that is.
 -- Assumes nothing.
 use Prim.Native.Nat.{ℕ, _+_}
 use mathlib.Core.Path.{_≡_, ap}

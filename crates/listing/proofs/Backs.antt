@@ -1,4 +1,5 @@
--- Bytes put into the front of lent memory from the last one back: what is still to come, and what is written, make up the whole. Assumes nothing.
+-- Bytes put into the front of lent memory from the last one back: what is still to come, and what is written, make up
+-- the whole. Assumes nothing.
 use Prim.Native.Nat.{ℕ, suc, _+_, _-_, _≤_}
 use mathlib.Core.Path.{_≡_, refl, sym, ap, _∙_}
 use mathlib.Core.List.{List, [], _∷_, _++_, append-nil}

@@ -1,4 +1,5 @@
--- The listing of document 01: `bins` and the bin count, then a line for each count with its bin. For a file that is refused there is one line, with the place.
+-- The listing of document 01: `bins` and the bin count, then a line for each count with its bin. For a file that is
+-- refused there is one line, with the place.
 -- Definitions only. Assumes nothing.
 use Prim.Native.Nat.{ℕ, suc, _+_, _*_}
 use Prim.Native.Char.{code}
@@ -44,14 +45,16 @@ listedOf (give xs) = listingOf xs
 abbrev pub listOf : List ℕ → List ℕ
 listOf file = listedOf (readOf file)
 
--- no file's listing is longer: ten bytes for the first line, and for each bin four digits, ten digits, a space and the end of the line
+-- no file's listing is longer: ten bytes for the first line, and for each bin four digits, ten digits, a space and the
+-- end of the line
 abbrev pub longestListing : ℕ
 longestListing = 10 + 16 * mostBins
 
 -- ---- the calls: 1 for fewer than 2 bins, 2 for more than 65,535, 10 where the bytes are too few
 unfoldable pub listHistogramOf : List ℕ → ℕ → Reply (List ℕ)
 listHistogramOf xs room =
-    chain (inOrder (few (length xs ∷ []) ∷ many (length xs ∷ []) ∷ short room (length (listingOf xs)) ∷ [])) (give (listingOf xs))
+    chain (inOrder (few (length xs ∷ []) ∷ many (length xs ∷ []) ∷ short room (length (listingOf xs)) ∷ []))
+    (give (listingOf xs))
 
 unfoldable pub listRefusalOf : ℕ → ℕ → Reply (List ℕ)
 listRefusalOf place room = chain (short room (length (refusalOf place))) (give (refusalOf place))

@@ -1,4 +1,5 @@
-// The listing of a histogram, and of a file that is refused, as text in lent bytes: its size is worked out before the first byte is written.
+// The listing of a histogram, and of a file that is refused, as text in lent bytes: its size is worked out before the
+// first byte is written.
 ghost use mathlib.Core.Path.{_≡_};
 ghost use Prim.Native.Nat.{_≤_};
 ghost use lib.ListN.{length};
@@ -12,7 +13,8 @@ use histogram::reader::MAX_FILE_BINS;
 use meaning::answers::Written;
 use meaning::limits::MOST;
 
-// No file's listing is longer: ten bytes for the first line, and for each bin four digits, ten digits, a space and the end of the line.
+// No file's listing is longer: ten bytes for the first line, and for each bin four digits, ten digits, a space and the
+// end of the line.
 pub const LONGEST_LISTING: usize = 10 + 16 * MAX_FILE_BINS;
 
 fn wide(n: u32) -> u64
@@ -34,7 +36,8 @@ fn decimal_size(n: u64) -> usize
     size
 }
 
-// The digits of a number to the front of the lent bytes, and how many that is. The last digit is known first, so they are put from the back.
+// The digits of a number to the front of the lent bytes, and how many that is. The last digit is known first, so they
+// are put from the back.
 fn put_decimal(out: &mut [u8], n: u64) -> usize
     requires { ⌜ length (decimalOf n) ≤ length (now out) ⌝ }
     ensures { λ r. ⌜ (r ≡ length (decimalOf n)) × (now (out .exit) ≡ over (decimalOf n) (now (out .entry))) ⌝ }
@@ -120,7 +123,8 @@ fn rows_size(bins: &[u32]) -> usize
     size
 }
 
-// The listing of some bins into the first of the lent bytes; 1 for fewer than 2 bins, 2 for more than 65,535, 10 where the bytes are too few.
+// The listing of some bins into the first of the lent bytes; 1 for fewer than 2 bins, 2 for more than 65,535, 10 where
+// the bytes are too few.
 // A refusal writes nothing, and the bytes past the listing stand as found.
 pub fn list_histogram(bins: &[u32], out: &mut [u8]) -> Written
     ensures { λ r. ⌜ writtenSays r ≡ counted (listHistogramOf (now (bins .entry)) (length (now (out .entry)))) ⌝ }

@@ -1,4 +1,5 @@
--- The laws of `fold`, which every loop over counts cites: none, one more at the end, one less at the start, a split, two steps that agree, and what each step keeps.
+-- The laws of `fold`, which every loop over counts cites: none, one more at the end, one less at the start, a split,
+-- two steps that agree, and what each step keeps.
 -- Assumes nothing.
 use Prim.Native.Nat.{ℕ, zero, suc, _+_, _-_, _≤_, _<_}
 use mathlib.Core.Path.{_≡_, sym, ap, _∙_, subst}

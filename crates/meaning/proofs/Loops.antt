@@ -1,4 +1,5 @@
--- A loop over a range of counts: its invariant, that so far it equals the fold, and its laws, one for each need of the loop. Assumes nothing.
+-- A loop over a range of counts: its invariant, that so far it equals the fold, and its laws, one for each need of the
+-- loop. Assumes nothing.
 use Prim.Native.Nat.{ℕ, _+_, _≤_, _<_}
 use mathlib.Core.Path.{_≡_, sym, ap, _∙_}
 use native.Mathlib.Omega.{arith}

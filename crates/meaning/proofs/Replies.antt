@@ -1,4 +1,5 @@
--- Equal replies hold equal values, and an answer is no refusal: what a map from a call's answers into `Reply` needs in order to be injective. Assumes nothing.
+-- Equal replies hold equal values, and an answer is no refusal: what a map from a call's answers into `Reply` needs in
+-- order to be injective. Assumes nothing.
 use Prim.Native.Nat.{ℕ}
 use mathlib.Core.Path.{_≡_, sym}
 use mathlib.Core.Bool.{true, false}

@@ -1,4 +1,5 @@
--- What a loop over a range of counts works out: a step for each count in turn, from the first on. Definitions only. Assumes nothing.
+-- What a loop over a range of counts works out: a step for each count in turn, from the first on. Definitions only.
+-- Assumes nothing.
 use Prim.Native.Nat.{ℕ, zero, suc, _-_}
 
 -- the step for each of n counts, from a on

@@ -1,4 +1,5 @@
--- What a lent buffer holds once something is written into its front: what was written, and the rest as it was. Definitions only. Assumes nothing.
+-- What a lent buffer holds once something is written into its front: what was written, and the rest as it was.
+-- Definitions only. Assumes nothing.
 use mathlib.Core.List.{List, _++_}
 use lib.ListN.{length, drop}
 

@@ -1,4 +1,5 @@
--- What a call that can refuse means: its answer, or the number that comes back instead. The refusals of a call are a chain: the first test that holds wins.
+-- What a call that can refuse means: its answer, or the number that comes back instead. The refusals of a call are a
+-- chain: the first test that holds wins.
 -- Definitions only. Assumes nothing.
 use Prim.Native.Nat.{ℕ}
 use mathlib.Core.Bool.{Bool, true, false, cond}

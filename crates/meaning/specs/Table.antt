@@ -1,4 +1,5 @@
--- A table's rule as one computed test over the whole of it: the numbers of the rows that break it, so that a check that fails shows them. Definitions only. Assumes nothing.
+-- A table's rule as one computed test over the whole of it: the numbers of the rows that break it, so that a check
+-- that fails shows them. Definitions only. Assumes nothing.
 use Prim.Native.Nat.{ℕ, suc}
 use mathlib.Core.Bool.{Bool, true, false}
 use mathlib.Core.List.{List, [], _∷_}

@@ -1,5 +1,7 @@
--- THE COST IS NEVER +0. A point's log density is never -0, so neither is its product with a count; the sum, which starts at -0, is -0 only where nothing was added;
--- and cost refuses with 6 where nothing was recovered. (-0 does occur: where the log-likelihood is +0.) Assumes nothing.
+-- THE COST IS NEVER +0. A point's log density is never -0, so neither is its product with a count; the sum, which
+-- starts at -0, is -0 only where nothing was added;
+-- and cost refuses with 6 where nothing was recovered. (-0 does occur: where the log-likelihood is +0.) Assumes
+-- nothing.
 use Prim.Native.Nat.{ℕ, zero, suc, _+_, _≤_, _<_}
 use mathlib.Core.Path.{_≡_, refl, sym, ap, _∙_}
 use mathlib.Core.Bool.{Bool, true, false, not, _&&_, cond, true≢false}

@@ -1,5 +1,6 @@
 -- For speed alone: what does not change with the count, worked out before the likelihood's loop.
--- Nothing here has to be held beside the Rust: `steady-point` in proofs/Points.antt shows that it changes no number. Definitions only. Assumes nothing.
+-- Nothing here has to be held beside the Rust: `steady-point` in proofs/Points.antt shows that it changes no number.
+-- Definitions only. Assumes nothing.
 use Rattle.routines.specs.Ops.{_⊗_}
 use Rattle.helpers.specs.Hoists.{lobeOf, shelfLogsOf}
 use Rattle.models.specs.Errors.{lnTailOf}

@@ -1,4 +1,5 @@
--- The spectrum as the sample had it. Bin i holds count i + 1; sums run from the left, from the -0 of Rust's sum. Definitions only. Assumes nothing.
+-- The spectrum as the sample had it. Bin i holds count i + 1; sums run from the left, from the -0 of Rust's sum.
+-- Definitions only. Assumes nothing.
 use Prim.Native.Nat.{ℕ}
 use mathlib.Core.Bool.{Bool, true, _&&_, cond}
 use mathlib.Core.List.{List}

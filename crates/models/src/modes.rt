@@ -73,7 +73,8 @@ fn highest(p: ErrorParams, top: u16) -> Standing
     best
 }
 
-// The later of equal maxima, which the validator wants below the valley; 2 for a window end above 65,535, 5 for 0, 8 for a
+// The later of equal maxima, which the validator wants below the valley; 2 for a window end above 65,535, 5 for 0, 8
+// for a
 // NaN among the heights.
 pub fn error_mode(fit: SpectrumFit) -> Count
     ensures { λ r. ⌜ countSays r ≡ errorModeOf fit ⌝ }

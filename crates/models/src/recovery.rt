@@ -1,5 +1,6 @@
 // A bin as the sample had it: n over the scale, to the nearest whole number.
-// Ported from src/preprocessing/spectrum_fitter.rs of bacpop/sparrowhawk-asm, f1f8af1232, Apache-2.0; ported and changed.
+// Ported from src/preprocessing/spectrum_fitter.rs of bacpop/sparrowhawk-asm, f1f8af1232, Apache-2.0; ported and
+// changed.
 ghost use mathlib.Core.Path.{_≡_};
 ghost use Rattle.models.specs.Recovery.{usedScaleOf, roundedQuotientOf};
 use routines::casts::to_u32;

@@ -1,4 +1,5 @@
--- When the port's answer is the row's: of floats, where each is the value of its word's bits. Definitions only. Assumes nothing.
+-- When the port's answer is the row's: of floats, where each is the value of its word's bits. Definitions only.
+-- Assumes nothing.
 use Prim.Native.Nat.{ℕ, _<_}
 use mathlib.Core.Path.{_≡_}
 use mathlib.Core.List.{List}

@@ -1,4 +1,5 @@
--- A number of entries at the front of a list. The second part follows from the first; both are what lending that part asks. Definitions only. Assumes nothing.
+-- A number of entries at the front of a list. The second part follows from the first; both are what lending that part
+-- asks. Definitions only. Assumes nothing.
 use Prim.Native.Nat.{ℕ, _≤_}
 use mathlib.Core.Path.{_≡_}
 use mathlib.Core.List.{List}

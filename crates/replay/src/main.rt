@@ -1,4 +1,5 @@
-// Replays the sample of the oracle's answers on standard input, and says how many rows it read and how many the port answers otherwise.
+// Replays the sample of the oracle's answers on standard input, and says how many rows it read and how many the port
+// answers otherwise.
 mod answers;
 mod fits;
 mod layer1;

@@ -1,4 +1,5 @@
-// A row is a line of hexadecimal words with a space between: the call's number, its arguments, its answer. A line that starts
+// A row is a line of hexadecimal words with a space between: the call's number, its arguments, its answer. A line that
+// starts
 // with # is a comment.
 use crate::answers::Answer;
 use crate::answers::agrees;
@@ -12,7 +13,8 @@ use crate::row::Row;
 use crate::slices;
 use crate::words::digit;
 
-// Where the replay stands: the word of the row that is being read, whether the row is a comment or has a byte that no row has, the
+// Where the replay stands: the word of the row that is being read, whether the row is a comment or has a byte that no
+// row has, the
 // rows and the differences so far, and whether there may be more to read.
 pub(crate) struct Replay {
     pub place: usize,

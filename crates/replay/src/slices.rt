@@ -1,4 +1,5 @@
-// The calls that take a slice of floats, and the filling of one: its length stands in a word, and its entries behind it.
+// The calls that take a slice of floats, and the filling of one: its length stands in a word, and its entries behind
+// it.
 ghost use Rattle.replay.specs.Counts.{Counts};
 use crate::answers::Answer;
 use crate::answers::float;

@@ -1,4 +1,5 @@
--- `add` gives the same for x and y as for y and x, at every value: a NaN, the infinities and both zeros too. Assumes nothing.
+-- `add` gives the same for x and y as for y and x, at every value: a NaN, the infinities and both zeros too. Assumes
+-- nothing.
 use mathlib.Core.Path.{_≡_, refl, sym, ap, _∙_}
 use mathlib.Core.Bool.{Bool, true, false, not, cond}
 use Prim.Native.Nat.{ℕ, _-_, _*_, _≤_, _<_}

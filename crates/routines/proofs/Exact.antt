@@ -1,6 +1,7 @@
 -- The whole number that `roundOf` or `floorOf` makes of a value of the format is one that the format holds:
 -- `Ieee.round` changes nothing there.
--- So `roundOf x` has x's sign and is `halfUp` of x's size exactly, and `floorOf x` is `downward` of it. Assumes nothing.
+-- So `roundOf x` has x's sign and is `halfUp` of x's size exactly, and `floorOf x` is `downward` of it. Assumes
+-- nothing.
 use mathlib.Core.Path.{_≡_, refl, sym, ap, _∙_, subst}
 use mathlib.Core.Bool.{Bool, true, false, not}
 use Prim.Native.Nat.{ℕ, _+_, _-_, _*_, _^_, _≤_, _<_}

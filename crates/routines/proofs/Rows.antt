@@ -1,4 +1,5 @@
--- A `match` on a row's number as a table: what an arm with one key tells, and what the last arm, with no key, tells. Assumes nothing.
+-- A `match` on a row's number as a table: what an arm with one key tells, and what the last arm, with no key, tells.
+-- Assumes nothing.
 use mathlib.Core.Path.{_≡_, sym, ap}
 use Prim.Native.Nat.{ℕ, zero, suc, _≤_, _<_, zero-le}
 use native.Mathlib.Omega.{arith}

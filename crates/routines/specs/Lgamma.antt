@@ -1,4 +1,5 @@
--- lgamma, step by step as docs/ROUTINES.md has it and under its names, with `-` for `_`. Each of ⊕ ⊖ ⊗ ⊘ is rounded once.
+-- lgamma, step by step as docs/ROUTINES.md has it and under its names, with `-` for `_`. Each of ⊕ ⊖ ⊗ ⊘ is rounded
+-- once.
 -- Definitions only. Assumes nothing.
 use mathlib.Core.Bool.{false, cond}
 use lib.Ieee.{Float, inf, binary64, neg, lt, le, eq, ofBits}

@@ -1,4 +1,5 @@
--- ln's table as the values with the patterns of crates/entries, whose rule is `logs-nearest` there. Definitions only. Assumes nothing.
+-- ln's table as the values with the patterns of crates/entries, whose rule is `logs-nearest` there. Definitions only.
+-- Assumes nothing.
 use Prim.Native.Nat.{ℕ}
 use lib.ListN.{getD}
 use lib.Ieee.{Float, binary64, ofBits}

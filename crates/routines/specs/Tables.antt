@@ -1,4 +1,5 @@
--- exp's table as the values with the patterns of crates/entries, whose rule is `powers-nearest` there. Definitions only. Assumes nothing.
+-- exp's table as the values with the patterns of crates/entries, whose rule is `powers-nearest` there. Definitions
+-- only. Assumes nothing.
 use Prim.Native.Nat.{ℕ}
 use lib.ListN.{getD}
 use lib.Ieee.{Float, binary64, ofBits}

@@ -1,4 +1,5 @@
-// Layer 1: exp, ln, expm1 and lgamma with their tables, rounding to a whole number, maximum and minimum, saturating casts.
+// Layer 1: exp, ln, expm1 and lgamma with their tables, rounding to a whole number, maximum and minimum, saturating
+// casts.
 pub mod casts;
 pub mod exp;
 pub mod expm1;

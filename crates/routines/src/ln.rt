@@ -26,7 +26,8 @@ const SCALE: f64 = 18014398509481984.0;
 // 2^52 + 1023 + 64.
 const BIAS: f64 = 4503599627371583.0;
 
-// The offset moves the octave's start from 1 to z's least value, and keeps 64 octaves in hand, of which a scaled x uses 54.
+// The offset moves the octave's start from 1 to z's least value, and keeps 64 octaves in hand, of which a scaled x
+// uses 54.
 const OFFSET: u64 = 0x409_5000_0000_0000;
 
 const SCALED_OFFSET: u64 = 0xa9_5000_0000_0000;
@@ -49,7 +50,8 @@ fn tail(r: f64) -> f64
     (r * r) * (r * (B1 + r * (r * (B3 + r * (r * B5 - B4)) - B2)) - 0.5)
 }
 
-// Steps 3 to 8: ln w from a normal w and the offset that goes with it. The piece has C[i] and B[i], and the log H[i] and
+// Steps 3 to 8: ln w from a normal w and the offset that goes with it. The piece has C[i] and B[i], and the log H[i]
+// and
 // L[i]; 0x10_0000_0000_0000 is 2^52, and 0x2000_0000_0000 is 2^45.
 fn core(w: f64, offset: u64) -> f64
     requires { ⌜ T (not (isNan w)) ⌝ ∗ ⌜ offset ≤ OFFSET ⌝ }

@@ -10,7 +10,8 @@ pub struct Power {
     pub rest: f64,
 }
 
-// Row i of the table, counted modulo 32. It is a `match` and no array: an array in a `const` is copied to the stack at each call.
+// Row i of the table, counted modulo 32. It is a `match` and no array: an array in a `const` is copied to the stack at
+// each call.
 pub fn power_at(i: u64) -> Power
     ensures { λ r. ⌜ r ≡ powerOf (i % 32) ⌝ }
 {

@@ -1,4 +1,5 @@
--- `list::list` meets its contract: what is read is the file's bins or its place, and there is room for the listing of either. Assumes nothing.
+-- `list::list` meets its contract: what is read is the file's bins or its place, and there is room for the listing of
+-- either. Assumes nothing.
 use Prim.Native.Nat.{ℕ, _≤_, _<_}
 use mathlib.Core.Path.{_≡_, sym, ap, _∙_}
 use mathlib.Core.List.{List}

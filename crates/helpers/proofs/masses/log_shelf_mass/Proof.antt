@@ -1,4 +1,5 @@
--- `helpers::masses::log_shelf_mass` meets its contract. The loop's invariant: entries 1 to i - 1 are added up; with no entry to add i stays 1. Assumes nothing.
+-- `helpers::masses::log_shelf_mass` meets its contract. The loop's invariant: entries 1 to i - 1 are added up; with no
+-- entry to add i stays 1. Assumes nothing.
 use borrow.Author.Needs.{needs}
 use mathlib.Core.Path.{_≡_, refl, ap, _∙_}
 use mathlib.Core.Bool.{true}

@@ -1,4 +1,5 @@
--- `helpers::shelves::shelf_log_table` meets its contract: each `return` is what the chain answers where the tests are as found. Assumes nothing.
+-- `helpers::shelves::shelf_log_table` meets its contract: each `return` is what the chain answers where the tests are
+-- as found. Assumes nothing.
 use mathlib.Core.Path.{_≡_, sym, ap, _∙_}
 use Prim.Native.Nat.{suc, _+_}
 use native.Mathlib.Numerals.{add-one}

@@ -1,4 +1,5 @@
--- `helpers::shelves::write_table` meets its contract. The loop's invariant: the first x entries are written, and `entry` is entry x. Assumes nothing.
+-- `helpers::shelves::write_table` meets its contract. The loop's invariant: the first x entries are written, and
+-- `entry` is entry x. Assumes nothing.
 use borrow.Author.Needs.{needs}
 use mathlib.Core.Path.{_≡_, refl, ap, _∙_}
 use Prim.Native.Nat.{ℕ, _-_, _≤_, _<_, zero-le}

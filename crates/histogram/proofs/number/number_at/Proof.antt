@@ -1,4 +1,5 @@
--- `histogram::number::number_at` meets its contract: at each turn what is left to read of the number is what the whole is. Assumes nothing.
+-- `histogram::number::number_at` meets its contract: at each turn what is left to read of the number is what the whole
+-- is. Assumes nothing.
 use Prim.Native.Nat.{ℕ, suc, _+_, _*_, _-_, _^_, _≤_}
 use mathlib.Core.Path.{_≡_, sym, _∙_}
 use native.Mathlib.Nat.{sub-self}

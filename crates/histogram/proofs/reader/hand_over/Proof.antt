@@ -1,4 +1,5 @@
--- `histogram::reader::hand_over` meets its contract: what is checked is held, and what is kept of it is copied. Assumes nothing.
+-- `histogram::reader::hand_over` meets its contract: what is checked is held, and what is kept of it is copied.
+-- Assumes nothing.
 use Prim.Native.Nat.{ℕ, _≤_}
 use mathlib.Core.Path.{_≡_, _∙_, ap}
 use mathlib.Core.List.{List, []}

@@ -1,4 +1,5 @@
--- `histogram::reader::long_bin_at` meets its contract: what stands behind each group, by the laws of `Numbers`. Assumes nothing.
+-- `histogram::reader::long_bin_at` meets its contract: what stands behind each group, by the laws of `Numbers`.
+-- Assumes nothing.
 use Prim.Native.Nat.{ℕ, _+_, _*_, _%_, _<_}
 use mathlib.Core.Path.{_≡_, refl, sym, ap}
 use native.Mathlib.Omega.{arith}

@@ -1,4 +1,5 @@
--- `histogram::reader::read_bins` meets its contract: at each turn the file from here on, with the bins held, means what it meant from the first bin on. Assumes nothing.
+-- `histogram::reader::read_bins` meets its contract: at each turn the file from here on, with the bins held, means
+-- what it meant from the first bin on. Assumes nothing.
 use Prim.Native.Nat.{ℕ, _+_, _-_, _≤_}
 use mathlib.Core.Path.{_≡_, refl, sym, _∙_, ap}
 use mathlib.Core.List.{List, []}

@@ -1,4 +1,5 @@
--- `histogram::reader::read_histogram` meets its contract: its two numbers are read here, and `hand_over` reads the rest. Assumes nothing.
+-- `histogram::reader::read_histogram` meets its contract: its two numbers are read here, and `hand_over` reads the
+-- rest. Assumes nothing.
 use Prim.Native.Nat.{ℕ, _≤_}
 use mathlib.Core.Path.{_≡_, sym, _∙_, ap}
 use mathlib.Core.List.{List, []}

@@ -1,4 +1,5 @@
--- `histogram::writer::file_size` meets its contract: what is counted, and what is left to count, make up the whole. Assumes nothing.
+-- `histogram::writer::file_size` meets its contract: what is counted, and what is left to count, make up the whole.
+-- Assumes nothing.
 use Prim.Native.Nat.{ℕ, suc, _+_, _*_, _-_, _^_, _≤_, _<_}
 use mathlib.Core.Path.{_≡_, _∙_, ap}
 use native.Mathlib.Numerals.{add-one}

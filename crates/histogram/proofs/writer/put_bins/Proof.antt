@@ -1,4 +1,5 @@
--- `histogram::writer::put_bins` meets its contract: at each turn the bytes still to come are those of the bins left. Assumes nothing.
+-- `histogram::writer::put_bins` meets its contract: at each turn the bytes still to come are those of the bins left.
+-- Assumes nothing.
 use Prim.Native.Nat.{ℕ, suc, _+_, _-_, _≤_}
 use mathlib.Core.Path.{_≡_, _∙_, ap, subst}
 use mathlib.Core.List.{List, _++_}

@@ -1,4 +1,5 @@
--- `histogram::writer::put_file` meets its contract: the form, the bin count and the bins are put one behind the other. Assumes nothing.
+-- `histogram::writer::put_file` meets its contract: the form, the bin count and the bins are put one behind the other.
+-- Assumes nothing.
 use Prim.Native.Nat.{ℕ, _+_, _-_, _≤_}
 use mathlib.Core.Path.{_≡_, sym, subst}
 use mathlib.Core.List.{List, [], _∷_, _++_, append-nil}

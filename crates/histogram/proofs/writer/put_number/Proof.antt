@@ -1,4 +1,5 @@
--- `histogram::writer::put_number` meets its contract: at each turn the bytes still to come are those of what is left. Assumes nothing.
+-- `histogram::writer::put_number` meets its contract: at each turn the bytes still to come are those of what is left.
+-- Assumes nothing.
 use Prim.Native.Nat.{ℕ, _+_, _/_, _%_, _≤_}
 use mathlib.Core.Path.{subst}
 use mathlib.Core.List.{List, [], _∷_}

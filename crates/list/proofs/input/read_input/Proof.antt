@@ -1,4 +1,5 @@
--- `list::input::read_input` meets its contract: what was read lies within the lent bytes, and each turn is counted. Assumes nothing.
+-- `list::input::read_input` meets its contract: what was read lies within the lent bytes, and each turn is counted.
+-- Assumes nothing.
 use Prim.Native.Nat.{_≤_}
 use mathlib.Core.Path.{_≡_, sym}
 use lib.ListN.{length}

@@ -1,4 +1,5 @@
--- `list::output::write_output` is safe and ends: what is written lies within the bytes, and each turn is counted. Assumes nothing.
+-- `list::output::write_output` is safe and ends: what is written lies within the bytes, and each turn is counted.
+-- Assumes nothing.
 use Prim.Native.Nat.{_≤_}
 use lib.ListN.{length}
 use borrow.Author.Needs.{needs}

@@ -1,4 +1,5 @@
--- `listing::text::decimal_size` meets its contract: the digits counted, and those of what is left, make up the whole. Assumes nothing.
+-- `listing::text::decimal_size` meets its contract: the digits counted, and those of what is left, make up the whole.
+-- Assumes nothing.
 use Prim.Native.Nat.{_+_}
 use mathlib.Core.Path.{_≡_, refl, ap}
 use native.Mathlib.Omega.{arith}

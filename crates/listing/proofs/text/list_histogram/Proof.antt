@@ -1,4 +1,5 @@
--- `listing::text::list_histogram` meets its contract: the line of the bin count, and the rows behind it. Assumes nothing.
+-- `listing::text::list_histogram` meets its contract: the line of the bin count, and the rows behind it. Assumes
+-- nothing.
 use Prim.Native.Nat.{ℕ, _+_, _*_, _^_, _≤_, _<_}
 use mathlib.Core.Path.{refl, ap}
 use mathlib.Core.List.{List, _++_}

@@ -1,4 +1,5 @@
--- `listing::text::put_decimal` meets its contract: at each turn the digits still to come are those of what is left. Assumes nothing.
+-- `listing::text::put_decimal` meets its contract: at each turn the digits still to come are those of what is left.
+-- Assumes nothing.
 use Prim.Native.Nat.{ℕ, _-_, _/_, _%_, _≤_}
 use mathlib.Core.Path.{sym, subst}
 use mathlib.Core.List.{List, [], _∷_, _++_}

@@ -1,4 +1,5 @@
--- `listing::text::put_line` meets its contract: the word, the digits and the end of the line are put one behind the other. Assumes nothing.
+-- `listing::text::put_line` meets its contract: the word, the digits and the end of the line are put one behind the
+-- other. Assumes nothing.
 use Prim.Native.Nat.{ℕ, _+_, _-_, _≤_}
 use mathlib.Core.List.{List, [], _++_}
 use native.Mathlib.Omega.{arith}

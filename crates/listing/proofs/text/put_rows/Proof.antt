@@ -1,4 +1,5 @@
--- `listing::text::put_rows` meets its contract: at each turn the bytes still to come are the rows of the bins left. Assumes nothing.
+-- `listing::text::put_rows` meets its contract: at each turn the bytes still to come are the rows of the bins left.
+-- Assumes nothing.
 use Prim.Native.Nat.{ℕ, suc, _+_, _-_, _≤_}
 use mathlib.Core.Path.{_≡_, _∙_, ap, subst}
 use mathlib.Core.List.{List, _++_}

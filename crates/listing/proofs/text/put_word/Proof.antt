@@ -1,4 +1,5 @@
--- `listing::text::put_word` meets its contract: at each turn the bytes still to come are those of the word that are left. Assumes nothing.
+-- `listing::text::put_word` meets its contract: at each turn the bytes still to come are those of the word that are
+-- left. Assumes nothing.
 use Prim.Native.Nat.{ℕ, suc, _-_, _≤_}
 use mathlib.Core.Path.{subst}
 use mathlib.Core.List.{List}

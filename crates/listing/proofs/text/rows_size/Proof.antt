@@ -1,4 +1,5 @@
--- `listing::text::rows_size` meets its contract: what is counted, and what is left to count, make up the whole. Assumes nothing.
+-- `listing::text::rows_size` meets its contract: what is counted, and what is left to count, make up the whole.
+-- Assumes nothing.
 use Prim.Native.Nat.{ℕ, suc, _+_, _*_, _-_, _≤_, _<_}
 use mathlib.Core.Path.{_≡_, ap, _∙_}
 use mathlib.Core.List.{List}
