@@ -1,0 +1,5 @@
+-- Laws of this layer.
+pub mod Recovered
+pub mod Sums
+pub mod ShareTests
+pub mod Cases

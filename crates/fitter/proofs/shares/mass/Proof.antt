@@ -1,0 +1,88 @@
+-- `fitter::shares::mass` meets its contract. The loop's end is its start where the range is inverted. Assumes nothing.
+use borrow.Author.Needs.{needs}
+use mathlib.Core.Path.{_≡_, refl, sym, ap, _∙_}
+use Prim.Native.Nat.{ℕ, _+_, _-_, min}
+use native.Mathlib.Omega.{arith}
+use lib.Ieee.{neg, ofBits}
+use Rattle.routines.specs.Constants.{zero}
+use Rattle.routines.specs.Ops.{_⊕_, ofCount}
+use Rattle.meaning.specs.Fold.{fold}
+use Rattle.meaning.proofs.Loops.{Folded, begins, goes-on, ends}
+use Rattle.fitter.specs.Recovering.{recovered}
+use Rattle.fitter.specs.Shares.{massStep, massOf}
+use Rattle.fitter.proofs.Recovered.{recovered-length, recovered-at}
+use Rattle.fitter.proofs.Sums.{fold-reach}
+use Rattle.fitter.proofs.shares.mass.Statement.{statement}
+use Rattle.fitter.proofs.shares.mass.Tie as tie
+
+abbrev Inv-loop : tie.InvT-loop
+Inv-loop bins used from to end total₀ i₀ total i =
+    Folded (massStep (recovered used bins)) (neg zero) (from - 1) (from - 1 + (end - (from - 1))) total i
+
+abbrev μ-loop : tie.MeasureT-loop
+μ-loop bins used from to end total₀ i₀ total i = end - i
+
+reach-requires : tie.Need-reach-requires Inv-loop μ-loop
+reach-requires c κs = search needs
+
+sub-i : tie.Need-sub-i Inv-loop μ-loop
+sub-i c = omega arith
+
+loop-holds : tie.Need-loop-holds Inv-loop μ-loop
+unfolding neg ofBits
+loop-holds c = begins _ _ _ _ _ (omega arith) refl
+
+mul-rounded-quotient : tie.Need-mul-rounded-quotient Inv-loop μ-loop
+mul-rounded-quotient c = search needs
+
+shared-slice-read-rounded-quotient : tie.Need-shared-slice-read-rounded-quotient Inv-loop μ-loop
+shared-slice-read-rounded-quotient c = omega arith
+
+rounded-quotient-requires : tie.Need-rounded-quotient-requires Inv-loop μ-loop
+rounded-quotient-requires c κs = search needs
+
+int-to-float-total : tie.Need-int-to-float-total Inv-loop μ-loop
+int-to-float-total c = search needs
+
+add-i : tie.Need-add-i Inv-loop μ-loop
+add-i c = omega arith
+
+loop-less : tie.Need-loop-less Inv-loop μ-loop
+loop-less c = omega arith
+
+loop-again : tie.Need-loop-again Inv-loop μ-loop
+loop-again c =
+    let at = c .before .before .before .before in
+    let a = at .before .before .before .args in
+    goes-on _ _ _ _ (at .loop .inv) _ (omega arith)
+    (ap (λ (n : ℕ). at .loop .total ⊕ ofCount n)
+    (c .before .rounded-quotient .ensures ∙ recovered-at (a .used) (a .bins .now) (at .loop .i) (omega arith)))
+
+returns : tie.Need-returns Inv-loop μ-loop
+unfolding massOf
+returns c =
+    let at = c .before in
+    let a = at .before .before .before .args in
+    let step = massStep (recovered (a .used) (a .bins .now)) in
+    let end = at .before .reach .ensures ∙ ap (min (a .to)) (sym (recovered-length (a .used) (a .bins .now))) in
+    ends _ _ _ _ (at .loop .inv) (omega arith)
+    ∙ fold-reach step (a .from - 1) (at .before .reach .result) (neg zero)
+    ∙ ap (λ (n : ℕ). fold step (a .from - 1) n (neg zero)) end
+
+pub mass-spec : {M : Type 1} → statement M
+mass-spec =
+    tie.close
+    (tie.spec
+    Inv-loop
+    μ-loop
+    reach-requires
+    sub-i
+    loop-holds
+    mul-rounded-quotient
+    shared-slice-read-rounded-quotient
+    rounded-quotient-requires
+    int-to-float-total
+    add-i
+    loop-less
+    loop-again
+    returns)

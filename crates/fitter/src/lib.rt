@@ -1,0 +1,4 @@
+// Layer 4: from the histogram to the starts.
+// Ported from src/preprocessing/spectrum_fitter.rs of bacpop/sparrowhawk-asm, f1f8af1232, Apache-2.0; ported and changed.
+pub mod recovering;
+pub mod shares;
