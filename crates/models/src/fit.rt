@@ -54,7 +54,7 @@ pub struct SpectrumFit {
 }
 
 // |x|: the sign off, and a NaN as it is.
-fn abs(x: f64) -> f64
+pub fn abs(x: f64) -> f64
     ensures { λ r. ⌜ r ≡ absOf x ⌝ }
 {
     if x < 0.0 {

@@ -1,0 +1,3 @@
+-- Laws of this layer.
+pub mod Replaced
+pub mod Selecting

@@ -1,0 +1,3 @@
+pub mod Attempts
+pub mod Selection
+pub mod Outcomes
