@@ -1,5 +1,5 @@
--- What is selected: a valid candidate, or none where none is valid; and of two valid ones the first, unless the second's
--- BIC replaces it. Assumes nothing.
+-- What is selected: a valid candidate, or none where none is valid. Of two valid ones it is the first, unless the
+-- second's BIC replaces it. Assumes nothing.
 use mathlib.Core.Path.{_≡_, refl, sym, ap, _∙_, subst}
 use mathlib.Core.Logic.{_⊎_, inl, inr}
 use mathlib.Core.Bool.{Bool, true, false, cond, not, _&&_, _||_, true≢false, false≢true}

@@ -1,5 +1,5 @@
--- What the theorem on the selection speaks of: which attempt is taken, and what that says of the others. Definitions only.
--- Assumes nothing.
+-- What the theorem on the selection speaks of: which attempt is taken, and what that says of the others.
+-- Definitions only. Assumes nothing.
 use mathlib.Core.Path.{_≡_}
 use mathlib.Core.Bool.{true, false}
 use mathlib.Core.List.{List, _∷_, _++_, List·Memᴰ}
@@ -9,7 +9,8 @@ use Rattle.fitter.specs.declared.attempts.FitAttempt.{FitAttempt}
 use Rattle.fitter.specs.declared.selection.Selected.{Selected}
 
 -- a is taken. Of those after it none is better by more than the tolerance. Of those before it only their selection is
--- compared with a: some that were refused one by one may be better than that selection, each by less than the tolerance.
+-- compared with a. Each that was refused there failed against the best of its time, so refused ones may be better than
+-- that best, each within the tolerance.
 pub record Taken (attempts : List FitAttempt) (a : FitAttempt) : Type 0 where
   pub before : List FitAttempt
   pub after : List FitAttempt

@@ -1,6 +1,6 @@
 // What one configuration came to.
-// Ported from src/preprocessing/spectrum_fitter.rs of bacpop/sparrowhawk-asm, f1f8af1232, Apache-2.0; ported and changed:
-// a flag beside the candidate says whether there is one.
+// Ported from src/preprocessing/spectrum_fitter.rs of bacpop/sparrowhawk-asm, f1f8af1232, Apache-2.0; ported and
+// changed: a flag beside the candidate says whether there is one.
 ghost use mathlib.Core.Path.{_≡_};
 ghost use Rattle.fitter.specs.Attempts.{attemptOf, validOf};
 use crate::rejections::FitRejection;
@@ -30,24 +30,24 @@ pub struct FitAttempt {
 
 // Every attempt is made here.
 pub fn make_attempt(
-    error_model: ErrorModel,
-    genome_model: GenomeModel,
-    has_candidate: bool,
+    error: ErrorModel,
+    genome: GenomeModel,
+    held: bool,
     candidate: SpectrumFit,
     rejection: RejectionPart,
-    total_iterations: u64,
-    capped_starts: u32,
+    iterations: u64,
+    capped: u32,
 ) -> FitAttempt
-    ensures { λ r. ⌜ r ≡ attemptOf «error_model» «genome_model» «has_candidate» candidate rejection «total_iterations» «capped_starts» ⌝ }
+    ensures { λ r. ⌜ r ≡ attemptOf error genome held candidate rejection iterations capped ⌝ }
 {
     FitAttempt {
-        error_model: error_model,
-        genome_model: genome_model,
-        has_candidate: has_candidate,
+        error_model: error,
+        genome_model: genome,
+        has_candidate: held,
         candidate: candidate,
         rejection: rejection,
-        total_iterations: total_iterations,
-        capped_starts: capped_starts,
+        total_iterations: iterations,
+        capped_starts: capped,
     }
 }
 

@@ -1,6 +1,6 @@
 // The fit that is used, out of four attempts.
-// Ported from src/preprocessing/spectrum_fitter.rs of bacpop/sparrowhawk-asm, f1f8af1232, Apache-2.0; ported and changed:
-// a flag beside the fit says whether there is one.
+// Ported from src/preprocessing/spectrum_fitter.rs of bacpop/sparrowhawk-asm, f1f8af1232, Apache-2.0; ported and
+// changed: a flag beside the fit says whether there is one.
 ghost use mathlib.Core.Path.{_≡_};
 ghost use Rattle.fitter.specs.Selection.{replacesOf, winsOf, replaceOf, nothing, selectOf};
 use crate::attempts::FitAttempt;
@@ -19,7 +19,7 @@ pub struct Selected {
 // A tie within round-off keeps the earlier configuration.
 const TOLERANCE: f64 = 1e-9;
 
-// Whether a BIC is so far below the best that it takes its place. A NaN or an infinity never does, and is never replaced.
+// Whether a BIC is so far below the best that it takes its place. A NaN or an infinity never does, and keeps its own.
 fn replaces(best: f64, next: f64) -> bool
     ensures { λ r. ⌜ r ≡ replacesOf best next ⌝ }
 {

@@ -29,10 +29,10 @@ four-steps : (l : List FitAttempt) (d : FitAttempt) (none one two three four : S
     → one ≡ then none l d 0 → two ≡ then one l d 1 → three ≡ then two l d 2 → four ≡ then three l d 3
     → four ≡ selectOf l
 four-steps l d none one two three four h p q r s t =
-    t
-    ∙ ap (λ (b : Selected). then b l d 3)
-    (s ∙ ap (λ (b : Selected). then b l d 2) (r ∙ ap (λ (b : Selected). then b l d 1) (q ∙ ap (λ (b : Selected). then b l d 0) p)))
-    ∙ in-order l d h
+    let first = q ∙ ap (λ (b : Selected). then b l d 0) p in
+    let second = r ∙ ap (λ (b : Selected). then b l d 1) first in
+    let third = s ∙ ap (λ (b : Selected). then b l d 2) second in
+    t ∙ ap (λ (b : Selected). then b l d 3) third ∙ in-order l d h
 
 none-yet-requires : tie.Need-none-yet-requires
 none-yet-requires c κs = search needs

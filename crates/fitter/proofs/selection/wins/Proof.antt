@@ -32,7 +32,8 @@ replaces-requires c κs = search needs
 returns : tie.Need-returns
 returns c =
     let valid = c .before .before in
-    c .replaces .ensures ∙ by-bic _ _ (sym (valid .before .is-valid .ensures) ∙ valid .if1 .taken) (c .before .if2 .taken)
+    c .replaces .ensures
+    ∙ by-bic _ _ (sym (valid .before .is-valid .ensures) ∙ valid .if1 .taken) (c .before .if2 .taken)
 
 returns-2 : tie.Need-returns-2
 returns-2 c =
