@@ -3,3 +3,5 @@ pub mod Recovered
 pub mod Sums
 pub mod ShareTests
 pub mod Cases
+pub mod Replaced
+pub mod Selecting

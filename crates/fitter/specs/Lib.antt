@@ -1,2 +1,5 @@
 pub mod Recovering
 pub mod Shares
+pub mod Attempts
+pub mod Selection
+pub mod Outcomes

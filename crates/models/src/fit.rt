@@ -55,7 +55,7 @@ pub struct SpectrumFit {
 }
 
 // |x|: the sign off, and a NaN as it is.
-fn abs(x: f64) -> f64
+pub fn abs(x: f64) -> f64
     ensures { λ r. ⌜ r ≡ absOf x ⌝ }
 {
     if x < 0.0 {

@@ -1,0 +1,27 @@
+-- `fitter::selection::replaces` meets its contract. The code's 1e-9 is the `f64` nearest to it. Assumes nothing.
+use mathlib.Core.Path.{_≡_, refl}
+use lib.Ieee.{binary64, ofBits, round}
+use Rattle.fitter.specs.Selection.{tolerance, replacesOf}
+use borrow.Author.Needs.{needs}
+use Rattle.fitter.proofs.selection.replaces.Statement.{statement}
+use Rattle.fitter.proofs.selection.replaces.Tie as tie
+
+tolerance-is : tolerance ≡ ofBits binary64 0x3e112e0be826d695
+unfolding ofBits round
+tolerance-is = refl
+
+abs-requires : tie.Need-abs-requires
+abs-requires c κs = search needs
+
+abs-requires-2 : tie.Need-abs-requires-2
+abs-requires-2 c κs = search needs
+
+max-requires : tie.Need-max-requires
+max-requires c κs = search needs
+
+returns : tie.Need-returns
+unfolding replacesOf
+returns c = rw (tolerance-is, c .max .ensures, c .before .abs2 .ensures, c .before .before .abs .ensures)
+
+pub replaces-spec : {M : Type 1} → statement M
+replaces-spec = tie.close (tie.spec abs-requires abs-requires-2 max-requires returns)
