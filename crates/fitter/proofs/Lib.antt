@@ -1,0 +1,3 @@
+-- Laws of this layer.
+pub mod Either
+pub mod Verdicts
