@@ -1,7 +1,9 @@
 // Layer 4: from the histogram to the starts, the validator, the attempts and the selection among them.
 // Ported from src/preprocessing/spectrum_fitter.rs of bacpop/sparrowhawk-asm, f1f8af1232, Apache-2.0; ported and changed.
 pub mod attempts;
+pub mod fit_rules;
 pub mod recovering;
 pub mod rejections;
 pub mod selection;
 pub mod shares;
+pub mod validation;

@@ -1,0 +1,114 @@
+-- `fitter::fit_rules::invalid_components` meets its contract: `one` to `five` are its first so many tests. Assumes nothing.
+use mathlib.Core.Path.{_≡_, sym, _∙_}
+use mathlib.Core.Bool.{Bool, false, _||_}
+use Rattle.models.specs.declared.fit.SpectrumFit.{SpectrumFit}
+use Rattle.fitter.specs.Validation.{badWeight, badMean, badDispersion, invalidComponents}
+use Rattle.fitter.proofs.Either.{neither}
+use borrow.Author.Needs.{needs}
+use Rattle.fitter.proofs.fit_rules.invalid_components.Statement.{statement}
+use Rattle.fitter.proofs.fit_rules.invalid_components.Tie as tie
+
+bad-weight-requires : tie.Need-bad-weight-requires
+bad-weight-requires c κs = search needs
+
+bad-weight-requires-2 : tie.Need-bad-weight-requires-2
+bad-weight-requires-2 c κs = search needs
+
+bad-weight-requires-3 : tie.Need-bad-weight-requires-3
+bad-weight-requires-3 c κs = search needs
+
+bad-mean-requires : tie.Need-bad-mean-requires
+bad-mean-requires c κs = search needs
+
+bad-dispersion-requires : tie.Need-bad-dispersion-requires
+bad-dispersion-requires c κs = search needs
+
+bad-shelf-requires : tie.Need-bad-shelf-requires
+bad-shelf-requires c κs = search needs
+
+-- ---- the first so many tests
+abbrev one : SpectrumFit → Bool
+one fit = badWeight (fit .«w_error»)
+
+abbrev two : SpectrumFit → Bool
+two fit = one fit || badWeight (fit .«w_single»)
+
+abbrev three : SpectrumFit → Bool
+three fit = two fit || badWeight (fit .«w_repeat»)
+
+abbrev four : SpectrumFit → Bool
+four fit = three fit || badMean (fit .mean)
+
+abbrev five : SpectrumFit → Bool
+five fit = four fit || badDispersion (fit .dispersion)
+
+abbrev of-one : tie.Else1 → SpectrumFit
+of-one c = c .before .before .args .fit
+
+not-one : (c : tie.Else1) → one (of-one c) ≡ false
+not-one c = sym (c .before .bad-weight .ensures) ∙ c .if1 .left
+
+abbrev of-two : tie.Else2 → SpectrumFit
+of-two c = of-one (c .before .before)
+
+not-two : (c : tie.Else2) → two (of-two c) ≡ false
+not-two c = neither (not-one (c .before .before)) (c .before .bad-weight2 .ensures) (c .if2 .left)
+
+abbrev of-three : tie.Else3 → SpectrumFit
+of-three c = of-two (c .before .before)
+
+not-three : (c : tie.Else3) → three (of-three c) ≡ false
+not-three c = neither (not-two (c .before .before)) (c .before .bad-weight3 .ensures) (c .if3 .left)
+
+abbrev of-four : tie.Else4 → SpectrumFit
+of-four c = of-three (c .before .before)
+
+not-four : (c : tie.Else4) → four (of-four c) ≡ false
+not-four c = neither (not-three (c .before .before)) (c .before .bad-mean .ensures) (c .if4 .left)
+
+abbrev of-five : tie.Else5 → SpectrumFit
+of-five c = of-four (c .before .before)
+
+not-five : (c : tie.Else5) → five (of-five c) ≡ false
+not-five c = neither (not-four (c .before .before)) (c .before .bad-dispersion .ensures) (c .if5 .left)
+
+returns : tie.Need-returns
+unfolding invalidComponents
+returns c = rw (sym (c .before .bad-weight .ensures) ∙ c .if1 .taken)
+
+returns-2 : tie.Need-returns-2
+unfolding invalidComponents
+returns-2 c = rw (not-one (c .before .before), sym (c .before .bad-weight2 .ensures) ∙ c .if2 .taken)
+
+returns-3 : tie.Need-returns-3
+unfolding invalidComponents
+returns-3 c = rw (not-two (c .before .before), sym (c .before .bad-weight3 .ensures) ∙ c .if3 .taken)
+
+returns-4 : tie.Need-returns-4
+unfolding invalidComponents
+returns-4 c = rw (not-three (c .before .before), sym (c .before .bad-mean .ensures) ∙ c .if4 .taken)
+
+returns-5 : tie.Need-returns-5
+unfolding invalidComponents
+returns-5 c = rw (not-four (c .before .before), sym (c .before .bad-dispersion .ensures) ∙ c .if5 .taken)
+
+returns-6 : tie.Need-returns-6
+unfolding invalidComponents
+returns-6 c = rw (not-five (c .before)) (c .bad-shelf .ensures)
+
+pub invalid-components-spec : {M : Type 1} → statement M
+invalid-components-spec =
+    tie.close
+    (tie.spec
+    bad-weight-requires
+    returns
+    bad-weight-requires-2
+    returns-2
+    bad-weight-requires-3
+    returns-3
+    bad-mean-requires
+    returns-4
+    bad-dispersion-requires
+    returns-5
+    bad-shelf-requires
+    returns-6)

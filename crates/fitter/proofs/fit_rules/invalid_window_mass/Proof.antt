@@ -1,0 +1,74 @@
+-- `fitter::fit_rules::invalid_window_mass` meets its contract: `one` and `two` are its first so many tests. Assumes nothing.
+use mathlib.Core.Path.{_≡_, sym, _∙_}
+use mathlib.Core.Bool.{Bool, false, _||_}
+use lib.Ieee.{nan}
+use lib.ListN.{getD}
+use Rattle.models.specs.declared.fit.SpectrumFit.{SpectrumFit}
+use Rattle.fitter.specs.Validation.{badMass, invalidWindowMass}
+use Rattle.fitter.proofs.Either.{neither}
+use borrow.Author.Needs.{needs}
+use Rattle.fitter.proofs.fit_rules.invalid_window_mass.Statement.{statement}
+use Rattle.fitter.proofs.fit_rules.invalid_window_mass.Tie as tie
+
+array-read-bad-mass : tie.Need-array-read-bad-mass
+array-read-bad-mass c = search needs
+
+array-read-bad-mass-2 : tie.Need-array-read-bad-mass-2
+array-read-bad-mass-2 c = search needs
+
+array-read-bad-mass-3 : tie.Need-array-read-bad-mass-3
+array-read-bad-mass-3 c = search needs
+
+bad-mass-requires : tie.Need-bad-mass-requires
+bad-mass-requires c κs = search needs
+
+bad-mass-requires-2 : tie.Need-bad-mass-requires-2
+bad-mass-requires-2 c κs = search needs
+
+bad-mass-requires-3 : tie.Need-bad-mass-requires-3
+bad-mass-requires-3 c κs = search needs
+
+-- ---- the first so many tests
+abbrev one : SpectrumFit → Bool
+one fit = badMass (getD (fit .«component_log_window_masses») 0 nan)
+
+abbrev two : SpectrumFit → Bool
+two fit = one fit || badMass (getD (fit .«component_log_window_masses») 1 nan)
+
+abbrev of-one : tie.Else1 → SpectrumFit
+of-one c = c .before .before .before .args .fit
+
+not-one : (c : tie.Else1) → one (of-one c) ≡ false
+not-one c = sym (c .before .bad-mass .ensures) ∙ c .if1 .left
+
+abbrev of-two : tie.Else2 → SpectrumFit
+of-two c = of-one (c .before .before)
+
+not-two : (c : tie.Else2) → two (of-two c) ≡ false
+not-two c = neither (not-one (c .before .before)) (c .before .bad-mass2 .ensures) (c .if2 .left)
+
+returns : tie.Need-returns
+unfolding invalidWindowMass
+returns c = rw (sym (c .before .bad-mass .ensures) ∙ c .if1 .taken)
+
+returns-2 : tie.Need-returns-2
+unfolding invalidWindowMass
+returns-2 c = rw (not-one (c .before .before), sym (c .before .bad-mass2 .ensures) ∙ c .if2 .taken)
+
+returns-3 : tie.Need-returns-3
+unfolding invalidWindowMass
+returns-3 c = rw (not-two (c .before)) (c .bad-mass3 .ensures)
+
+pub invalid-window-mass-spec : {M : Type 1} → statement M
+invalid-window-mass-spec =
+    tie.close
+    (tie.spec
+    array-read-bad-mass
+    bad-mass-requires
+    returns
+    array-read-bad-mass-2
+    bad-mass-requires-2
+    returns-2
+    array-read-bad-mass-3
+    bad-mass-requires-3
+    returns-3)
