@@ -1,4 +1,5 @@
--- `fitter::fit_rules::invalid_components` meets its contract: `one` to `five` are its first so many tests. Assumes nothing.
+-- `fitter::fit_rules::invalid_components` meets its contract: `one` to `five` are its first so many tests.
+-- Assumes nothing.
 use mathlib.Core.Path.{_≡_, sym, _∙_}
 use mathlib.Core.Bool.{Bool, false, _||_}
 use Rattle.models.specs.declared.fit.SpectrumFit.{SpectrumFit}

@@ -1,4 +1,5 @@
--- `fitter::fit_rules::invalid_window_mass` meets its contract: `one` and `two` are its first so many tests. Assumes nothing.
+-- `fitter::fit_rules::invalid_window_mass` meets its contract: `one` and `two` are its first so many tests.
+-- Assumes nothing.
 use mathlib.Core.Path.{_≡_, sym, _∙_}
 use mathlib.Core.Bool.{Bool, false, _||_}
 use lib.Ieee.{nan}

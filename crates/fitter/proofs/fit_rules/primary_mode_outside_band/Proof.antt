@@ -20,7 +20,8 @@ returns : tie.Need-returns
 unfolding primaryModeOutsideBand
 returns c =
     let made = c .before .before in
-    rw (c .outside-band .ensures, c .before .from-u642 .ensures, made .from-u64 .ensures, made .before .primary-mode .ensures)
+    let mode = made .before .primary-mode in
+    rw (c .outside-band .ensures, c .before .from-u642 .ensures, made .from-u64 .ensures, mode .ensures)
 
 pub primary-mode-outside-band-spec : {M : Type 1} → statement M
 primary-mode-outside-band-spec =

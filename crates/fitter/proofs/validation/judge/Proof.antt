@@ -1,4 +1,5 @@
--- `fitter::validation::judge` meets its contract: a rule that does not apply is passed over, once for all behind it. Assumes nothing.
+-- `fitter::validation::judge` meets its contract: a rule that does not apply is passed over, once for all behind it.
+-- Assumes nothing.
 use Prim.Native.Nat.{ℕ, zero, suc}
 use mathlib.Core.Path.{_≡_, sym, ap, _∙_}
 use mathlib.Core.List.{List, [], _∷_}
@@ -60,7 +61,8 @@ module _ (s : tie.Start) where
 returns : tie.Need-returns
 unfolding verdictOf
 returns c =
-    let s = c .before .before in said s (applies 1 (from 1 (all s)) (c .before .non-finite-likelihood .ensures) (c .if1 .taken))
+    let s = c .before .before in
+    said s (applies 1 (from 1 (all s)) (c .before .non-finite-likelihood .ensures) (c .if1 .taken))
 
 abbrev start-1 : tie.Else1 → tie.Start
 start-1 c = c .before .before
@@ -73,7 +75,9 @@ returns-2 : tie.Need-returns-2
 unfolding verdictOf
 returns-2 c =
     let s = start-1 (c .before .before) in
-    said s (past-1 (c .before .before) ∙ applies 2 (from 2 (all s)) (c .before .invalid-components .ensures) (c .if2 .taken))
+    said s
+    (past-1 (c .before .before)
+    ∙ applies 2 (from 2 (all s)) (c .before .invalid-components .ensures) (c .if2 .taken))
 
 abbrev start-2 : tie.Else2 → tie.Start
 start-2 c = start-1 (c .before .before)
@@ -88,7 +92,9 @@ returns-3 : tie.Need-returns-3
 unfolding verdictOf
 returns-3 c =
     let s = start-2 (c .before .before) in
-    said s (past-2 (c .before .before) ∙ applies 3 (from 3 (all s)) (c .before .invalid-window-mass .ensures) (c .if3 .taken))
+    said s
+    (past-2 (c .before .before)
+    ∙ applies 3 (from 3 (all s)) (c .before .invalid-window-mass .ensures) (c .if3 .taken))
 
 abbrev start-3 : tie.Else3 → tie.Start
 start-3 c = start-2 (c .before .before)
@@ -103,7 +109,9 @@ returns-4 : tie.Need-returns-4
 unfolding verdictOf
 returns-4 c =
     let s = start-3 (c .before .before) in
-    said s (past-3 (c .before .before) ∙ applies 4 (from 4 (all s)) (c .before .component-mass-exceeded .ensures) (c .if4 .taken))
+    said s
+    (past-3 (c .before .before)
+    ∙ applies 4 (from 4 (all s)) (c .before .component-mass-exceeded .ensures) (c .if4 .taken))
 
 abbrev start-4 : tie.Else4 → tie.Start
 start-4 c = start-3 (c .before .before)
@@ -118,7 +126,9 @@ returns-5 : tie.Need-returns-5
 unfolding verdictOf
 returns-5 c =
     let s = start-4 (c .before .before) in
-    said s (past-4 (c .before .before) ∙ applies 5 (from 5 (all s)) (c .before .unstable-mode .ensures) (c .if5 .taken))
+    said s
+    (past-4 (c .before .before)
+    ∙ applies 5 (from 5 (all s)) (c .before .unstable-mode .ensures) (c .if5 .taken))
 
 abbrev start-5 : tie.Else5 → tie.Start
 start-5 c = start-4 (c .before .before)
@@ -133,7 +143,9 @@ returns-6 : tie.Need-returns-6
 unfolding verdictOf
 returns-6 c =
     let s = start-5 (c .before .before) in
-    said s (past-5 (c .before .before) ∙ applies 6 (from 6 (all s)) (c .before .lobe-outside-window .ensures) (c .if6 .taken))
+    said s
+    (past-5 (c .before .before)
+    ∙ applies 6 (from 6 (all s)) (c .before .lobe-outside-window .ensures) (c .if6 .taken))
 
 abbrev start-6 : tie.Else6 → tie.Start
 start-6 c = start-5 (c .before .before)
@@ -148,7 +160,9 @@ returns-7 : tie.Need-returns-7
 unfolding verdictOf
 returns-7 c =
     let s = start-6 (c .before .before) in
-    said s (past-6 (c .before .before) ∙ applies 7 (from 7 (all s)) (c .before .error-mode-past-valley .ensures) (c .if7 .taken))
+    said s
+    (past-6 (c .before .before)
+    ∙ applies 7 (from 7 (all s)) (c .before .error-mode-past-valley .ensures) (c .if7 .taken))
 
 abbrev start-7 : tie.Else7 → tie.Start
 start-7 c = start-6 (c .before .before)
@@ -163,7 +177,9 @@ returns-8 : tie.Need-returns-8
 unfolding verdictOf
 returns-8 c =
     let s = start-7 (c .before .before) in
-    said s (past-7 (c .before .before) ∙ applies 8 (from 8 (all s)) (c .before .primary-mode-outside-band .ensures) (c .if8 .taken))
+    said s
+    (past-7 (c .before .before)
+    ∙ applies 8 (from 8 (all s)) (c .before .primary-mode-outside-band .ensures) (c .if8 .taken))
 
 abbrev start-8 : tie.Else8 → tie.Start
 start-8 c = start-7 (c .before .before)
@@ -178,7 +194,9 @@ returns-9 : tie.Need-returns-9
 unfolding verdictOf
 returns-9 c =
     let s = start-8 (c .before .before) in
-    said s (past-8 (c .before .before) ∙ applies 9 (from 9 (all s)) (c .before .repeat-mode-too-early .ensures) (c .if9 .taken))
+    said s
+    (past-8 (c .before .before)
+    ∙ applies 9 (from 9 (all s)) (c .before .repeat-mode-too-early .ensures) (c .if9 .taken))
 
 abbrev start-9 : tie.Else9 → tie.Start
 start-9 c = start-8 (c .before .before)
@@ -193,7 +211,9 @@ returns-10 : tie.Need-returns-10
 unfolding verdictOf
 returns-10 c =
     let s = start-9 (c .before .before) in
-    said s (past-9 (c .before .before) ∙ applies 10 (from 10 (all s)) (c .before .positive-log-likelihood .ensures) (c .if10 .taken))
+    said s
+    (past-9 (c .before .before)
+    ∙ applies 10 (from 10 (all s)) (c .before .positive-log-likelihood .ensures) (c .if10 .taken))
 
 abbrev start-10 : tie.Else10 → tie.Start
 start-10 c = start-9 (c .before .before)
