@@ -1,0 +1,6 @@
+-- Laws of this layer.
+pub mod Writing
+pub mod Joins
+pub mod Divided
+pub mod Parts
+pub mod Answers
