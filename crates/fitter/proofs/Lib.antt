@@ -4,3 +4,4 @@ pub mod Joins
 pub mod Divided
 pub mod Parts
 pub mod Answers
+pub mod NoShape

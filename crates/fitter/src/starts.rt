@@ -8,6 +8,7 @@ ghost use lib.ListN.{length};
 ghost use Rattle.meaning.specs.Answers.{writtenSays};
 ghost use Rattle.meaning.specs.Lent.{counted, laid};
 ghost use Rattle.meaning.specs.Reply.{firstOf};
+ghost use Rattle.routines.specs.Starts.{paretoStarts, weibullStarts};
 ghost use Rattle.fitter.specs.StartTables.{tableOf, notRows, wrongTables};
 ghost use Rattle.fitter.specs.Starts.{perRow, startsOf};
 use crate::start_writers::used_hint;
@@ -16,6 +17,8 @@ use meaning::answers::Written;
 use models::families::ErrorModel;
 use models::families::GenomeModel;
 use models::families::list_length;
+use routines::tables::pareto_starts;
+use routines::tables::weibull_starts;
 
 fn not_rows(n: usize) -> bool
     ensures { λ r. ⌜ r ≡ notRows n ⌝ }
@@ -106,4 +109,32 @@ pub fn fit_starts_lent<'a>(
     let used = used_hint(hint);
     let written = write_starts(out, error, genome, seeds, used, table, share, shapes);
     Written::Items(written)
+}
+
+// The same over the fixed tables.
+pub fn fit_starts(
+    error: ErrorModel,
+    genome: GenomeModel,
+    seeds: &[f64],
+    hint: f64,
+    share: f64,
+    shapes: &[f64],
+    out: &mut [f64],
+) -> Written
+    ensures { λ r. ⌜ writtenSays r ≡ counted (startsOf error genome paretoStarts weibullStarts (now (seeds .entry)) hint share (now (shapes .entry)) (length (now (out .entry)))) ⌝ }
+    ensures { λ _. ⌜ now (out .exit) ≡ laid (startsOf error genome paretoStarts weibullStarts (now (seeds .entry)) hint share (now (shapes .entry)) (length (now (out .entry)))) (now (out .entry)) ⌝ }
+{
+    let pareto = pareto_starts();
+    let weibull = weibull_starts();
+    fit_starts_lent(
+        error,
+        genome,
+        &pareto,
+        &weibull,
+        seeds,
+        hint,
+        share,
+        shapes,
+        out,
+    )
 }
