@@ -1,9 +1,19 @@
 -- Laws of this layer.
+-- ---- recovery and the shelf share
 pub mod Recovered
 pub mod Sums
 pub mod ShareTests
 pub mod Cases
+-- ---- the starts
+pub mod Writing
+pub mod Joins
+pub mod Divided
+pub mod Parts
+pub mod Answers
+pub mod NoShape
+-- ---- the validator
 pub mod Either
 pub mod Verdicts
+-- ---- the selection
 pub mod Replaced
 pub mod Selecting

@@ -1,5 +1,8 @@
 pub mod Recovering
 pub mod Shares
+pub mod InTurn
+pub mod StartTables
+pub mod Starts
 pub mod Validation
 pub mod Attempts
 pub mod Selection

@@ -6,4 +6,6 @@ pub mod recovering;
 pub mod rejections;
 pub mod selection;
 pub mod shares;
+pub mod start_writers;
+pub mod starts;
 pub mod validation;

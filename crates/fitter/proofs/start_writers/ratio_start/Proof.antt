@@ -1,0 +1,20 @@
+-- `fitter::start_writers::ratio_start` meets its contract. Assumes nothing.
+use lib.Ieee.{round, ofBits}
+use Rattle.fitter.specs.Starts.{ratioStart}
+use borrow.Author.Needs.{needs}
+use Rattle.fitter.proofs.start_writers.ratio_start.Statement.{statement}
+use Rattle.fitter.proofs.start_writers.ratio_start.Tie as tie
+
+logit-requires : tie.Need-logit-requires
+logit-requires c κs = search needs
+
+returns : tie.Need-returns
+unfolding ratioStart round ofBits
+returns c = c .logit .ensures
+
+pub ratio-start-spec : {M : Type 1} → statement M
+ratio-start-spec =
+    tie.close
+    (tie.spec
+    logit-requires
+    returns)

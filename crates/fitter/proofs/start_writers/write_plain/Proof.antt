@@ -1,0 +1,110 @@
+-- `fitter::start_writers::write_plain` meets its contract. Assumes nothing.
+use Prim.Native.Nat.{_≤_}
+use mathlib.Core.Path.{_≡_, sym, ap, _∙_, subst}
+use mathlib.Core.List.{List}
+use lib.Ieee.{Float}
+use lib.ListN.{length}
+use Rattle.meaning.specs.Over.{over}
+use Rattle.fitter.specs.Starts.{paretoList, weibullList, plainStart}
+use Rattle.fitter.proofs.Parts.{weibull-start, pareto-start}
+use borrow.Author.Needs.{needs}
+use Rattle.fitter.proofs.start_writers.write_plain.Statement.{statement}
+use Rattle.fitter.proofs.start_writers.write_plain.Tie as tie
+
+abbrev start : tie.After-ratio-start → tie.Start
+start r = r .before .before .before .before .before .before
+
+weibull-is : (t : tie.After-enum-told) →
+    let r = t .before .before in
+    let a = start r .args in
+    plainStart (a .error) (a .seed) (a .start)
+    ≡ weibullList (r .before .before .before .before .dispersion-start .result) (r .before .before .before .ln .result)
+    (r .before .before .logit .result) (r .before .ln2 .result) (r .ratio-start .result)
+weibull-is t =
+    let r = t .before .before in
+    let a = start r .args in
+    weibull-start (a .error) (a .seed) (a .start) _ _ _ _ (r .before .before .before .before .dispersion-start .ensures)
+    (r .before .before .before .ln .ensures) (r .before .before .logit .ensures) (r .ratio-start .ensures)
+    (t .enum-told .given .1) _ (r .before .ln2 .ensures)
+
+pareto-is : (t : tie.After-enum-told2) →
+    let r = t .before .before in
+    let a = start r .args in
+    plainStart (a .error) (a .seed) (a .start)
+    ≡ paretoList (r .before .before .before .before .dispersion-start .result) (r .before .before .before .ln .result)
+    (r .before .before .logit .result) (r .ratio-start .result)
+pareto-is t =
+    let r = t .before .before in
+    let a = start r .args in
+    pareto-start (a .error) (a .seed) (a .start) _ _ _ _ (r .before .before .before .before .dispersion-start .ensures)
+    (r .before .before .before .ln .ensures) (r .before .before .logit .ensures) (r .ratio-start .ensures)
+    (t .enum-told2 .given .1)
+
+dispersion-start-requires : tie.Need-dispersion-start-requires
+dispersion-start-requires c κs = search needs
+
+ln-requires : tie.Need-ln-requires
+ln-requires c κs = search needs
+
+logit-requires : tie.Need-logit-requires
+logit-requires c κs = search needs
+
+ln-requires-2 : tie.Need-ln-requires-2
+ln-requires-2 c κs = search needs
+
+ratio-start-requires : tie.Need-ratio-start-requires
+ratio-start-requires c κs = search needs
+
+enum-told : tie.Need-enum-told
+enum-told c = search needs
+
+put-weibull-requires : tie.Need-put-weibull-requires
+put-weibull-requires c κs =
+    let s = start (c .before .before .before) in
+    subst (λ (l : List Float). length l ≤ length (s .args .rest .now)) (weibull-is (c .before)) (s .pre)
+
+enum-told-2 : tie.Need-enum-told-2
+enum-told-2 c = search needs
+
+put-pareto-requires : tie.Need-put-pareto-requires
+put-pareto-requires c κs =
+    let s = start (c .before .before .before) in
+    subst (λ (l : List Float). length l ≤ length (s .args .rest .now)) (pareto-is (c .before)) (s .pre)
+
+same-length : tie.Need-same-length
+same-length c = search needs
+
+returns : tie.Need-returns
+returns c =
+    let p = c .before .before in
+    let e = weibull-is (p .before .before) in
+    let b = start (p .before .before .before .before) .args .rest .now in
+    (p .put-weibull .ensures .0 ∙ ap length (sym e), p .put-weibull .ensures .1 ∙ ap (λ (l : List Float). over l b) (sym e))
+
+same-length-2 : tie.Need-same-length-2
+same-length-2 c = search needs
+
+returns-2 : tie.Need-returns-2
+returns-2 c =
+    let p = c .before .before in
+    let e = pareto-is (p .before .before) in
+    let b = start (p .before .before .before .before) .args .rest .now in
+    (p .put-pareto .ensures .0 ∙ ap length (sym e), p .put-pareto .ensures .1 ∙ ap (λ (l : List Float). over l b) (sym e))
+
+pub write-plain-spec : {M : Type 1} → statement M
+write-plain-spec =
+    tie.close
+    (tie.spec
+    dispersion-start-requires
+    ln-requires
+    logit-requires
+    ln-requires-2
+    ratio-start-requires
+    enum-told
+    put-weibull-requires
+    enum-told-2
+    put-pareto-requires
+    same-length
+    returns
+    same-length-2
+    returns-2)

@@ -1,0 +1,50 @@
+-- `fitter::start_writers::write_row` meets its contract. Assumes nothing.
+use Rattle.fitter.specs.Starts.{rowStarts}
+use borrow.Author.Needs.{needs}
+use Rattle.fitter.proofs.start_writers.write_row.Statement.{statement}
+use Rattle.fitter.proofs.start_writers.write_row.Tie as tie
+
+enum-told : tie.Need-enum-told
+enum-told c = search needs
+
+write-plain-requires : tie.Need-write-plain-requires
+unfolding rowStarts
+write-plain-requires c κs = rw (c .before .enum-told .given .1) at (c .before .before .before .before .before .pre)
+
+enum-told-2 : tie.Need-enum-told-2
+enum-told-2 c = search needs
+
+write-shapes-requires : tie.Need-write-shapes-requires
+unfolding rowStarts
+write-shapes-requires c κs = rw (c .before .enum-told2 .given .1) at (c .before .before .before .before .before .pre)
+
+same-length : tie.Need-same-length
+same-length c = search needs
+
+returns : tie.Need-returns
+unfolding rowStarts
+returns c =
+    let p = c .before .before in
+    rw (p .before .before .enum-told .given .1) (p .write-plain .ensures)
+
+same-length-2 : tie.Need-same-length-2
+same-length-2 c = search needs
+
+returns-2 : tie.Need-returns-2
+unfolding rowStarts
+returns-2 c =
+    let p = c .before .before in
+    rw (p .before .before .enum-told2 .given .1) (p .write-shapes .ensures)
+
+pub write-row-spec : {M : Type 1} → statement M
+write-row-spec =
+    tie.close
+    (tie.spec
+    enum-told
+    write-plain-requires
+    enum-told-2
+    write-shapes-requires
+    same-length
+    returns
+    same-length-2
+    returns-2)

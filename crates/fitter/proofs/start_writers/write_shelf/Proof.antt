@@ -1,0 +1,69 @@
+-- `fitter::start_writers::write_shelf` meets its contract. Assumes nothing.
+use mathlib.Core.Path.{_≡_, _∙_, ap}
+use mathlib.Core.List.{List, [], _∷_}
+use lib.Ieee.{Float, round, ofBits}
+use lib.ListN.{length}
+use Rattle.meaning.specs.Over.{over}
+use Rattle.fitter.specs.Starts.{shelfList}
+use Rattle.fitter.proofs.Parts.{shelf-part}
+use borrow.Author.Needs.{needs}
+use Rattle.fitter.proofs.start_writers.write_shelf.Statement.{statement}
+use Rattle.fitter.proofs.start_writers.write_shelf.Tie as tie
+
+abbrev second : tie.After-logit3 → tie.After-logit2
+second c = c .before .before .before .before
+
+abbrev first : tie.After-logit3 → tie.After-logit
+first c = second c .before .before
+
+abbrev start : tie.After-logit3 → tie.Start
+start c = first c .before .before .before
+
+-- what is put is the shelf's part
+list-is : (c : tie.After-logit3)
+    → first c .logit .result ∷ second c .logit2 .result ∷ c .logit3 .result ∷ []
+    ≡ shelfList (start c .args .share) (start c .args .shape)
+unfolding round ofBits
+list-is c =
+    let a = start c .args in
+    shelf-part (a .share) (a .shape) (first c .before .shelf-concentration-bounds .result) _ _ _
+    (first c .before .shelf-concentration-bounds .ensures) (first c .logit .ensures) (second c .logit2 .ensures) (c .logit3 .ensures)
+
+shelf-concentration-bounds-requires : tie.Need-shelf-concentration-bounds-requires
+shelf-concentration-bounds-requires c κs = search needs
+
+logit-requires : tie.Need-logit-requires
+logit-requires c κs = search needs
+
+logit-requires-2 : tie.Need-logit-requires-2
+logit-requires-2 c κs = search needs
+
+logit-requires-3 : tie.Need-logit-requires-3
+logit-requires-3 c κs = search needs
+
+put-shelf-requires : tie.Need-put-shelf-requires
+unfolding shelfList
+put-shelf-requires c κs = start (c .before) .pre
+
+same-length : tie.Need-same-length
+same-length c = search needs
+
+returns : tie.Need-returns
+returns c =
+    let p = c .before .before in
+    let q = p .before .before in (
+      p .put-shelf .ensures .0 ∙ ap length (list-is q),
+      p .put-shelf .ensures .1 ∙ ap (λ (l : List Float). over l (start q .args .rest .now)) (list-is q),
+    )
+
+pub write-shelf-spec : {M : Type 1} → statement M
+write-shelf-spec =
+    tie.close
+    (tie.spec
+    shelf-concentration-bounds-requires
+    logit-requires
+    logit-requires-2
+    logit-requires-3
+    put-shelf-requires
+    same-length
+    returns)

@@ -1,0 +1,64 @@
+-- `fitter::starts::fit_starts` meets its contract. Assumes nothing.
+use Prim.Native.Nat.{ℕ}
+use mathlib.Core.Path.{_≡_, ap, _∙_}
+use mathlib.Core.List.{List}
+use lib.Ieee.{Float}
+use lib.ListN.{length}
+use Rattle.meaning.specs.Lent.{counted, laid}
+use Rattle.meaning.specs.Reply.{Reply}
+use Rattle.routines.specs.Starts.{paretoStarts, weibullStarts}
+use Rattle.models.specs.declared.families.ErrorModel.{ErrorModel}
+use Rattle.models.specs.declared.families.GenomeModel.{GenomeModel}
+use Rattle.fitter.specs.Starts.{startsOf}
+use borrow.Author.Needs.{needs}
+use Rattle.fitter.proofs.starts.fit_starts.Statement.{statement}
+use Rattle.fitter.proofs.starts.fit_starts.Tie as tie
+
+-- the same tables have the same starts
+fixed : (error : ErrorModel) (genome : GenomeModel) (p w seeds : List Float) (hint share : Float) (shapes : List Float) (room : ℕ)
+    → p ≡ paretoStarts → w ≡ weibullStarts
+    → startsOf error genome p w seeds hint share shapes room
+    ≡ startsOf error genome paretoStarts weibullStarts seeds hint share shapes room
+fixed error genome p w seeds hint share shapes room ep ew = rw (ep, ew)
+
+pareto-starts-requires : tie.Need-pareto-starts-requires
+pareto-starts-requires c κs = search needs
+
+weibull-starts-requires : tie.Need-weibull-starts-requires
+weibull-starts-requires c κs = search needs
+
+slice-aggregate-fit-starts-lent : tie.Need-slice-aggregate-fit-starts-lent
+slice-aggregate-fit-starts-lent c = search needs
+
+slice-aggregate-fit-starts-lent-2 : tie.Need-slice-aggregate-fit-starts-lent-2
+slice-aggregate-fit-starts-lent-2 c = search needs
+
+fit-starts-lent-requires : tie.Need-fit-starts-lent-requires
+fit-starts-lent-requires c κs = search needs
+
+same-length : tie.Need-same-length
+same-length c = search needs
+
+returns : tie.Need-returns
+returns c =
+    let k = c .before .before in
+    let w = k .before .before .before .before in
+    let p = w .before in
+    let a = p .before .before .before .before .args in
+    let e = fixed (a .error) (a .genome) (p .pareto-starts .result) (w .weibull-starts .result) (a .seeds .now) (a .hint) (a .share)
+    (a .shapes .now) (length (a .out .now)) (p .pareto-starts .ensures) (w .weibull-starts .ensures) in (
+      k .fit-starts-lent .ensures .0 ∙ ap (λ (r : Reply (List Float)). counted r) e,
+      k .fit-starts-lent .ensures .1 ∙ ap (λ (r : Reply (List Float)). laid r (a .out .now)) e,
+    )
+
+pub fit-starts-spec : {M : Type 1} → statement M
+fit-starts-spec =
+    tie.close
+    (tie.spec
+    pareto-starts-requires
+    weibull-starts-requires
+    slice-aggregate-fit-starts-lent
+    slice-aggregate-fit-starts-lent-2
+    fit-starts-lent-requires
+    same-length
+    returns)

@@ -1,0 +1,55 @@
+-- `fitter::starts::start_table` meets its contract. Assumes nothing.
+use mathlib.Core.Path.{refl, sym, _∙_}
+use native.Mathlib.Omega.{arith}
+use borrow.Author.Needs.{needs}
+use Rattle.fitter.proofs.starts.start_table.Statement.{statement}
+use Rattle.fitter.proofs.starts.start_table.Tie as tie
+
+start-tables-refusal-requires : tie.Need-start-tables-refusal-requires
+start-tables-refusal-requires c κs = search needs
+
+sub-result : tie.Need-sub-result
+sub-result c = search needs
+
+part-result-start : tie.Need-part-result-start
+part-result-start c = search needs
+
+part-result-end : tie.Need-part-result-end
+part-result-end c = search needs
+
+returns : tie.Need-returns
+returns c =
+    let r = c .before .before in
+    (λ e. absurd (c .before .if1 .taken (r .start-tables-refusal .ensures ∙ sym e)), λ e. refl)
+
+enum-told : tie.Need-enum-told
+enum-told c = search needs
+
+enum-told-2 : tie.Need-enum-told-2
+enum-told-2 c = search needs
+
+returns-2 : tie.Need-returns-2
+returns-2 c =
+    let l = c .before .before in
+    let n = l .before .start-tables-refusal .ensures in
+    (λ e. rw (c .enum-told .given .1), λ e. absurd (omega (arith, n, e, l .if1 .left)))
+
+returns-3 : tie.Need-returns-3
+returns-3 c =
+    let l = c .before .before in
+    let n = l .before .start-tables-refusal .ensures in
+    (λ e. rw (c .enum-told2 .given .1), λ e. absurd (omega (arith, n, e, l .if1 .left)))
+
+pub start-table-spec : {M : Type 1} → statement M
+start-table-spec =
+    tie.close
+    (tie.spec
+    start-tables-refusal-requires
+    sub-result
+    part-result-start
+    part-result-end
+    returns
+    enum-told
+    enum-told-2
+    returns-2
+    returns-3)

@@ -1,0 +1,22 @@
+-- The two lent tables of error starts: rows of tail exponent, singleton probability and shape. Definitions only.
+-- Assumes nothing.
+use Prim.Native.Nat.{ℕ, _%_}
+use mathlib.Core.Bool.{Bool, not, _||_}
+use mathlib.Core.List.{List, [], _∷_}
+use lib.Dec.{eqb}
+use Rattle.meaning.specs.Reply.{Test, test}
+use Rattle.models.specs.declared.families.ErrorModel.{ErrorModel}
+use Rattle.models.specs.declared.families.ErrorModel.the-variants.{FreeSingletonWeibull, SingletonPareto}
+
+-- the one of the two that belongs to the family
+abbrev pub tableOf : {T : Type 0} → ErrorModel → T → T → T
+tableOf FreeSingletonWeibull pareto weibull = weibull
+tableOf SingletonPareto pareto weibull = pareto
+
+-- n numbers are not one or more rows of three
+abbrev pub notRows : ℕ → Bool
+notRows n = eqb n 0 || not (eqb (n % 3) 0)
+
+-- 7: one of the two is of the wrong length, whichever family is asked
+abbrev pub wrongTables : ℕ → ℕ → List Test
+wrongTables pareto weibull = test (notRows pareto) 7 ∷ test (notRows weibull) 7 ∷ []
