@@ -23,3 +23,4 @@ pub mod RunningSum
 pub mod Sums
 pub mod Levels
 pub mod Zeros
+pub mod Logarithms

@@ -22,7 +22,7 @@ or-first : (a b : Bool) → a ≡ true → (a || b) ≡ true
 or-first true b h = refl
 or-first false b h = absurd (false≢true h)
 
-or-split : (a b : Bool) → (a || b) ≡ true → (a ≡ true) ⊎ (b ≡ true)
+pub or-split : (a b : Bool) → (a || b) ≡ true → (a ≡ true) ⊎ (b ≡ true)
 or-split true b h = inl refl
 or-split false b h = inr h
 

@@ -11,7 +11,7 @@ use Rattle.routines.specs.Exp.{expOf, tee, scaledUp, scaledBy, reduced, 
 use Rattle.routines.specs.Ln.{lnOf, lnCore, lnTail, besideZero}
 use Rattle.routines.specs.Expm1.{expm1Of, teeM, farOut}
 use Rattle.routines.specs.Whole.{floorOf}
-use Rattle.routines.specs.Lgamma.{lgammaOf, aboveZero, belowZero, stirlingOf}
+use Rattle.routines.specs.Lgamma.{lgammaOf, aboveZero, belowZero, stirlingWith}
 
 -- ---- exp
 pub exp-zero : (s : Bool) → expOf (zeroWith s) ≡ one
@@ -77,10 +77,10 @@ unfolding lgammaOf aboveZero ofBits lt le eq
 lgamma-two = refl
 
 pub lgamma-inf : (s : Bool) → lgammaOf (inf s) ≡ inf false
-unfolding lgammaOf aboveZero belowZero floorOf stirlingOf lnOf ofBits neg add sub mul div lt le eq
+unfolding lgammaOf aboveZero belowZero floorOf stirlingWith lnOf ofBits neg add sub mul div lt le eq
 lgamma-inf true = refl
 lgamma-inf false = refl
 
 pub lgamma-nan : lgammaOf nan ≡ nan
-unfolding lgammaOf aboveZero stirlingOf lnOf ofBits neg add sub mul div lt le eq
+unfolding lgammaOf aboveZero stirlingWith lnOf ofBits neg add sub mul div lt le eq
 lgamma-nan = refl

@@ -40,13 +40,17 @@ S6 = ofBits binary64 0x3f66624ee188cfaf
 abbrev pub STIRLING-CONSTANT : Float
 STIRLING-CONSTANT = ofBits binary64 0x3fdacfe390c97d69
 
--- ln Gamma(x) from 4 on
-unfoldable pub stirlingOf : Float → Float
-stirlingOf x =
+-- ln Gamma(x) from 4 on, from x and its logarithm
+unfoldable pub stirlingWith : Float → Float → Float
+stirlingWith x log =
     let i = one ⊘ x in
     let z = i ⊗ i in
-    let s = S0 ⊖ z ⊗ (S1 ⊖ z ⊗ (S2 ⊖ z ⊗ (S3 ⊖ z ⊗ (S4 ⊖ z ⊗ (S5 ⊖ z ⊗ S6))))) in
-    (x ⊖ half) ⊗ (lnOf x ⊖ one) ⊕ (STIRLING-CONSTANT ⊕ i ⊗ s)
+    let y = z ⊗ z in
+    let s = (S0 ⊖ z ⊗ S1) ⊕ y ⊗ ((S2 ⊖ z ⊗ S3) ⊕ y ⊗ ((S4 ⊖ z ⊗ S5) ⊕ y ⊗ S6)) in
+    (x ⊖ half) ⊗ (log ⊖ one) ⊕ (STIRLING-CONSTANT ⊕ i ⊗ s)
+
+abbrev pub stirlingOf : Float → Float
+stirlingOf x = stirlingWith x (lnOf x)
 
 -- four steps up: x (x + 1) (x + 2) (x + 3) is q (q + 2)
 unfoldable pub fourUp : Float → Float

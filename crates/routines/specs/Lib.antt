@@ -9,6 +9,7 @@ pub mod LnTable
 pub mod Ln
 pub mod Expm1
 pub mod Lgamma
+pub mod Hoists
 pub mod Signs
 pub mod Units
 pub mod Ops

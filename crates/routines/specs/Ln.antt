@@ -72,9 +72,12 @@ H i = logOf i .0
 abbrev pub L : ℕ → Float
 L i = logOf i .1
 
--- ln(1 + r) - r
-unfoldable pub lnTail : Float → Float
-lnTail r = (r ⊗ r) ⊗ (r ⊗ (B1 ⊕ r ⊗ (r ⊗ (B3 ⊕ r ⊗ (r ⊗ B5 ⊖ B4)) ⊖ B2)) ⊖ half)
+-- ln(1 + r) - r in two parts, from t = r r: the square and the cube, without their sign, and the rest
+abbrev pub lnHead : Float → Float → Float
+lnHead r t = t ⊗ (half ⊖ r ⊗ B1)
+
+unfoldable pub lnTail : Float → Float → Float
+lnTail r t = (t ⊗ t) ⊗ ((r ⊗ B3 ⊖ B2) ⊖ t ⊗ (B4 ⊖ r ⊗ B5))
 
 -- steps 3 to 8: v. The pattern 0x3fe6b00000000000 is z's least value, 0.708984375, and 0x4330000000000000 is 2 ^ 52
 unfoldable pub lnCore : Float → ℕ → Float
@@ -88,7 +91,8 @@ lnCore w offset =
     let high = k ⊗ LN2-HIGH ⊕ H i in
     let sum = high ⊕ r in
     let rest = (high ⊖ sum) ⊕ r in
-    sum ⊕ (((rest ⊕ L i) ⊕ k ⊗ LN2-LOW) ⊕ lnTail r)
+    let t = r ⊗ r in
+    sum ⊕ ((rest ⊕ ((L i ⊕ k ⊗ LN2-LOW) ⊖ lnHead r t)) ⊕ lnTail r t)
 
 -- step 9: v where v x is above it, and otherwise +0
 unfoldable pub besideZero : Float → Float → Float

@@ -1,7 +1,7 @@
 // lgamma, in the steps of docs/ROUTINES.md and under its names: Stirling's series from 4 on; below, four steps up and a
 // logarithm off; below 0, the reflection without a sine: Gamma(f) Gamma(1-f) over Gamma(1+a).
 ghost use mathlib.Core.Path.{_≡_};
-ghost use Rattle.routines.specs.Lgamma.{lgammaOf, stirlingOf, aboveZero, belowZero};
+ghost use Rattle.routines.specs.Lgamma.{lgammaOf, stirlingWith, aboveZero, belowZero};
 use crate::ln::ln;
 use crate::whole::floor;
 
@@ -23,14 +23,15 @@ const S6: f64 = 0.0027324238438044194;
 // ln(2 pi)/2 - 1/2.
 const STIRLING_CONSTANT: f64 = 0.4189385332046727;
 
-// ln Gamma(x) for x from 4 on.
-fn stirling(x: f64) -> f64
-    ensures { λ r. ⌜ r ≡ stirlingOf x ⌝ }
+// ln Gamma(x) for x from 4 on, from x and its logarithm.
+pub(crate) fn stirling(x: f64, log: f64) -> f64
+    ensures { λ r. ⌜ r ≡ stirlingWith x log ⌝ }
 {
     let i = 1.0 / x;
     let z = i * i;
-    let s = S0 - z * (S1 - z * (S2 - z * (S3 - z * (S4 - z * (S5 - z * S6)))));
-    (x - 0.5) * (ln(x) - 1.0) + (STIRLING_CONSTANT + i * s)
+    let y = z * z;
+    let s = (S0 - z * S1) + y * ((S2 - z * S3) + y * ((S4 - z * S5) + y * S6));
+    (x - 0.5) * (log - 1.0) + (STIRLING_CONSTANT + i * s)
 }
 
 // ln Gamma(x) for x above 0; a NaN and +inf go through.
@@ -45,9 +46,9 @@ fn above_zero(x: f64) -> f64
             return 0.0;
         }
         let q = x * (x + 3.0);
-        return stirling(x + 4.0) - ln(q * (q + 2.0));
+        return stirling(x + 4.0, ln(x + 4.0)) - ln(q * (q + 2.0));
     }
-    stirling(x)
+    stirling(x, ln(x))
 }
 
 // Steps 2 to 4: ln |Gamma(x)| for x at or below 0.

@@ -4,6 +4,7 @@ pub mod casts;
 pub mod exp;
 pub mod expm1;
 pub mod held;
+pub mod hoists;
 pub mod lgamma;
 pub mod ln;
 pub mod ln_table;

@@ -43,16 +43,18 @@ const B4: f64 = 0.16667155552646487;
 
 const B5: f64 = 0.14286322620881653;
 
-// ln(1 + r) - r for |r| below 1/200.
-fn tail(r: f64) -> f64
-    ensures { λ v. ⌜ v ≡ lnTail r ⌝ }
+// The fourth power and up of ln(1 + r) for |r| below 1/200, from t = r * r.
+fn tail(r: f64, t: f64) -> f64
+    ensures { λ v. ⌜ v ≡ lnTail r t ⌝ }
 {
-    (r * r) * (r * (B1 + r * (r * (B3 + r * (r * B5 - B4)) - B2)) - 0.5)
+    (t * t) * ((r * B3 - B2) - t * (B4 - r * B5))
 }
 
 // Steps 3 to 8: ln w from a normal w and the offset that goes with it. The piece has C[i] and B[i], and the log H[i]
 // and
-// L[i]; 0x10_0000_0000_0000 is 2^52, and 0x2000_0000_0000 is 2^45.
+// L[i]; 0x10_0000_0000_0000 is 2^52, and 0x2000_0000_0000 is 2^45. The signs in the last step keep LLVM from packing
+// its
+// terms in pairs, which is slower.
 fn core(w: f64, offset: u64) -> f64
     requires { ⌜ T (not (isNan w)) ⌝ ∗ ⌜ offset ≤ OFFSET ⌝ }
     ensures { λ r. ⌜ r ≡ lnCore w offset ⌝ }
@@ -67,7 +69,8 @@ fn core(w: f64, offset: u64) -> f64
     let high = k * LN2_HIGH + log.0;
     let sum = high + r;
     let rest = (high - sum) + r;
-    sum + (((rest + log.1) + k * LN2_LOW) + tail(r))
+    let t = r * r;
+    sum + ((rest + ((log.1 + k * LN2_LOW) - t * (0.5 - r * B1))) + tail(r, t))
 }
 
 // Step 9: v where v * x is above it, so that v lies on the side of 0 where ln x lies, and otherwise +0. 1 is the

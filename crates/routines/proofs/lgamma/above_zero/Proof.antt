@@ -13,25 +13,32 @@ returns-2 : tie.Need-returns-2
 unfolding aboveZero
 returns-2 c = rw (c .before .before .if1 .taken, c .before .if2 .left, c .if3 .taken)
 
+ln-requires : tie.Need-ln-requires
+ln-requires c κs = search needs
+
 stirling-requires : tie.Need-stirling-requires
 stirling-requires c κs = search needs
 
-ln-requires : tie.Need-ln-requires
-ln-requires c κs = search needs
+ln-requires-2 : tie.Need-ln-requires-2
+ln-requires-2 c κs = search needs
 
 returns-3 : tie.Need-returns-3
 unfolding aboveZero fourUp
 returns-3 c =
-    let test = c .before .before in
+    let up = c .before in
+    let test = up .before .before in
     rw (test .before .before .if1 .taken, test .before .if2 .left, test .if3 .left)
-    (rw (c .before .stirling .ensures, c .ln .ensures))
+    (rw (up .stirling .ensures, up .before .ln .ensures, c .ln2 .ensures))
+
+ln-requires-3 : tie.Need-ln-requires-3
+ln-requires-3 c κs = search needs
 
 stirling-requires-2 : tie.Need-stirling-requires-2
 stirling-requires-2 c κs = search needs
 
 returns-4 : tie.Need-returns-4
 unfolding aboveZero
-returns-4 c = rw (c .before .if1 .left) (c .stirling2 .ensures)
+returns-4 c = rw (c .before .before .if1 .left) (rw (c .stirling2 .ensures, c .before .ln3 .ensures))
 
 pub above-zero-spec : {M : Type 1} → statement M
 above-zero-spec =
@@ -39,8 +46,10 @@ above-zero-spec =
     (tie.spec
     returns
     returns-2
-    stirling-requires
     ln-requires
+    stirling-requires
+    ln-requires-2
     returns-3
+    ln-requires-3
     stirling-requires-2
     returns-4)
