@@ -2,10 +2,17 @@
  * Fogatise for C and Rust: the static library that `rt staticlib exports` writes. Link it alone: it has the four routines too.
  *
  * Every function ends and answers for every argument, NaN and infinities included. None keeps a pointer, allocates, or reads or writes
- * anything but its arguments. The processor is assumed to round to nearest, with gradual underflow, as it does when a program starts.
+ * anything but its arguments, so any of them may be called from several threads at once.
  *
- * A table, a list and the bins are a pointer and the number of entries. The pointer is never null, even to no entries, and what one call is
- * lent does not overlap. A NaN that comes back may have any sign and payload.
+ * The library is for x86-64. The processor is assumed to be as it is when a program starts: it rounds to nearest, underflow is gradual, and
+ * floating-point exceptions are masked. Infinities and NaNs are ordinary values here, so feenableexcept would end a program in the middle
+ * of a cost; -ffast-math, and linking with it, switches gradual underflow off and changes answers.
+ *
+ * A table, a list and the bins are a pointer and the number of entries. The pointer is never null, even where there are no entries or the
+ * call reads none, it is aligned as C aligns the type, and what one call is lent does not overlap. A NaN that comes back may have any sign
+ * and payload.
+ *
+ * docs/GLOSSARY.md says what valley, peak, shelf, window end and scale are.
  */
 #ifndef FOGATISE_H
 #define FOGATISE_H
@@ -83,8 +90,8 @@ typedef struct {
 } fog_errors;
 
 /*
- * A fit. The three weights are those inside the window, 1 to fit_window_end; k-mers, totals and observed_total are at library scale. Arrays
- * go error, single-copy, repeat. What is not there is 0 beside its presence. Whether there is a shape or a shelf is said by its presence
+ * A fit. The three weights are those inside the window, 1 to fit_window_end; k-mers, totals and observed_total are distinct k-mers of the
+ * library (the sample's times the scale); log_likelihood, bic and deviance are of the sample. Arrays go error, single-copy, repeat. What is not there is 0 beside its presence. Whether there is a shape or a shelf is said by its presence
  * alone, never by a family.
  */
 typedef struct {
@@ -154,7 +161,8 @@ double fog_ln_single_copy(double count, double mean, double dispersion, uint8_t 
 
 /*
  * The same from the lobe's log density, with the shelf read from its table at the count cut to a whole number: entry 0 for a NaN or a
- * count below 0, and -inf behind the table's end. Without a shelf it answers `lobe`.
+ * count below 0, and -inf behind the table's end. So lend exactly the entries that fog_shelf_log_table wrote, and not the room behind them.
+ * Without a shelf it answers `lobe`.
  */
 double fog_mix_single_copy(double lobe, double count, uint8_t present, fog_shelf shelf, const double *table, size_t length);
 
@@ -187,7 +195,22 @@ fog_number fog_single_copy_log_mass(double mean, double dispersion, uint8_t pres
  */
 fog_written fog_shelf_log_table(double mean, fog_shelf shelf, size_t top, double *table, size_t length);
 
-/* ---- parameter lists */
+/* ---- parameter lists
+ *
+ * A list, theta, is what a search moves: any numbers, of which each stands for a parameter in its range. S(v) is 1 / (1 + e^-v), which
+ * lies between 0 and 1. n is fog_parameter_count: 7 for Weibull, 6 for Pareto.
+ *
+ *   theta[0], theta[1]  the weights: 1 : e^theta[0] : e^theta[1] is errors : single copies : repeats inside the window
+ *   theta[2]            the single-copy lobe's mode: peak * (0.75 + 0.58 * S(theta[2]))
+ *   theta[3]            the dispersion of both lobes: 1 + e^theta[3]; the single-copy mean is mode + dispersion - 1
+ *   theta[4]            the tail exponent of the errors: e^theta[4]
+ *   theta[5]            the probability of count 1 among the errors: S(theta[5])
+ *   theta[6]            Weibull alone: the tail's shape, e^theta[6]
+ *   theta[n]            the repeats' mean over the single-copy mean: 1.5 + 0.5 * S(theta[n])
+ *   theta[n + 1]        with a shelf: its share of the single-copy k-mers, 0.5 * S(theta[n + 1])
+ *   theta[n + 2]        with a shelf: the mean part of coverage that its k-mers keep, m = 0.3 + 0.7 * S(theta[n + 2])
+ *   theta[n + 3]        with a shelf: a + b = 1/m + (20 - 1/m) * S(theta[n + 3]); then a = m * (a + b) and b = (1 - m) * (a + b)
+ */
 
 /* The list's entries before the genome family's own: 7 for Weibull, 6 for Pareto. */
 size_t fog_parameter_count(uint8_t error);
@@ -201,10 +224,12 @@ size_t fog_list_length(uint8_t error, uint8_t genome);
 /* ---- cost and fit: bin i holds count i + 1 */
 
 /*
- * The negative log-likelihood of the counts 1 to window_end at the parameters of a list, and +inf for what the model can't use. A bin is
- * divided by the scale and rounded with halves away from zero; a scale that is not finite or is below 1 becomes 1. With a shelf family
- * `table` needs window_end + 1 entries: the shelf table is built there, and stays there, unless the cost is +inf for the parameters alone.
- * Refusals 1, 2, 4, 5, 6, 7 and 10.
+ * The negative log-likelihood of the counts 1 to window_end at the parameters of a list, and +inf for what the model can't use. It is of
+ * the sample: a bin is divided by the scale, how many k-mers of the library each one stands for, and rounded with halves away from zero; a
+ * scale that is not finite or is below 1 becomes 1. The peak is the count of the spectrum's single-copy peak, around which theta[2] moves
+ * the mode. With a shelf family `table` needs window_end + 1 entries: the shelf table, min(trials, window_end) + 1 entries, is built in
+ * front, and stays there, unless the cost is +inf for the parameters alone; what lies behind stays as it was. Refusals 1, 2, 4, 5, 6, 7
+ * and 10.
  */
 fog_number fog_cost(const uint32_t *bins, size_t bins_length, double scale, size_t window_end, size_t peak, uint8_t error, uint8_t genome,
                     const double *theta, size_t theta_length, double *table, size_t table_length);
@@ -219,7 +244,7 @@ fog_fit_answer fog_unpack(const uint32_t *bins, size_t bins_length, double scale
 
 /* ---- what is read off a fit */
 
-/* How high each component stands at a count inside the window. Refusal 2. At count 0 the error's height is a NaN. */
+/* How many distinct k-mers of the library the fit expects of each component at a count. Refusal 2. At count 0 the error's is a NaN. */
 fog_heights fog_component_heights(fog_fit fit, size_t count);
 
 /* The count in the window where the error component is highest, the later of equals. Refusals 2, 5 and 8. */
