@@ -52,7 +52,7 @@ pub zero-fits : T (fits binary64 nought)
 unfolding ofBits fits
 zero-fits = tt
 
-one-fits : T (fits binary64 one)
+pub one-fits : T (fits binary64 one)
 unfolding ofBits fits
 one-fits = tt
 
