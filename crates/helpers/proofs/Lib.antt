@@ -4,4 +4,5 @@ pub mod Tables
 pub mod Recurrences
 pub mod Corners
 pub mod LogLaws
+pub mod Weights
 pub mod Says

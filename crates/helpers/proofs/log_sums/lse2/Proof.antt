@@ -1,5 +1,6 @@
 -- `helpers::log_sums::lse2` meets its contract. Assumes nothing.
-use mathlib.Core.Path.{sym, _∙_}
+use mathlib.Core.Path.{sym, ap, _∙_}
+use lib.Ieee.Scale.{finite}
 use Rattle.helpers.specs.LogSums.{lse2Of}
 use borrow.Author.Needs.{needs}
 use Rattle.helpers.proofs.log_sums.lse2.Statement.{statement}
@@ -11,22 +12,21 @@ max-requires c κs = search needs
 is-finite-requires : tie.Need-is-finite-requires
 is-finite-requires c κs = search needs
 
-weight-requires : tie.Need-weight-requires
-weight-requires c κs = search needs
+weights-requires : tie.Need-weights-requires
+weights-requires c κs =
+    let most = c .before .before .max .ensures in
+    sym (ap finite most) ∙ sym (c .before .is-finite .ensures) ∙ c .if1 .taken
 
-weight-requires-2 : tie.Need-weight-requires-2
-weight-requires-2 c κs = search needs
-
-ln-requires : tie.Need-ln-requires
-ln-requires c κs = search needs
+with-log-requires : tie.Need-with-log-requires
+with-log-requires c κs = search needs
 
 returns : tie.Need-returns
 unfolding lse2Of
 returns c =
-    let test = c .before .before .before in
+    let test = c .before .before in
     let most = sym (test .before .before .max .ensures) in
     let known = sym (test .before .is-finite .ensures) ∙ test .if1 .taken in
-    rw (most, known) (rw (c .ln .ensures, c .before .weight2 .ensures, c .before .before .weight .ensures))
+    rw (most, known) (rw (c .with-log .ensures, c .before .weights .ensures, most))
 
 returns-2 : tie.Need-returns-2
 unfolding lse2Of
@@ -41,8 +41,7 @@ lse2-spec =
     (tie.spec
     max-requires
     is-finite-requires
-    weight-requires
-    weight-requires-2
-    ln-requires
+    weights-requires
+    with-log-requires
     returns
     returns-2)

@@ -1,6 +1,9 @@
 -- `helpers::log_sums::lse3` meets its contract. Assumes nothing.
-use mathlib.Core.Path.{sym, _∙_}
+use mathlib.Core.Path.{sym, ap, _∙_, subst}
+use lib.Ieee.Scale.{finite}
+use Rattle.routines.proofs.Levels.{exp-level}
 use Rattle.helpers.specs.LogSums.{lse3Of}
+use Rattle.helpers.proofs.Weights.{Least, max-of-two, weights-least}
 use borrow.Author.Needs.{needs}
 use Rattle.helpers.proofs.log_sums.lse3.Statement.{statement}
 use Rattle.helpers.proofs.log_sums.lse3.Tie as tie
@@ -14,36 +17,59 @@ max-requires-2 c κs = search needs
 is-finite-requires : tie.Need-is-finite-requires
 is-finite-requires c κs = search needs
 
-weight-requires : tie.Need-weight-requires
-weight-requires c κs = search needs
+beside-one-requires : tie.Need-beside-one-requires
+beside-one-requires c κs = search needs
 
-weight-requires-2 : tie.Need-weight-requires-2
-weight-requires-2 c κs = search needs
-
-weight-requires-3 : tie.Need-weight-requires-3
-weight-requires-3 c κs = search needs
-
-ln-requires : tie.Need-ln-requires
-ln-requires c κs = search needs
+with-log-requires : tie.Need-with-log-requires
+with-log-requires c κs = search needs
 
 returns : tie.Need-returns
 unfolding lse3Of
 returns c =
-    let test = c .before .before .before .before in
+    let level = c .before .before in
+    let test = level .before in
     let two = test .before .before in
-    let first = sym (two .before .max .ensures) in
-    let most = sym (two .max2 .ensures) in
     let known = sym (test .before .is-finite .ensures) ∙ test .if1 .taken in
-    rw (first, most, known) (rw (c .ln .ensures, c .before .weight3 .ensures, c .before .before .weight2 .ensures, c .before .before .before .weight .ensures))
+    let third = sym (exp-level _ _ (level .if2 .taken) known) in
+    rw (sym (two .before .max .ensures), sym (two .max2 .ensures), known, third)
+    (rw (c .with-log .ensures, c .before .beside-one .ensures))
+
+weights-requires : tie.Need-weights-requires
+weights-requires c κs =
+    let test = c .before in
+    let two = test .before .before in
+    let known = sym (test .before .is-finite .ensures) ∙ test .if1 .taken in
+    let same = max-of-two _ _ _ _ _ (two .before .max .ensures) (two .max2 .ensures) known (c .if2 .left) in
+    sym (ap finite same) ∙ known
+
+added-requires : tie.Need-added-requires
+added-requires c κs =
+    let test = c .before .before in
+    let two = test .before .before in
+    let known = sym (test .before .is-finite .ensures) ∙ test .if1 .taken in
+    let same = max-of-two _ _ _ _ _ (two .before .max .ensures) (two .max2 .ensures) known (c .before .if2 .left) in
+    subst Least (sym (c .weights .ensures)) (weights-least _ _ (sym (ap finite same) ∙ known))
+
+with-log-requires-2 : tie.Need-with-log-requires-2
+with-log-requires-2 c κs = search needs
 
 returns-2 : tie.Need-returns-2
 unfolding lse3Of
 returns-2 c =
+    let level = c .before .before .before in
+    let test = level .before in
+    let two = test .before .before in
+    let known = sym (test .before .is-finite .ensures) ∙ test .if1 .taken in
+    let same = max-of-two _ _ _ _ _ (two .before .max .ensures) (two .max2 .ensures) known (level .if2 .left) in
+    rw (sym (two .before .max .ensures), sym (two .max2 .ensures), known)
+    (rw (c .with-log2 .ensures, c .before .added .ensures, c .before .before .weights .ensures, sym same))
+
+returns-3 : tie.Need-returns-3
+unfolding lse3Of
+returns-3 c =
     let two = c .before .before in
-    let first = sym (two .before .max .ensures) in
-    let most = sym (two .max2 .ensures) in
     let known = sym (c .before .is-finite .ensures) ∙ c .if1 .left in
-    rw (first, most, known)
+    rw (sym (two .before .max .ensures), sym (two .max2 .ensures), known)
 
 pub lse3-spec : {M : Type 1} → statement M
 lse3-spec =
@@ -52,9 +78,11 @@ lse3-spec =
     max-requires
     max-requires-2
     is-finite-requires
-    weight-requires
-    weight-requires-2
-    weight-requires-3
-    ln-requires
+    beside-one-requires
+    with-log-requires
     returns
-    returns-2)
+    weights-requires
+    added-requires
+    with-log-requires-2
+    returns-2
+    returns-3)
