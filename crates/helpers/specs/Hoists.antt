@@ -22,10 +22,14 @@ abbrev pub poissonOf : Float → Lobe
 poissonOf mean =
     record { poisson = true; mean = mean; rate = lnOf mean; size = zero; gamma = zero; start = zero; slope = zero }
 
-abbrev pub binomialOf : Float → Float → Lobe
-binomialOf mean dispersion =
+-- with ln(p) and ln(1-p) at hand
+abbrev pub binomialWith : Float → Float → Float → Float → Lobe
+binomialWith mean dispersion logP logQ =
     let r = sizeOf mean dispersion in
-    record { poisson = false; mean = mean; rate = zero; size = r; gamma = lgammaOf r; start = r ⊗ neg (lnOf dispersion); slope = logQOf dispersion }
+    record { poisson = false; mean = mean; rate = zero; size = r; gamma = lgammaOf r; start = r ⊗ logP; slope = logQ }
+
+abbrev pub binomialOf : Float → Float → Lobe
+binomialOf mean dispersion = binomialWith mean dispersion (neg (lnOf dispersion)) (logQOf dispersion)
 
 unfoldable pub lobeOf : Float → Float → Lobe
 lobeOf mean dispersion = cond (le dispersion nearlyPoisson) (poissonOf mean) (binomialOf mean dispersion)
@@ -34,6 +38,12 @@ unfoldable pub densityOf : Lobe → Float → Float
 densityOf l x =
     cond (l .poisson) (x ⊗ l .rate ⊖ lgammaOf (x ⊕ one) ⊖ l .mean)
     (lgammaOf (x ⊕ l .size) ⊖ lgammaOf (x ⊕ one) ⊖ l .gamma ⊕ l .start ⊕ x ⊗ l .slope)
+
+-- with lgamma(x + 1) at hand: `densityOf l x` is `densityWith l x (lgammaOf (x ⊕ one))`
+unfoldable pub densityWith : Lobe → Float → Float → Float
+densityWith l x gamma =
+    cond (l .poisson) (x ⊗ l .rate ⊖ gamma ⊖ l .mean)
+    (lgammaOf (x ⊕ l .size) ⊖ gamma ⊖ l .gamma ⊕ l .start ⊕ x ⊗ l .slope)
 
 -- ---- the mixture, from the shelf's two logs
 abbrev pub shelfLogsOf : ShelfPart → ShelfLogs

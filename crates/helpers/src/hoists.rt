@@ -2,7 +2,7 @@
 // plain form.
 // Ported from src/preprocessing/math_helpers.rs of bacpop/sparrowhawk-asm, f1f8af1232, Apache-2.0; ported and changed.
 ghost use mathlib.Core.Path.{_≡_};
-ghost use Rattle.helpers.specs.Hoists.{lobeOf, densityOf, shelfLogsOf, mixEntryOf};
+ghost use Rattle.helpers.specs.Hoists.{poissonOf, binomialWith, lobeOf, densityOf, densityWith, shelfLogsOf, mixEntryOf};
 use crate::lobes::NEARLY_POISSON;
 use crate::log_sums::lse2;
 use crate::shelves::ShelfPart;
@@ -22,21 +22,25 @@ pub struct Lobe {
     pub slope: f64,
 }
 
-// The lobe with this mean and variance `dispersion` * mean: r = mean / (dispersion - 1), p = 1 / dispersion.
-pub fn lobe_of(mean: f64, dispersion: f64) -> Lobe
-    ensures { λ r. ⌜ r ≡ lobeOf mean dispersion ⌝ }
+// The lobe as a Poisson.
+pub(crate) fn poisson_lobe(mean: f64) -> Lobe
+    ensures { λ r. ⌜ r ≡ poissonOf mean ⌝ }
 {
-    if dispersion <= NEARLY_POISSON {
-        return Lobe {
-            poisson: true,
-            mean,
-            rate: ln(mean),
-            size: 0.0,
-            gamma: 0.0,
-            start: 0.0,
-            slope: 0.0,
-        };
+    Lobe {
+        poisson: true,
+        mean,
+        rate: ln(mean),
+        size: 0.0,
+        gamma: 0.0,
+        start: 0.0,
+        slope: 0.0,
     }
+}
+
+// The lobe as a negative binomial, with ln(p) and ln(1-p) at hand.
+pub(crate) fn binomial_lobe(mean: f64, dispersion: f64, log_p: f64, log_q: f64) -> Lobe
+    ensures { λ r. ⌜ r ≡ binomialWith mean dispersion «log_p» «log_q» ⌝ }
+{
     let r = mean / (dispersion - 1.0);
     Lobe {
         poisson: false,
@@ -44,19 +48,41 @@ pub fn lobe_of(mean: f64, dispersion: f64) -> Lobe
         rate: 0.0,
         size: r,
         gamma: lgamma(r),
-        start: r * -ln(dispersion),
-        slope: ln(1.0 - 1.0 / dispersion),
+        start: r * log_p,
+        slope: log_q,
     }
+}
+
+// The lobe with this mean and variance `dispersion` * mean: r = mean / (dispersion - 1), p = 1 / dispersion.
+pub fn lobe_of(mean: f64, dispersion: f64) -> Lobe
+    ensures { λ r. ⌜ r ≡ lobeOf mean dispersion ⌝ }
+{
+    if dispersion <= NEARLY_POISSON {
+        return poisson_lobe(mean);
+    }
+    binomial_lobe(
+        mean,
+        dispersion,
+        -ln(dispersion),
+        ln(1.0 - 1.0 / dispersion),
+    )
+}
+
+// The log density of a lobe at x, with lgamma(x + 1) at hand: it is the same for every lobe.
+pub fn density_with(lobe: Lobe, x: f64, gamma: f64) -> f64
+    ensures { λ r. ⌜ r ≡ densityWith lobe x gamma ⌝ }
+{
+    if lobe.poisson {
+        return x * lobe.rate - gamma - lobe.mean;
+    }
+    lgamma(x + lobe.size) - gamma - lobe.gamma + lobe.start + x * lobe.slope
 }
 
 // The log density of a lobe at x.
 pub fn density(lobe: Lobe, x: f64) -> f64
     ensures { λ r. ⌜ r ≡ densityOf lobe x ⌝ }
 {
-    if lobe.poisson {
-        return x * lobe.rate - lgamma(x + 1.0) - lobe.mean;
-    }
-    lgamma(x + lobe.size) - lgamma(x + 1.0) - lobe.gamma + lobe.start + x * lobe.slope
+    density_with(lobe, x, lgamma(x + 1.0))
 }
 
 // ln(1 - share) and ln(share), which do not change with the count; 0 and -inf where there is no shelf.

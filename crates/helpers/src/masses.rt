@@ -77,7 +77,7 @@ fn least(a: usize, b: usize) -> usize
 }
 
 // ln of the shelf's mass on 1 to `top`, as far as its table goes.
-fn log_shelf_mass(table: &[f64], top: u16) -> f64
+pub(crate) fn log_shelf_mass(table: &[f64], top: u16) -> f64
     ensures { λ r. ⌜ r ≡ shelfMassOf (now (table .entry)) top ⌝ }
 {
     let end = least(table.len(), (top as usize) + 1);

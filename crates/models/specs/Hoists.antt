@@ -1,11 +1,17 @@
 -- For speed alone: what does not change with the count, worked out before the likelihood's loop.
 -- Nothing here has to be held beside the Rust: `steady-point` in proofs/Points.antt shows that it changes no number.
 -- Definitions only. Assumes nothing.
+use lib.Ieee.{Float, neg}
 use Rattle.routines.specs.Ops.{_⊗_}
 use Rattle.helpers.specs.Hoists.{lobeOf, shelfLogsOf}
-use Rattle.models.specs.Errors.{lnTailOf}
+use Rattle.models.specs.Errors.{factorOf, lnTailOf}
+use Rattle.models.specs.declared.errors.ErrorParams.{ErrorParams}
 use Rattle.models.specs.declared.likelihoods.Steady.{Steady}
 use Rattle.models.specs.declared.params.Params.{Params}
+
+-- the tail's survival from a count, by ln(count - 1): `survivalOf p count` is `survivalWith p (lnOf (count ⊖ one))`
+unfoldable pub survivalWith : ErrorParams → Float → Float
+survivalWith p offset = neg (p .«tail_exponent») ⊗ offset ⊗ factorOf (p .«weibull_shape») offset
 
 abbrev pub steadyOf : Params → Steady
 steadyOf p = record {

@@ -3,6 +3,7 @@
 ghost use mathlib.Core.Path.{_≡_};
 ghost use Rattle.helpers.specs.Answers.{numberSays};
 ghost use Rattle.models.specs.Errors.{factorOf, survivalOf, lnTailOf, logProbabilityOf, logWindowMassTo, logWindowMassOf};
+ghost use Rattle.models.specs.Hoists.{survivalWith};
 use helpers::answers::Number;
 use helpers::log_sums::ln_sub_exp;
 use meaning::limits::MOST;
@@ -39,13 +40,19 @@ fn factor(shape: ShapePart, offset: f64) -> f64
 }
 
 impl ErrorParams {
+    // ln of the probability that an error k-mer of count 2 or more reaches a count, from ln(count - 1).
+    pub(crate) fn survival_with(self, log_offset: f64) -> f64
+        ensures { λ r. ⌜ r ≡ survivalWith self «log_offset» ⌝ }
+    {
+        let shape = self.weibull_shape;
+        -self.tail_exponent * log_offset * factor(shape, log_offset)
+    }
+
     // ln of the probability that an error k-mer of count 2 or more reaches `count`.
     fn log_survival_from_two(self, count: f64) -> f64
         ensures { λ r. ⌜ r ≡ survivalOf self count ⌝ }
     {
-        let shape = self.weibull_shape;
-        let log_offset = ln(count - 1.0);
-        -self.tail_exponent * log_offset * factor(shape, log_offset)
+        self.survival_with(ln(count - 1.0))
     }
 
     // ln of the probability of count 2 or more.

@@ -24,3 +24,4 @@ pub mod Sums
 pub mod Levels
 pub mod Zeros
 pub mod Logarithms
+pub mod Counts
