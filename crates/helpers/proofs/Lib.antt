@@ -1,5 +1,6 @@
 -- Laws of this layer, for its functions and for the crates above.
 pub mod Densities
+pub mod SingleCopies
 pub mod Tables
 pub mod Recurrences
 pub mod Corners

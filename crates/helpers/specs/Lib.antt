@@ -4,3 +4,4 @@ pub mod Answers
 pub mod Shelves
 pub mod Masses
 pub mod Hoists
+pub mod SingleCopies

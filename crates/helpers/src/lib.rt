@@ -5,3 +5,4 @@ pub mod lobes;
 pub mod log_sums;
 pub mod masses;
 pub mod shelves;
+pub mod single_copies;

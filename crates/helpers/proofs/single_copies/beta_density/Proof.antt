@@ -1,0 +1,32 @@
+-- `helpers::single_copies::beta_density` meets its contract. Assumes nothing.
+use lib.Ieee.{div, neg, ofBits}
+use Rattle.helpers.specs.SingleCopies.{betaDensityOf}
+use borrow.Author.Needs.{needs}
+use Rattle.helpers.proofs.single_copies.beta_density.Statement.{statement}
+use Rattle.helpers.proofs.single_copies.beta_density.Tie as tie
+
+returns : tie.Need-returns
+unfolding betaDensityOf div neg ofBits
+returns c = rw (c .if1 .taken)
+
+lgamma-requires : tie.Need-lgamma-requires
+lgamma-requires c κs = search needs
+
+lgamma-requires-2 : tie.Need-lgamma-requires-2
+lgamma-requires-2 c κs = search needs
+
+lgamma-requires-3 : tie.Need-lgamma-requires-3
+lgamma-requires-3 c κs = search needs
+
+returns-2 : tie.Need-returns-2
+unfolding betaDensityOf
+returns-2 c =
+    let third = c .before .before in
+    let second = third .before .before .before in
+    let first = second .before .before in
+    rw (first .before .before .before .if1 .left)
+    (rw (third .lgamma3 .ensures, second .lgamma2 .ensures, first .lgamma .ensures))
+
+pub beta-density-spec : {M : Type 1} → statement M
+beta-density-spec =
+    tie.close (tie.spec returns lgamma-requires lgamma-requires-2 lgamma-requires-3 returns-2)

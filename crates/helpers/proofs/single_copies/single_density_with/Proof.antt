@@ -1,0 +1,43 @@
+-- `helpers::single_copies::single_density_with` meets its contract. Assumes nothing.
+use Rattle.helpers.specs.SingleCopies.{singleDensityWith}
+use borrow.Author.Needs.{needs}
+use Rattle.helpers.proofs.single_copies.single_density_with.Statement.{statement}
+use Rattle.helpers.proofs.single_copies.single_density_with.Tie as tie
+
+density-with-requires : tie.Need-density-with-requires
+density-with-requires c κs = search needs
+
+enum-told : tie.Need-enum-told
+enum-told c = search needs
+
+enum-known-beta : tie.Need-enum-known-beta
+enum-known-beta c = search needs
+
+beta-density-requires : tie.Need-beta-density-requires
+beta-density-requires c κs = search needs
+
+lse2-requires : tie.Need-lse2-requires
+lse2-requires c κs = search needs
+
+returns : tie.Need-returns
+unfolding singleDensityWith
+returns c = rw (c .enum-told .given .1) (c .before .before .density-with .ensures)
+
+returns-2 : tie.Need-returns-2
+unfolding singleDensityWith
+returns-2 c =
+    let shelf = c .before .before in
+    let arm = shelf .before .before .before in
+    rw (arm .beta .given .1, c .lse2 .ensures, shelf .beta-density .ensures, arm .before .before .density-with .ensures)
+
+pub single-density-with-spec : {M : Type 1} → statement M
+single-density-with-spec =
+    tie.close
+    (tie.spec
+    density-with-requires
+    enum-told
+    enum-known-beta
+    beta-density-requires
+    lse2-requires
+    returns
+    returns-2)
