@@ -16,4 +16,5 @@ pub mod Hoists
 pub mod Costs
 pub mod Deviances
 pub mod Unpacking
+pub mod Cutoffs
 pub mod Claims

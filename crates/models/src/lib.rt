@@ -1,6 +1,7 @@
-// Layer 3: families, parameters, cost, fit, heights, modes.
+// Layer 3: families, parameters, cost, fit, heights, modes, cutoffs.
 // Ported from src/preprocessing/models.rs of bacpop/sparrowhawk-asm, f1f8af1232, Apache-2.0; ported and changed.
 pub mod costs;
+pub mod cutoffs;
 pub mod deviances;
 pub mod errors;
 pub mod families;
