@@ -64,6 +64,20 @@ typedef struct {
     double repeat;
 } fog_heights;
 
+/* The same of a cutoff: number 0 and the cutoff, which is 2 at least, or 0 for none. */
+typedef struct {
+    uint8_t number;
+    uint16_t cutoff;
+} fog_cutoff;
+
+/* The same cutoff, with walk 1 where the walk started, and sure 1 where the guarantee below holds of it; 0 otherwise. */
+typedef struct {
+    uint8_t number;
+    uint8_t walk;
+    uint8_t sure;
+    uint16_t cutoff;
+} fog_sure_cutoff;
+
 /* The families. Any number but 0 is the second. */
 enum { FOG_FREE_SINGLETON_WEIBULL = 0, FOG_SINGLETON_PARETO = 1 };
 enum { FOG_NEGATIVE_BINOMIAL = 0, FOG_SHELF_NEGATIVE_BINOMIAL = 1 };
@@ -259,6 +273,25 @@ double fog_mode_roundtrip_error(fog_fit fit);
 
 /* The components' totals over the spectrum's distinct k-mers. */
 double fog_component_total_ratio(fog_fit fit);
+
+/* ---- cutoffs */
+
+/*
+ * The hole cutoff: the largest cutoff that removes at most `budget` of the genome's k-mers by the fit, and 2 at least; none where every
+ * cutoff up to the mean removes at most that, and none without a walk where genome_kmers is 0 or less, the mean is not finite or is below
+ * 2, or the window end is below 2. What a cutoff removes is the sum of the single-copy probabilities below it; the budget over
+ * genome_kmers is the allowed share. At 2, the least cutoff, the removed part may exceed the budget. Refusals 2 and 5.
+ */
+fog_cutoff fog_hole_cutoff(fog_fit fit, double budget);
+
+/*
+ * The same cutoff, and whether it is sure. Where sure is 1 this is proved, in exact arithmetic on the probabilities: a cutoff of 3 or more
+ * removes at most the allowed share and one part in 2^36 of it; with any cutoff the sum up to and including it, enlarged by one part in
+ * 2^36, exceeds the allowed share; with none the sum below the ceiling (the smaller of the rounded mean and the window end) is at most
+ * that share and one part in 2^36 of it. It is sure exactly where the walk starts, the allowed share is finite, and each probability from
+ * count 0 to the ceiling lies between 0 and 2. Refusals 2 and 5.
+ */
+fog_sure_cutoff fog_hole_cutoff_sure(fog_fit fit, double budget);
 
 /* ---- the histogram file */
 

@@ -1,3 +1,4 @@
 pub mod Flat
 pub mod FlatFits
+pub mod FlatCutoffs
 pub mod FlatFile

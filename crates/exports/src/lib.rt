@@ -1,6 +1,7 @@
 // The C interface of what users call. include/fogatise.h says each function in C.
 pub mod answers;
 pub mod costs;
+pub mod cutoffs;
 pub mod densities;
 pub mod families;
 pub mod files;

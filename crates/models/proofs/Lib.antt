@@ -14,4 +14,10 @@ pub mod Ranks
 pub mod Beyond
 pub mod Highest
 pub mod Corners
+pub mod Walks
+pub mod Ceilings
+pub mod ExactSums
+pub mod Removed
+pub mod HoleCutoffs
+pub mod Cases
 pub mod Says

@@ -16,5 +16,7 @@ pub mod Hoists
 pub mod Costs
 pub mod Deviances
 pub mod Unpacking
+pub mod Walk
 pub mod Cutoffs
 pub mod Claims
+pub mod ClaimsCutoff

@@ -17,4 +17,5 @@ pub mod spectra;
 pub mod tables;
 pub mod unpacking;
 pub mod usable;
+pub mod walk;
 pub mod window_masses;

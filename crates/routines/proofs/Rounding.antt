@@ -1,6 +1,7 @@
 -- One rounding. A fraction rounded to a format is off by at most 1 / 2 ^ prec of it in the normal range, and by at most
 -- half of the format's smallest value, a unit, below that range.
--- So n units, rounded, are off by at most n / 2 ^ prec: below the normal range a whole number of units is exact.
+-- So n units, rounded, are off by at most n / 2 ^ prec, and by at most the result / 2 ^ prec: below the normal range a
+-- whole number of units is exact.
 -- Nothing here is about floats but the format's numbers. Assumes nothing.
 use mathlib.Core.Path.{_≡_, sym, ap, _∙_, subst}
 use mathlib.Core.Logic.{inl, inr}
@@ -16,7 +17,7 @@ use lib.Pow.{pow-add, pow-pos}
 use lib.Ieee.{Format, prec, low, size, nearest}
 use lib.Ieee.Digits.{size-reaches}
 use lib.Ieee.Fits.{two}
-use lib.Ieee.Nearest.{closest}
+use lib.Ieee.Nearest.{closest, nearest-ge}
 use lib.Ieee.Order.{drop}
 use lib.Ieee.Scale.{grid}
 use Rattle.routines.specs.Units.{Off}
@@ -87,9 +88,11 @@ module _ (f : Format) (a c : ℕ) (C : 0 < c) where
       ∙ mul-right-comm (closest N u) c (2 ^ k) in
       subst (λ (x : ℕ). Half x N u) e (closest-near N u (mul-pos C (pow-pos k)))
 
-  -- in the normal range (`lib.Ieee.Scale` has two ways to know it)
-  pub grid-relative : prec f ≤ size (a * 2 ^ low f / c) → Off (2 ^ prec f) (grid f a c * c) (a * 2 ^ low f)
-  grid-relative n =
+  -- in the normal range (`lib.Ieee.Scale` has two ways to know it) the spacing is small against a / c, and against what
+  -- it is rounded to
+  spacing : prec f ≤ size (a * 2 ^ low f / c)
+      → 2 ^ (prec f - 1) * (c * 2 ^ drop (prec f) (a * 2 ^ low f) c) ≤ a * 2 ^ low f
+  spacing n =
       let p = prec f in
       let N = a * 2 ^ low f in
       let k = drop p N c in
@@ -97,8 +100,31 @@ module _ (f : Format) (a c : ℕ) (C : 0 < c) where
       (size-reaches (N / c) (p - 1 + k) (in-use (size (N / c)) p (two f) n)) in
       let e : 2 ^ (p - 1) * (c * 2 ^ k) ≡ 2 ^ (p - 1 + k) * c = sym (mul-assoc (2 ^ (p - 1)) c (2 ^ k))
       ∙ mul-right-comm (2 ^ (p - 1)) c (2 ^ k) ∙ ap (λ (x : ℕ). x * c) (sym (pow-add 2 (p - 1) k)) in
-      dropped (2 ^ p) (2 ^ (p - 1)) (grid f a c * c) N (c * 2 ^ k)
-      (ap (λ (x : ℕ). 2 ^ x) (pred-suc p (two f)) ∙ pow-succ' 2 (p - 1)) (le-trans (le-of-eq e) w) scaled
+      le-trans (le-of-eq e) w
+
+  spacing-back : prec f ≤ size (a * 2 ^ low f / c)
+      → 2 ^ (prec f - 1) * (c * 2 ^ drop (prec f) (a * 2 ^ low f) c) ≤ grid f a c * c
+  spacing-back n =
+      let N = a * 2 ^ low f in
+      let k = drop (prec f) N c in
+      let u = c * 2 ^ k in
+      let l : 2 ^ (prec f - 1) ≤ closest N u = le-trans (le-div-iff-mul-le (mul-pos C (pow-pos k)) .1 (spacing n))
+      (nearest-ge (N / u) (compare (N % u * 2) u)) in
+      le-trans (mul-le-mul-right u l)
+      (le-of-eq (sym (mul-assoc (closest N u) c (2 ^ k)) ∙ mul-right-comm (closest N u) c (2 ^ k)))
+
+  halved : 2 ^ prec f ≡ 2 * 2 ^ (prec f - 1)
+  halved = ap (λ (x : ℕ). 2 ^ x) (pred-suc (prec f) (two f)) ∙ pow-succ' 2 (prec f - 1)
+
+  pub grid-relative : prec f ≤ size (a * 2 ^ low f / c) → Off (2 ^ prec f) (grid f a c * c) (a * 2 ^ low f)
+  grid-relative n =
+      dropped (2 ^ prec f) (2 ^ (prec f - 1)) (grid f a c * c) (a * 2 ^ low f)
+      (c * 2 ^ drop (prec f) (a * 2 ^ low f) c) halved (spacing n) scaled
+
+  grid-back : prec f ≤ size (a * 2 ^ low f / c) → Off (2 ^ prec f) (a * 2 ^ low f) (grid f a c * c)
+  grid-back n =
+      dropped (2 ^ prec f) (2 ^ (prec f - 1)) (a * 2 ^ low f) (grid f a c * c)
+      (c * 2 ^ drop (prec f) (a * 2 ^ low f) c) halved (spacing-back n) (scaled .1, scaled .0)
 
   -- below it
   pub grid-absolute : size (a * 2 ^ low f / c) ≤ prec f → Half (grid f a c * c) (a * 2 ^ low f) c
@@ -110,15 +136,17 @@ module _ (f : Format) (a c : ℕ) (C : 0 < c) where
 unfoldable pub rounded : Format → ℕ → ℕ
 rounded f n = grid f n (2 ^ low f)
 
-exact : (P g n L : ℕ) → 0 < L → Half (g * L) (n * L) L → Off P g n
-exact P g n L l h =
+exact : (g n L : ℕ) → 0 < L → Half (g * L) (n * L) L → n ≡ g
+exact g n L l h =
     let a : g * 2 * L ≤ (n * 2 + 1) * L = omega (arith, h .0) in
     let b : n * 2 * L ≤ (g * 2 + 1) * L = omega (arith, h .1) in
-    subst (λ (x : ℕ). Off P x n) (same (le-of-mul-le-mul-right a l) (le-of-mul-le-mul-right b l))
-    (omega arith, omega arith)
+    same (le-of-mul-le-mul-right a l) (le-of-mul-le-mul-right b l)
   where
     same : g * 2 ≤ n * 2 + 1 → n * 2 ≤ g * 2 + 1 → n ≡ g
     same a b = omega arith
+
+itself : (P n : ℕ) → Off P n n
+itself P n = (omega arith, omega arith)
 
 unscaled : (P g n L : ℕ) → 0 < L → Off P (g * L) (n * L) → Off P g n
 unscaled P g n L l h =
@@ -126,16 +154,16 @@ unscaled P g n L l h =
     let b : n * P * L ≤ (g * P + n) * L = omega (arith, h .1) in
     (le-of-mul-le-mul-right a l, le-of-mul-le-mul-right b l)
 
--- THE ROUNDING
-pub rounded-off : (f : Format) (n : ℕ) → Off (2 ^ prec f) (rounded f n) n
+-- either a whole number of units is exact, or it is in the normal range
+by-range : (f : Format) (n : ℕ) (A : Type 0) → (n ≡ rounded f n → A) → (prec f ≤ size (n * 2 ^ low f / 2 ^ low f) → A) → A
 unfolding rounded
-rounded-off f n =
+by-range f n A u v =
     let L = 2 ^ low f in
     let l : 0 < L = pow-pos (low f) in
     let z = size (n * L / L) in
     elim (eq-zero-or-pos (z - prec f)) [
-      | inl e ↦ exact (2 ^ prec f) (grid f n L) n L l (grid-absolute f n L l (few z (prec f) e))
-      | inr g ↦ unscaled (2 ^ prec f) (grid f n L) n L l (grid-relative f n L l (many z (prec f) g))
+      | inl e ↦ u (exact (grid f n L) n L l (grid-absolute f n L l (few z (prec f) e)))
+      | inr g ↦ v (many z (prec f) g)
     ]
   where
     few : (z p : ℕ) → z - p ≡ 0 → z ≤ p
@@ -143,3 +171,22 @@ rounded-off f n =
 
     many : (z p : ℕ) → 0 < z - p → p ≤ z
     many z p g = omega arith
+
+-- THE ROUNDING, off by a part of what is rounded, and by a part of the result
+pub rounded-off : (f : Format) (n : ℕ) → Off (2 ^ prec f) (rounded f n) n
+unfolding rounded
+rounded-off f n =
+    let L = 2 ^ low f in
+    by-range f n (Off (2 ^ prec f) (rounded f n) n)
+    (λ (e : n ≡ rounded f n). subst (λ (g : ℕ). Off (2 ^ prec f) g n) e (itself (2 ^ prec f) n))
+    (λ (m : prec f ≤ size (n * L / L)). unscaled (2 ^ prec f) (rounded f n) n L (pow-pos (low f))
+    (grid-relative f n L (pow-pos (low f)) m))
+
+pub rounded-back : (f : Format) (n : ℕ) → Off (2 ^ prec f) n (rounded f n)
+unfolding rounded
+rounded-back f n =
+    let L = 2 ^ low f in
+    by-range f n (Off (2 ^ prec f) n (rounded f n))
+    (λ (e : n ≡ rounded f n). subst (λ (g : ℕ). Off (2 ^ prec f) n g) e (itself (2 ^ prec f) n))
+    (λ (m : prec f ≤ size (n * L / L)). unscaled (2 ^ prec f) n (rounded f n) L (pow-pos (low f))
+    (grid-back f n L (pow-pos (low f)) m))

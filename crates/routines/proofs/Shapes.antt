@@ -5,6 +5,7 @@ use mathlib.Core.Bool.{Bool, true, false, not, cond}
 use lib.IntN.{pos}
 use lib.Dec.{T}
 use lib.Ieee.{Float, inf, binary64, ofBits, lt, le, eq, isNan, fits}
+use lib.Ieee.Fits.{cond-fits, mul-fits, inf-fits, nan-fits}
 use Rattle.routines.specs.Signs.{signClear}
 use Rattle.routines.specs.Held.{atLeast, atMost}
 use Rattle.routines.specs.Constants.{one, zero as nought}
@@ -102,3 +103,27 @@ exp-number x n = exp-by x Number (λ (v : Float). inside (lt x nought) v) (outsi
     outside true u = tt
     outside false true = tt
     outside false false = n
+
+-- it is an `f64`, whatever x is
+abbrev Fits : Float → Type 0
+Fits r = T (fits binary64 r)
+
+beside-one-fits : (x v : Float) → Fits v → Fits (besideOne x v)
+unfolding besideOne fits ofBits
+beside-one-fits x v F =
+    cond-fits binary64 (lt x nought) (atMost (atLeast v nought) one) (atLeast v one)
+    (at-most-has Fits (atLeast v nought) one (λ e. at-least-has Fits v nought (λ k. F) tt) tt)
+    (at-least-has Fits v one (λ e. F) tt)
+
+pub exp-fits : (x : Float) → T (fits binary64 (expOf x))
+unfolding expOf scaledUp outOfRange
+exp-fits x =
+    let out : Fits (outOfRange x) = outside (lt x nought) (le nought x) refl refl in
+    let near = beside-one-fits x (scaledUp x (tee x)) (mul-fits binary64 _ _) in
+    cond-fits binary64 (le LEAST (tee x)) (cond (le (tee x) MOST) (besideOne x (scaledUp x (tee x))) (outOfRange x))
+    (outOfRange x) (cond-fits binary64 (le (tee x) MOST) (besideOne x (scaledUp x (tee x))) (outOfRange x) near out) out
+  where
+    outside : (t u : Bool) → lt x nought ≡ t → le nought x ≡ u → Fits (cond t nought (cond u (inf false) x))
+    outside true u e k = unfold fits ofBits in tt
+    outside false true e k = inf-fits binary64 false
+    outside false false e k = subst Fits (sym (neither x e k)) (nan-fits binary64)

@@ -139,7 +139,7 @@ add-is f (fin s m e) (fin t n d) a b h k =
     )
 
 -- ---- the rounded sum
-of-value : (f : Format) (x : Float) (s : Bool) (a : ℕ) → HasValue x s a (2 ^ low f) → (T s → a ≡ 0) → Holds f x a
+pub of-value : (f : Format) (x : Float) (s : Bool) (a : ℕ) → HasValue x s a (2 ^ low f) → (T s → a ≡ 0) → Holds f x a
 of-value f nan s a h z = absurd h
 of-value f (inf t) s a h z = absurd h
 of-value f (fin false m e) s a h z = record { known = tt; sign = tt; value = h .1 }
@@ -168,16 +168,21 @@ twice-at-most P g n p h =
     let l : g * P ≤ n * 2 * P = omega (arith, h .0) in
     le-of-mul-le-mul-right l p
 
+rounded-twice : (f : Format) (n : ℕ) → rounded f n ≤ n * 2
+rounded-twice f n = twice-at-most (2 ^ prec f) (rounded f n) n (pow-pos (prec f)) (rounded-off f n)
+
+pub round-holds : (f : Format) (s : Bool) (n : ℕ) → n * 2 < overflow f → (T s → n ≡ 0)
+    → Holds f (round f s n (2 ^ low f)) (rounded f n)
+round-holds f s n o z =
+    of-value f (round f s n (2 ^ low f)) s (rounded f n) (round-has f s n (lt-of-le-of-lt (rounded-twice f n) o))
+    (λ (t : T s). none (rounded f n) n (rounded-twice f n) (z t))
+  where
+    none : (g n : ℕ) → g ≤ n * 2 → n ≡ 0 → g ≡ 0
+    none g n l z = omega arith
+
 -- THE ADDITION: a + b units that do not overflow are rounded once
 pub add-holds : (f : Format) (x y : Float) (a b : ℕ) → Holds f x a → Holds f y b → (a + b) * 2 < overflow f
     → Holds f (add f x y) (rounded f (a + b))
 add-holds f x y a b h k o =
-    let n = a + b in
     let r = add-is f x y a b h k in
-    let l : rounded f n ≤ n * 2 = twice-at-most (2 ^ prec f) (rounded f n) n (pow-pos (prec f)) (rounded-off f n) in
-    subst (λ (z : Float). Holds f z (rounded f n)) (sym (r .1))
-    (of-value f (round f (r .0) n (2 ^ low f)) (r .0) (rounded f n) (round-has f (r .0) n (lt-of-le-of-lt l o))
-    (λ (t : T (r .0)). none (rounded f n) n l (r .2 t)))
-  where
-    none : (g n : ℕ) → g ≤ n * 2 → n ≡ 0 → g ≡ 0
-    none g n l z = omega arith
+    subst (λ (z : Float). Holds f z (rounded f (a + b))) (sym (r .1)) (round-holds f (r .0) (a + b) o (r .2))

@@ -28,17 +28,17 @@ pub record NonNegative (f : Format) (x : Float) : Type 0 where
   pub known : T (finite x)
   pub sign : T (not (negative x))
 
--- s is `exact` units, up to 2 ^ -53 of them either way
+-- s is `exact` units rounded once: up to 2 ^ -53 of s either way
 pub record Within (exact : ℕ) (s : Float) : Type 0 where
   pub value : NonNegative binary64 s
-  pub over : unitsOf s * 2 ^ 53 ≤ exact * 2 ^ 53 + exact
-  pub under : exact * 2 ^ 53 ≤ unitsOf s * 2 ^ 53 + exact
+  pub over : unitsOf s * 2 ^ 53 ≤ exact * 2 ^ 53 + unitsOf s
+  pub under : exact * 2 ^ 53 ≤ unitsOf s * 2 ^ 53 + unitsOf s
 
 -- g is n up to n / P either way
 abbrev pub Off : ℕ → ℕ → ℕ → Type 0
 Off P g n = (g * P ≤ n * P + n) × (n * P ≤ g * P + n)
 
--- s is e up to 2 * k * e / 2 ^ 53: a running sum of k terms and the exact one
+-- a running sum s after k additions and the exact sum e: 2 ^ 53 |s - e| ≤ k s
 pub record Near (k s e : ℕ) : Type 0 where
-  pub over : s * 2 ^ 53 ≤ e * 2 ^ 53 + 2 * (k * e)
-  pub under : e * 2 ^ 53 ≤ s * 2 ^ 53 + 2 * (k * e)
+  pub over : s * 2 ^ 53 ≤ e * 2 ^ 53 + k * s
+  pub under : e * 2 ^ 53 ≤ s * 2 ^ 53 + k * s
