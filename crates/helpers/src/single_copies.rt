@@ -45,9 +45,7 @@ pub fn beta_density(b: BetaBinomial, x: f64, gamma: f64) -> f64
     if x > b.trials {
         return -1.0 / 0.0;
     }
-    b.all - gamma - lgamma(b.trials - x + 1.0)
-        + lgamma(x + b.alpha)
-        + lgamma(b.trials - x + b.beta)
+    b.all - gamma - lgamma(b.trials - x + 1.0) + lgamma(x + b.alpha) + lgamma(b.trials - x + b.beta)
         - b.spread
         - b.shape
 }

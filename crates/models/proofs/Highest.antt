@@ -18,7 +18,7 @@ use Rattle.meaning.proofs.Chains.{parts, gave-passed}
 use Rattle.meaning.proofs.Replies.{answer-not-refused, same-number, gave-answer}
 use Rattle.meaning.proofs.Rows.{test-passed, window-passed}
 use Rattle.models.specs.Claims.{rank, logAt, ErrorMode}
-use Rattle.models.specs.Modes.{laterWins, withNan, stands, higherOf, highestOf, scanned, errorModeOf}
+use Rattle.models.specs.Modes.{laterWins, withNan, stands, higherWith, higherOf, highestOf, scanned, errorModeOf}
 use Rattle.models.specs.declared.errors.ErrorParams.{ErrorParams}
 use Rattle.models.specs.declared.fit.SpectrumFit.{SpectrumFit}
 use Rattle.models.specs.declared.modes.Standing.{Standing}
@@ -49,7 +49,7 @@ starts (fin s m e) h = refl
 module _ (p : ErrorParams) where
   -- a step's flag does not depend on who wins
   flag : (k : ℕ) (s : Standing) → higherOf p k s .nan ≡ (s .nan || isNan (logAt p k))
-  unfolding higherOf withNan
+  unfolding higherOf higherWith withNan
   flag k s = go (laterWins (s .log) (logAt p k)) ∙ ap (λ (b : Bool). s .nan || b) (unequal-self (logAt p k))
     where
       set : Bool
@@ -104,7 +104,7 @@ module _ (p : ErrorParams) where
   -- among the counts before `end` there is no NaN
   module _ (end : ℕ) (known : (j : ℕ) → 1 ≤ j → j < end → isNan (logAt p j) ≡ false) where
     higher : (k : ℕ) (s : Standing) → 2 ≤ k → k < end → Highest k s → Highest (suc k) (higherOf p k s)
-    unfolding higherOf
+    unfolding higherOf higherWith
     higher k s h l so = go (laterWins (s .log) (logAt p k)) (order (laterWins (s .log) (logAt p k)) refl)
       where
         fitting : (j : ℕ) → T (fits binary64 (logAt p j))
@@ -152,7 +152,7 @@ module _ (p : ErrorParams) where
 
     -- the first count beats what the loop starts with
     begins : 1 < end → Highest 2 (higherOf p 1 (stands 1 (inf true) false))
-    unfolding higherOf
+    unfolding higherOf higherWith
     begins l =
         let nan = withNan false (logAt p 1) in
         let wins = sym (starts (logAt p 1) (known 1 (le-refl 1) l)) in

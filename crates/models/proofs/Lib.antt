@@ -3,6 +3,9 @@ pub mod Lengths
 pub mod Loops
 pub mod Both
 pub mod Points
+pub mod HeightTerms
+pub mod HeightRows
+pub mod Survivals
 pub mod Filled
 pub mod Costed
 pub mod Passed

@@ -10,10 +10,14 @@ use Rattle.routines.specs.Starts.{dec}
 use Rattle.models.specs.Heights.{heightsAt}
 use Rattle.models.specs.Spectra.{overObserved}
 use Rattle.models.specs.declared.fit.SpectrumFit.{SpectrumFit}
+use Rattle.models.specs.declared.heights.Heights.{Heights}
 
 -- the three heights, added up from the -0 of Rust's sum, over the scale in use
-unfoldable pub expectedAt : SpectrumFit → Float → Float → Float
-expectedAt fit count scale = let h = heightsAt fit count in (neg zero ⊕ h .error ⊕ h .single ⊕ h .repeat) ⊘ scale
+unfoldable pub expectedOf : Heights → Float → Float
+expectedOf h scale = (neg zero ⊕ h .error ⊕ h .single ⊕ h .repeat) ⊘ scale
+
+abbrev pub expectedAt : SpectrumFit → Float → Float → Float
+expectedAt fit count scale = expectedOf (heightsAt fit count) scale
 
 abbrev pub two : Float
 two = dec 2 1

@@ -1,11 +1,11 @@
 -- How high each component of a fit stands at a count, as models.rs has it, operation by operation.
 -- Definitions only. Assumes nothing.
-use Prim.Native.Nat.{ℕ}
-use mathlib.Core.List.{[], _∷_}
+use Prim.Native.Nat.{ℕ, zero, suc, _*_}
+use mathlib.Core.List.{List, [], _∷_, _++_}
 use lib.ListN.{getD}
 use lib.Ieee.{Float, nan}
 use Rattle.meaning.specs.Reply.{Reply, refuse, give, chain}
-use Rattle.meaning.specs.Rows.{many}
+use Rattle.meaning.specs.Rows.{many, short}
 use Rattle.routines.specs.Exp.{expOf}
 use Rattle.routines.specs.Ops.{_⊖_, _⊗_, ofCount}
 use Rattle.helpers.specs.Lobes.{lnDnbinomOf}
@@ -39,3 +39,16 @@ heightsSays (Refused n) = refuse n
 
 unfoldable pub componentHeightsOf : SpectrumFit → ℕ → Reply Heights
 componentHeightsOf fit count = chain (many (count ∷ [])) (give (heightsAt fit (ofCount count)))
+
+-- ---- at each count from 1 on, three numbers for each
+abbrev pub heightRow : Heights → List Float
+heightRow h = h .error ∷ h .single ∷ h .repeat ∷ []
+
+unfoldable pub heightRows : (ℕ → Heights) → ℕ → List Float
+heightRows h zero = []
+heightRows h (suc n) = heightRows h n ++ heightRow (h (suc n))
+
+-- `room` is the lent slice's length
+unfoldable pub heightsToOf : SpectrumFit → ℕ → ℕ → Reply (List Float)
+heightsToOf fit last room =
+    chain (many (last ∷ []) ++ short room (3 * last)) (give (heightRows (λ (k : ℕ). heightsAt fit (ofCount k)) last))

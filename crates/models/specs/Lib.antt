@@ -13,6 +13,7 @@ pub mod Masses
 pub mod Tables
 pub mod Likelihoods
 pub mod Hoists
+pub mod HeightTerms
 pub mod Costs
 pub mod Deviances
 pub mod Unpacking

@@ -23,11 +23,14 @@ withNan nan here = nan || ne here here
 abbrev pub stands : ℕ → Float → Bool → Standing
 stands count log nan = record { count = count; log = log; nan = nan }
 
-unfoldable pub higherOf : ErrorParams → ℕ → Standing → Standing
-higherOf p count best =
-    let here = logProbabilityOf p (ofCount count) in
+-- `here` is the log probability of `count`
+unfoldable pub higherWith : Float → ℕ → Standing → Standing
+higherWith here count best =
     let nan = withNan (best .nan) here in
     cond (laterWins (best .log) here) (stands count here nan) (stands (best .count) (best .log) nan)
+
+unfoldable pub higherOf : ErrorParams → ℕ → Standing → Standing
+higherOf p count best = higherWith (logProbabilityOf p (ofCount count)) count best
 
 -- over the counts 1 to top
 unfoldable pub highestOf : ErrorParams → ℕ → Standing

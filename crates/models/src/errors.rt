@@ -3,7 +3,7 @@
 ghost use mathlib.Core.Path.{_≡_};
 ghost use Rattle.helpers.specs.Answers.{numberSays};
 ghost use Rattle.models.specs.Errors.{factorOf, survivalOf, lnTailOf, logProbabilityOf, logWindowMassTo, logWindowMassOf};
-ghost use Rattle.models.specs.Hoists.{survivalWith};
+ghost use Rattle.models.specs.Hoists.{survivalWith, logProbabilityBetween};
 use helpers::answers::Number;
 use helpers::log_sums::ln_sub_exp;
 use meaning::limits::MOST;
@@ -49,7 +49,7 @@ impl ErrorParams {
     }
 
     // ln of the probability that an error k-mer of count 2 or more reaches `count`.
-    fn log_survival_from_two(self, count: f64) -> f64
+    pub(crate) fn log_survival_from_two(self, count: f64) -> f64
         ensures { λ r. ⌜ r ≡ survivalOf self count ⌝ }
     {
         self.survival_with(ln(count - 1.0))
@@ -75,6 +75,22 @@ impl ErrorParams {
                 self.log_survival_from_two(count),
                 self.log_survival_from_two(count + 1.0),
             )
+    }
+
+    // ln of the probability of `count`, with the tail's log and the log survivals of `count` and of the next at hand.
+    pub(crate) fn log_probability_between(
+        self,
+        ln_tail: f64,
+        count: f64,
+        here: f64,
+        next: f64,
+    ) -> f64
+        ensures { λ r. ⌜ r ≡ logProbabilityBetween self «ln_tail» count here next ⌝ }
+    {
+        if count == 1.0 {
+            return ln(self.singleton_probability);
+        }
+        ln_tail + ln_sub_exp(here, next)
     }
 
     // ln of the probability of `count`.

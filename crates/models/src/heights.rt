@@ -1,12 +1,16 @@
 // How high each component of a fit stands at a count.
 // Ported from src/preprocessing/models.rs of bacpop/sparrowhawk-asm, f1f8af1232, Apache-2.0; ported and changed.
 ghost use mathlib.Core.Path.{_≡_};
-ghost use Rattle.models.specs.Heights.{heightOf, heightsAt, heightsSays, componentHeightsOf};
+ghost use lib.ListN.{length};
+ghost use Rattle.meaning.specs.Answers.{writtenSays};
+ghost use Rattle.meaning.specs.Lent.{laid, counted};
+ghost use Rattle.models.specs.Heights.{heightsAt, heightsSays, componentHeightsOf, heightsToOf};
 use crate::fit::SpectrumFit;
-use helpers::lobes::ln_dnbinom;
-use helpers::shelves::ln_single_copy;
+use crate::height_rows::write_heights;
+use crate::height_terms::height_terms;
+use crate::height_terms::heights_of;
+use meaning::answers::Written;
 use meaning::limits::MOST;
-use routines::exp::exp;
 
 // Expected k-mers of each component inside the window.
 pub struct Heights {
@@ -20,26 +24,11 @@ pub enum HeightsAnswer {
     Refused(u8),
 }
 
-fn height(observed: f64, weight: f64, log: f64, mass: f64) -> f64
-    ensures { λ r. ⌜ r ≡ heightOf observed weight log mass ⌝ }
-{
-    observed * weight * exp(log - mass)
-}
-
 // At any count, a mode of 2^64 included.
 pub(crate) fn heights_at(fit: SpectrumFit, count: f64) -> Heights
     ensures { λ r. ⌜ r ≡ heightsAt fit count ⌝ }
 {
-    let masses = fit.component_log_window_masses;
-    let shelf = fit.shelf;
-    let error = fit.error_params.log_probability(count);
-    let single = ln_single_copy(count, fit.mean, fit.dispersion, shelf);
-    let repeat = ln_dnbinom(count, fit.repeat_ratio * fit.mean, fit.dispersion);
-    Heights {
-        error: height(fit.observed_total, fit.w_error, error, masses[0]),
-        single: height(fit.observed_total, fit.w_single, single, masses[1]),
-        repeat: height(fit.observed_total, fit.w_repeat, repeat, masses[2]),
-    }
+    heights_of(height_terms(fit), count)
 }
 
 // At a count up to 65,535; 2 above.
@@ -50,4 +39,21 @@ pub fn component_heights(fit: SpectrumFit, count: usize) -> HeightsAnswer
         return HeightsAnswer::Refused(2);
     }
     HeightsAnswer::At(heights_at(fit, (count as u16) as f64))
+}
+
+// At the counts 1 to `last`, three numbers for each, into the front of `out`; how many numbers that is. 2 for a last
+// count above 65,535, 10 where `out` is too short.
+pub fn component_heights_to(fit: SpectrumFit, last: usize, out: &mut [f64]) -> Written
+    ensures { λ r. ⌜ writtenSays r ≡ counted (heightsToOf fit last (length (now (out .entry)))) ⌝ }
+    ensures { λ _. ⌜ now (out .exit) ≡ laid (heightsToOf fit last (length (now (out .entry)))) (now (out .entry)) ⌝ }
+{
+    if last > MOST {
+        return Written::Refused(2);
+    }
+    let items = 3 * last;
+    if out.len() < items {
+        return Written::Refused(10);
+    }
+    write_heights(height_terms(fit), last as u16, out);
+    Written::Items(items)
 }

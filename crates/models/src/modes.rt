@@ -3,12 +3,12 @@
 // a window end is refused by number, and so is a NaN among the heights compared.
 ghost use mathlib.Core.Path.{_≡_};
 ghost use Rattle.helpers.specs.Answers.{countSays};
-ghost use Rattle.models.specs.Errors.{lnTailOf};
-ghost use Rattle.models.specs.Modes.{laterWins, withNan, higherOf, highestOf, errorModeOf};
+ghost use Rattle.models.specs.Modes.{laterWins, withNan, higherWith, highestOf, errorModeOf};
 use crate::errors::ErrorParams;
 use crate::fit::SpectrumFit;
 use helpers::answers::Count;
 use meaning::limits::MOST;
+use routines::ln::ln;
 
 // The highest of the counts so far, and whether one of them was NaN.
 struct Standing {
@@ -36,11 +36,10 @@ fn with_nan(nan: bool, here: f64) -> bool
     here != here
 }
 
-fn higher(p: ErrorParams, ln_tail: f64, best: Standing, count: u32) -> Standing
-    requires { ⌜ «ln_tail» ≡ lnTailOf p ⌝ }
-    ensures { λ r. ⌜ r ≡ higherOf p count best ⌝ }
+// `here` is the log probability of `count`.
+fn higher(best: Standing, count: u32, here: f64) -> Standing
+    ensures { λ r. ⌜ r ≡ higherWith here count best ⌝ }
 {
-    let here = p.log_probability_with(ln_tail, count as f64);
     let nan = with_nan(best.nan, here);
     if later_wins(best.log, here) {
         return Standing {
@@ -56,6 +55,7 @@ fn higher(p: ErrorParams, ln_tail: f64, best: Standing, count: u32) -> Standing
     }
 }
 
+// The survival of the next count is that count's own.
 fn highest(p: ErrorParams, top: u16) -> Standing
     ensures { λ r. ⌜ r ≡ highestOf p top ⌝ }
 {
@@ -65,17 +65,20 @@ fn highest(p: ErrorParams, top: u16) -> Standing
         nan: false,
     };
     let ln_tail = p.ln_tail();
+    let mut survival = p.log_survival_from_two(1.0);
     let mut count: u32 = 1;
     while count <= (top as u32) {
-        best = higher(p, ln_tail, best, count);
+        let next = p.survival_with(ln(count as f64));
+        let here = p.log_probability_between(ln_tail, count as f64, survival, next);
+        best = higher(best, count, here);
+        survival = next;
         count += 1;
     }
     best
 }
 
 // The later of equal maxima, which the validator wants below the valley; 2 for a window end above 65,535, 5 for 0, 8
-// for a
-// NaN among the heights.
+// for a NaN among the heights.
 pub fn error_mode(fit: SpectrumFit) -> Count
     ensures { λ r. ⌜ countSays r ≡ errorModeOf fit ⌝ }
 {

@@ -1,22 +1,46 @@
 -- `models::deviances::conditional_deviance` meets its contract. Assumes nothing.
-use borrow.Author.Needs.{needs}
-use mathlib.Core.Path.{refl, ap, _∙_}
-use Prim.Native.Nat.{ℕ, _-_}
+use mathlib.Core.Path.{_≡_, refl, ap, _∙_}
+use mathlib.Core.List.{List}
+use Prim.Native.Nat.{ℕ, _+_, _-_, _≤_, _<_, zero-le}
 use native.Mathlib.Omega.{arith}
-use lib.Ieee.{neg, ofBits}
-use Rattle.routines.specs.Constants.{zero}
+use lib.Ieee.{Float, neg, ofBits}
+use Rattle.meaning.specs.Fold.{fold}
+use Rattle.meaning.proofs.Folds.{fold-same}
 use Rattle.meaning.proofs.Loops.{Folded, begins, goes-on, ends}
+use Rattle.routines.specs.Constants.{zero}
+use Rattle.routines.specs.Ops.{ofCount}
+use Rattle.models.specs.Deviances.{expectedOf, devianceTerm, devianceAt, devianceOf}
+use Rattle.models.specs.HeightTerms.{heightTermsOf, heightsOf}
 use Rattle.models.specs.Spectra.{observedStep, overObserved, seenTerm}
-use Rattle.models.specs.Deviances.{devianceAt, devianceOf}
+use Rattle.models.specs.declared.fit.SpectrumFit.{SpectrumFit}
+use Rattle.models.specs.declared.height_terms.HeightTerms.{HeightTerms}
+use Rattle.models.proofs.HeightTerms.{terms-heights}
+use borrow.Author.Needs.{needs}
 use Rattle.models.proofs.deviances.conditional_deviance.Statement.{statement}
 use Rattle.models.proofs.deviances.conditional_deviance.Tie as tie
 
+-- a term of the sum, from the terms of the fit
+abbrev termFrom : HeightTerms → Float → ℕ → ℕ → Float
+termFrom t scale n i = devianceTerm (ofCount n) (expectedOf (heightsOf t (ofCount (i + 1))) scale)
+
+from-terms : (bins : List ℕ) (scale : Float) (top : ℕ) (fit : SpectrumFit)
+    → fold (observedStep bins scale (termFrom (heightTermsOf fit) scale)) 0 top (neg zero)
+    ≡ devianceOf bins scale top fit
+unfolding devianceOf overObserved
+from-terms bins scale top fit =
+    fold-same (observedStep bins scale (termFrom (heightTermsOf fit) scale))
+    (observedStep bins scale (devianceAt fit scale)) 0 top (neg zero) zero-le
+    (λ (k : ℕ) (x : Float) (l : 0 ≤ k) (h : k < top). rw (terms-heights))
+
 abbrev Inv-loop : tie.InvT-loop
-Inv-loop bins scale top fit total₀ i₀ total i =
-    Folded (observedStep bins scale (devianceAt fit scale)) (neg zero) 0 top total i
+Inv-loop bins scale top t total₀ i₀ total i =
+    Folded (observedStep bins scale (termFrom t scale)) (neg zero) 0 top total i
 
 abbrev μ-loop : tie.MeasureT-loop
-μ-loop bins scale top fit total₀ i₀ total i = top - i
+μ-loop bins scale top t total₀ i₀ total i = top - i
+
+height-terms-requires : tie.Need-height-terms-requires Inv-loop μ-loop
+height-terms-requires c κs = search needs
 
 loop-holds : tie.Need-loop-holds Inv-loop μ-loop
 unfolding neg ofBits
@@ -46,15 +70,18 @@ loop-less c = omega arith
 loop-again : tie.Need-loop-again Inv-loop μ-loop
 loop-again c =
     let at = c .before .before .before in
-    let args = at .before .before .args in
+    let args = at .before .before .before .args in
+    let t = at .before .height-terms .result in
     goes-on _ _ _ _ (at .loop .inv) _ (omega arith)
     (c .add-deviance .ensures
-    ∙ ap (λ (n : ℕ). seenTerm n (at .loop .total) (devianceAt (args .fit) (args .scale) n (at .loop .i)))
+    ∙ ap (λ (n : ℕ). seenTerm n (at .loop .total) (termFrom t (args .scale) n (at .loop .i)))
     (c .before .recovered-at .ensures))
 
 returns : tie.Need-returns Inv-loop μ-loop
-unfolding devianceOf overObserved
-returns c = ends _ _ _ _ (c .before .loop .inv) (omega arith)
+returns c =
+    let at = c .before in
+    ends _ _ _ _ (at .loop .inv) (omega arith)
+    ∙ rw (at .before .height-terms .ensures) (from-terms _ _ _ _)
 
 pub conditional-deviance-spec : {M : Type 1} → statement M
 conditional-deviance-spec =
@@ -62,6 +89,7 @@ conditional-deviance-spec =
     (tie.spec
     Inv-loop
     μ-loop
+    height-terms-requires
     loop-holds
     cast-recovered-at
     recovered-at-requires

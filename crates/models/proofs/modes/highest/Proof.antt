@@ -1,40 +1,57 @@
--- `models::modes::highest` meets its contract. Assumes nothing.
-use borrow.Author.Needs.{needs}
-use mathlib.Core.Path.{_≡_, sym, ap, _∙_}
+-- `models::modes::highest` meets its contract. The survival that the loop carries is that of its count. Assumes nothing.
+use mathlib.Core.Path.{_≡_, refl, ap, _∙_}
 use mathlib.Core.Bool.{true, false}
-use Prim.Native.Nat.{ℕ, _+_, _-_, _≤_, _<_}
+use Prim.Native.Nat.{_+_, _-_, _≤_}
 use native.Mathlib.Omega.{arith}
-use lib.Ieee.{inf, div, neg, ofBits}
-use Rattle.meaning.specs.Fold.{fold}
-use Rattle.meaning.proofs.Folds.{fold-none, fold-more}
-use Rattle.models.specs.Errors.{lnTailOf}
-use Rattle.models.specs.declared.errors.ErrorParams.{ErrorParams}
-use Rattle.models.specs.declared.modes.Standing.{Standing}
-use Rattle.models.specs.Modes.{stands, higherOf, highestOf}
+use lib.Ieee.{Float, inf, div, neg, ofBits}
+use Rattle.meaning.proofs.Loops.{Folded, begins, goes-on, ends}
+use Rattle.routines.specs.Ops.{ofCount}
+use Rattle.models.specs.Errors.{lnTailOf, survivalOf}
+use Rattle.models.specs.Modes.{stands, higherWith, higherOf, highestOf}
+use Rattle.models.proofs.Survivals.{first-survival, next-survival, between-is}
+use borrow.Author.Needs.{needs}
 use Rattle.models.proofs.modes.highest.Statement.{statement}
 use Rattle.models.proofs.modes.highest.Tie as tie
 
 abbrev Inv-loop : tie.InvT-loop
-Inv-loop p top best₀ ln-tail count₀ best count =
-    (ln-tail ≡ lnTailOf p) × (1 ≤ count) × (count ≤ top + 1) ×
-    (best ≡ fold (higherOf p) 1 count (stands 1 (inf true) false))
+Inv-loop p top best₀ ln-tail survival₀ count₀ best survival count =
+    (ln-tail ≡ lnTailOf p) × (survival ≡ survivalOf p (ofCount count)) ×
+    Folded (higherOf p) (stands 1 (inf true) false) 1 (top + 1) best count
 
 abbrev μ-loop : tie.MeasureT-loop
-μ-loop p top best₀ ln-tail count₀ best count = top + 1 - count
+μ-loop p top best₀ ln-tail survival₀ count₀ best survival count = top + 1 - count
 
 ln-tail-requires : tie.Need-ln-tail-requires Inv-loop μ-loop
 ln-tail-requires c κs = search needs
 
+log-survival-from-two-requires : tie.Need-log-survival-from-two-requires Inv-loop μ-loop
+log-survival-from-two-requires c κs = search needs
+
 loop-holds : tie.Need-loop-holds Inv-loop μ-loop
+unfolding div neg ofBits
 loop-holds c = (
-  c .ln-tail .ensures,
-  omega arith,
-  omega arith,
-  unfold div neg ofBits in sym (fold-none (higherOf _) 1 1 _ (omega arith)),
+  c .before .ln-tail .ensures,
+  first-survival _ _ (c .log-survival-from-two .ensures),
+  begins _ _ _ _ _ (omega arith) refl,
 )
 
+int-to-float-ln : tie.Need-int-to-float-ln Inv-loop μ-loop
+int-to-float-ln c = search needs
+
+ln-requires : tie.Need-ln-requires Inv-loop μ-loop
+ln-requires c κs = search needs
+
+survival-with-requires : tie.Need-survival-with-requires Inv-loop μ-loop
+survival-with-requires c κs = search needs
+
+int-to-float-log-probability-between : tie.Need-int-to-float-log-probability-between Inv-loop μ-loop
+int-to-float-log-probability-between c = search needs
+
+log-probability-between-requires : tie.Need-log-probability-between-requires Inv-loop μ-loop
+log-probability-between-requires c κs = search needs
+
 higher-requires : tie.Need-higher-requires Inv-loop μ-loop
-higher-requires c κs = c .before .loop .inv .0
+higher-requires c κs = search needs
 
 add-count : tie.Need-add-count Inv-loop μ-loop
 add-count c = omega arith
@@ -43,25 +60,42 @@ loop-less : tie.Need-loop-less Inv-loop μ-loop
 loop-less c = omega arith
 
 loop-again : tie.Need-loop-again Inv-loop μ-loop
+unfolding higherOf
 loop-again c =
-    let inv = c .before .before .loop .inv in (
+    let between = c .before in
+    let log = between .before .before .before in
+    let turn = log .before .before .before .loop in
+    let inv = turn .inv in
+    let few : turn .count ≤ 65535 = omega arith in
+    let next = next-survival (turn .count) few _ _ _ (between .before .before .survival-with .ensures) (log .ln .ensures) in (
       inv .0,
-      omega arith,
-      omega arith,
-      c .higher .ensures ∙ ap (higherOf _ _) (inv .3) ∙ sym (fold-more (higherOf _) 1 _ _ (inv .1)),
+      next,
+      goes-on _ _ _ _ (inv .2) _ (omega arith)
+          (c .higher .ensures
+          ∙ ap (λ (x : Float). higherWith x (turn .count) (turn .best))
+          (between .log-probability-between .ensures ∙ between-is (turn .count) few _ _ _ _ (inv .0) (inv .1) next)),
     )
 
-ends : (p : ErrorParams) (top count : ℕ) (best : Standing) → count ≤ top + 1 → top < count
-    → best ≡ fold (higherOf p) 1 count (stands 1 (inf true) false) → best ≡ highestOf p top
-unfolding highestOf
-ends p top count best h k e =
-    let reached : count ≡ top + 1 = omega arith in
-    e ∙ ap (λ (n : ℕ). fold (higherOf p) 1 n (stands 1 (inf true) false)) reached
-
 returns : tie.Need-returns Inv-loop μ-loop
-returns c = let inv = c .before .loop .inv in ends _ _ _ _ (inv .2) (omega arith) (inv .3)
+unfolding highestOf
+returns c = ends _ _ _ _ (c .before .loop .inv .2) (omega arith)
 
 pub highest-spec : {M : Type 1} → statement M
 highest-spec =
     tie.close
-    (tie.spec Inv-loop μ-loop ln-tail-requires loop-holds higher-requires add-count loop-less loop-again returns)
+    (tie.spec
+    Inv-loop
+    μ-loop
+    ln-tail-requires
+    log-survival-from-two-requires
+    loop-holds
+    int-to-float-ln
+    ln-requires
+    survival-with-requires
+    int-to-float-log-probability-between
+    log-probability-between-requires
+    higher-requires
+    add-count
+    loop-less
+    loop-again
+    returns)
