@@ -261,6 +261,12 @@ fog_fit_answer fog_unpack(const uint32_t *bins, size_t bins_length, double scale
 /* How many distinct k-mers of the library the fit expects of each component at a count. Refusal 2. At count 0 the error's is a NaN. */
 fog_heights fog_component_heights(fog_fit fit, size_t count);
 
+/*
+ * The same at each count from 1 to `last`, three numbers for each (error, single, repeat), into the front of `out`; answers how many numbers
+ * that is, 3 * last. What lies behind them stays as it was. `length` is the room: refusals 2 and 10. Much faster than one call a count.
+ */
+fog_written fog_component_heights_to(fog_fit fit, size_t last, double *out, size_t length);
+
 /* The count in the window where the error component is highest, the later of equals. Refusals 2, 5 and 8. */
 fog_count fog_error_mode(fog_fit fit);
 

@@ -1,14 +1,18 @@
 // What is read off a fit.
 ghost use mathlib.Core.Path.{_≡_};
+ghost use lib.ListN.{length};
+ghost use Rattle.meaning.specs.Lent.{laid, counted};
 ghost use Rattle.models.specs.Fits.{totalRatioOf, roundtripErrorOf, primaryModeOf, repeatModeOf};
-ghost use Rattle.models.specs.Heights.{componentHeightsOf};
+ghost use Rattle.models.specs.Heights.{componentHeightsOf, heightsToOf};
 ghost use Rattle.models.specs.Modes.{errorModeOf};
-ghost use Rattle.exports.specs.Flat.{sayCount};
+ghost use Rattle.exports.specs.Flat.{sayCount, sayWritten};
 ghost use Rattle.exports.specs.FlatFits.{fitOf, sayHeights};
 use crate::answers::FlatCount;
 use crate::answers::FlatHeights;
+use crate::answers::FlatWritten;
 use crate::answers::flat_count;
 use crate::answers::flat_heights;
+use crate::answers::flat_written;
 use crate::fits::FlatFit;
 use crate::fits::fit_of;
 use models::fit::component_total_ratio;
@@ -16,6 +20,7 @@ use models::fit::mode_roundtrip_error;
 use models::fit::primary_mode;
 use models::fit::repeat_mode;
 use models::heights::component_heights;
+use models::heights::component_heights_to;
 use models::modes::error_mode;
 
 #[no_mangle]
@@ -58,4 +63,16 @@ pub extern "C" fn fog_component_heights(fit: FlatFit, count: usize) -> FlatHeigh
     ensures { λ r. ⌜ r ≡ sayHeights (componentHeightsOf (fitOf fit) count) ⌝ }
 {
     flat_heights(component_heights(fit_of(fit), count))
+}
+
+#[no_mangle]
+pub extern "C" fn fog_component_heights_to(
+    fit: FlatFit,
+    last: usize,
+    out: &mut [f64],
+) -> FlatWritten
+    ensures { λ r. ⌜ r ≡ sayWritten (counted (heightsToOf (fitOf fit) last (length (now (out .entry))))) ⌝ }
+    ensures { λ _. ⌜ now (out .exit) ≡ laid (heightsToOf (fitOf fit) last (length (now (out .entry)))) (now (out .entry)) ⌝ }
+{
+    flat_written(component_heights_to(fit_of(fit), last, out))
 }
