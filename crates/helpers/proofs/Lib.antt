@@ -7,3 +7,4 @@ pub mod Corners
 pub mod LogLaws
 pub mod Weights
 pub mod Says
+pub mod Ready

@@ -5,3 +5,6 @@ pub mod Shelves
 pub mod Masses
 pub mod Hoists
 pub mod SingleCopies
+pub mod Prepared
+pub mod Pairs
+pub mod Mixtures

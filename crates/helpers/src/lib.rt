@@ -4,5 +4,8 @@ pub mod hoists;
 pub mod lobes;
 pub mod log_sums;
 pub mod masses;
+pub mod mixtures;
+pub mod pairs;
+pub mod prepared;
 pub mod shelves;
 pub mod single_copies;

@@ -1,0 +1,56 @@
+-- `helpers::prepared::gamma_at` meets its contract. Assumes nothing.
+use mathlib.Core.Path.{sym, _∙_}
+use Prim.Native.Nat.{_+_, _*_}
+use lib.Ieee.{nan}
+use Rattle.routines.specs.Constants.{one}
+use Rattle.routines.specs.Hoists.{lgammaWith}
+use Rattle.routines.specs.Ops.{_⊕_, ofCount}
+use lib.ListN.{List·getD-eq-default}
+use Rattle.meaning.proofs.Overs.{getD-any}
+use Rattle.helpers.specs.Prepared.{gammaWith}
+use borrow.Author.Needs.{needs}
+use Rattle.helpers.proofs.prepared.gamma_at.Statement.{statement}
+use Rattle.helpers.proofs.prepared.gamma_at.Tie as tie
+
+mul-i : tie.Need-mul-i
+mul-i c = search needs
+
+add-i : tie.Need-add-i
+add-i c = search needs
+
+mul-result : tie.Need-mul-result
+mul-result c = search needs
+
+shared-slice-read-result : tie.Need-shared-slice-read-result
+shared-slice-read-result c = search needs
+
+int-to-float-lgamma-with : tie.Need-int-to-float-lgamma-with
+int-to-float-lgamma-with c = search needs
+
+lgamma-with-requires : tie.Need-lgamma-with-requires
+lgamma-with-requires c κs = search needs
+
+returns : tie.Need-returns
+unfolding gammaWith
+returns c =
+    let a = c .before .before .before .args in
+    getD-any (a .ready .now) (2 * a .n + 1) nan (lgammaWith (ofCount (a .n) ⊕ one) (a .log)) (c .before .if1 .taken)
+
+returns-2 : tie.Need-returns-2
+unfolding gammaWith
+returns-2 c =
+    let past = c .before .before in
+    c .lgamma-with .ensures ∙ sym (List·getD-eq-default (past .before .before .args .ready .now) _ (past .if1 .left))
+
+pub gamma-at-spec : {M : Type 1} → statement M
+gamma-at-spec =
+    tie.close
+    (tie.spec
+    mul-i
+    add-i
+    mul-result
+    shared-slice-read-result
+    int-to-float-lgamma-with
+    lgamma-with-requires
+    returns
+    returns-2)

@@ -1,0 +1,51 @@
+-- `helpers::prepared::ln_at` meets its contract. Assumes nothing.
+use mathlib.Core.Path.{sym, _∙_}
+use Prim.Native.Nat.{_*_}
+use lib.Ieee.{nan}
+use Rattle.routines.specs.Ln.{lnOf}
+use Rattle.routines.specs.Ops.{ofCount}
+use lib.ListN.{List·getD-eq-default}
+use Rattle.meaning.proofs.Overs.{getD-any}
+use Rattle.helpers.specs.Prepared.{lnAt}
+use borrow.Author.Needs.{needs}
+use Rattle.helpers.proofs.prepared.ln_at.Statement.{statement}
+use Rattle.helpers.proofs.prepared.ln_at.Tie as tie
+
+mul-i : tie.Need-mul-i
+mul-i c = search needs
+
+mul-result : tie.Need-mul-result
+mul-result c = search needs
+
+shared-slice-read-result : tie.Need-shared-slice-read-result
+shared-slice-read-result c = search needs
+
+int-to-float-ln : tie.Need-int-to-float-ln
+int-to-float-ln c = search needs
+
+ln-requires : tie.Need-ln-requires
+ln-requires c κs = search needs
+
+returns : tie.Need-returns
+unfolding lnAt
+returns c =
+    let a = c .before .before .before .args in
+    getD-any (a .ready .now) (2 * a .n) nan (lnOf (ofCount (a .n))) (c .before .if1 .taken)
+
+returns-2 : tie.Need-returns-2
+unfolding lnAt
+returns-2 c =
+    let past = c .before .before in
+    c .ln .ensures ∙ sym (List·getD-eq-default (past .before .before .args .ready .now) _ (past .if1 .left))
+
+pub ln-at-spec : {M : Type 1} → statement M
+ln-at-spec =
+    tie.close
+    (tie.spec
+    mul-i
+    mul-result
+    shared-slice-read-result
+    int-to-float-ln
+    ln-requires
+    returns
+    returns-2)

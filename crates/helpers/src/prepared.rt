@@ -1,0 +1,30 @@
+// A slice in which ln n and lgamma(n + 1) may stand ready, at 2 n and behind it: for speed alone. What is not there is
+// worked out. proofs/Ready.antt shows that a slice filled so changes no number.
+ghost use mathlib.Core.Path.{_≡_};
+ghost use Rattle.helpers.specs.Prepared.{lnAt, gammaWith};
+use routines::hoists::lgamma_with;
+use routines::ln::ln;
+
+// ln n.
+pub fn ln_at(ready: &[f64], n: u32) -> f64
+    ensures { λ r. ⌜ r ≡ lnAt (now (ready .entry)) n ⌝ }
+{
+    let i = 2 * (n as usize);
+    if i < ready.len() {
+        ready[i]
+    } else {
+        ln(n as f64)
+    }
+}
+
+// lgamma(n + 1), with `log` for ln(n + 1).
+pub fn gamma_at(ready: &[f64], n: u32, log: f64) -> f64
+    ensures { λ r. ⌜ r ≡ gammaWith (now (ready .entry)) n log ⌝ }
+{
+    let i = 2 * (n as usize) + 1;
+    if i < ready.len() {
+        ready[i]
+    } else {
+        lgamma_with((n as f64) + 1.0, log)
+    }
+}
