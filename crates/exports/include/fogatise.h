@@ -17,6 +17,7 @@
 #ifndef FOGATISE_H
 #define FOGATISE_H
 
+#include <stdbool.h>
 #include <stddef.h>
 #include <stdint.h>
 
@@ -27,14 +28,15 @@ extern "C" {
 /*
  * An answer that can refuse: number 0 and the value, or the number that comes back instead, and the value 0.
  *
- *    1  the peak or the number of bins is below 2
- *    2  the bins, the peak, a count or the window end is above 65,535
+ *    1  the peak, the valley or the number of bins is below 2
+ *    2  the bins, the peak, the valley, a count or the window end is above 65,535
  *    4  all bins are zero
  *    5  the window end is 0, or beyond the bins
  *    6  every recovered bin in the window is zero
- *    7  the list has the wrong length for its families
+ *    7  the list has the wrong length for its families; a table of error starts is not one or more rows of three; the shapes are not pairs
  *    8  a log probability scanned for the error mode is a NaN
- *   10  a lent table is too short for the answer, or for the shelf table
+ *    9  the mass limit is not finite or is below 1
+ *   10  a lent table or buffer is too short for the answer, or for the shelf table
  *
  * Each applies only to calls that take the thing named. Where several apply, the first of these comes back. A refusal leaves lent memory
  * as it was.
@@ -140,6 +142,51 @@ typedef struct {
     uint8_t number;
     fog_fit fit;
 } fog_fit_answer;
+
+/*
+ * Number 0 and what the validator says: reason 0 for a valid fit, or the first of the ten rules that turns it away. Or a number, and reason
+ * 0.
+ */
+typedef struct {
+    uint8_t number;
+    uint8_t reason;
+} fog_verdict;
+
+/* Why a fit is not used: no run converged, or one of the validator's rules. Any other number is the first. */
+enum {
+    FOG_OPTIMISATION_FAILED = 0,
+    FOG_NON_FINITE_LIKELIHOOD = 1,
+    FOG_INVALID_COMPONENTS = 2,
+    FOG_INVALID_WINDOW_MASS = 3,
+    FOG_COMPONENT_MASS_EXCEEDED = 4,
+    FOG_UNSTABLE_MODE_PARAMETERISATION = 5,
+    FOG_GENOME_LOBE_OUTSIDE_FIT_WINDOW = 6,
+    FOG_ERROR_MODE_PAST_VALLEY = 7,
+    FOG_PRIMARY_MODE_OUTSIDE_BAND = 8,
+    FOG_REPEAT_MODE_TOO_EARLY = 9,
+    FOG_POSITIVE_LOG_LIKELIHOOD = 10
+};
+
+/*
+ * What one pair of families came to: its valid fit of lowest cost, or else the rejected one and why. has_candidate is 0 where no run
+ * converged, rejection_present 0 where the candidate is valid; any other number says that there is one.
+ */
+typedef struct {
+    uint8_t error_model;
+    uint8_t genome_model;
+    uint8_t has_candidate;
+    fog_fit candidate;
+    uint8_t rejection_present;
+    uint8_t rejection;
+    uint64_t total_iterations;
+    uint32_t capped_starts;
+} fog_attempt;
+
+/* found 1 and the fit, or found 0 and a fit with every field 0. */
+typedef struct {
+    uint8_t found;
+    fog_fit fit;
+} fog_selected;
 
 /* Number 0 and how many bins were read; number 3 and the place of the file's first fault, in bytes from 0; or number 10. */
 typedef struct {
@@ -298,6 +345,70 @@ fog_cutoff fog_hole_cutoff(fog_fit fit, double budget);
  * count 0 to the ceiling lies between 0 and 2. Refusals 2 and 5.
  */
 fog_sure_cutoff fog_hole_cutoff_sure(fog_fit fit, double budget);
+
+/* ---- from histogram to starts */
+
+/*
+ * The bins as the sample had them: each divided by the scale and rounded with halves away from zero, into the first of the lent ones; a
+ * scale that is not finite or is below 1 becomes 1. The lent ones past the last bin stay as they were. Refusals 1, 2 and 10.
+ */
+fog_written fog_recover_bins(const uint32_t *bins, size_t bins_length, double scale, uint32_t *out, size_t out_length);
+
+/*
+ * The shelf share that a search starts from, over the recovered bins: twice the k-mers at counts valley to peak/2, over those at counts
+ * valley to 2*peak, held to 0.01 .. 0.4; 0.05 where the latter are none. Refusals 1 and 2.
+ */
+fog_number fog_empirical_shelf_share(const uint32_t *bins, size_t bins_length, double scale, size_t valley, size_t peak);
+
+/*
+ * Two lent tables of error starts, for the two families: rows of tail exponent, singleton probability and shape, which the Pareto family
+ * does not read. 7 where the length of either is not a positive multiple of 3, and 0 otherwise.
+ */
+uint8_t fog_start_tables_refusal(const double *pareto, size_t pareto_length, const double *weibull, size_t weibull_length);
+
+/*
+ * Writes every start of a search, each a parameter list of fog_list_length(error, genome) numbers, one behind the other: for each seed and
+ * then for the hint, the error starts of the family's table; with a shelf family, for each of those the shapes, which are pairs of retained
+ * fraction and concentration. A hint that is not finite or not above 1 becomes 2; seeds, share and shapes are taken as they are. The
+ * answer counts numbers, not starts: divided by the list's length it is the number of starts. What lies behind them stays as it was. The
+ * first takes document 01's tables, 2 rows for Pareto and 3 for Weibull, the second the lent ones. Refusals 7 and 10, 7 whichever families
+ * are asked.
+ */
+fog_written fog_fit_starts(uint8_t error, uint8_t genome, const double *seeds, size_t seeds_length, double hint, double share,
+                           const double *shapes, size_t shapes_length, double *out, size_t out_length);
+fog_written fog_fit_starts_lent(uint8_t error, uint8_t genome, const double *pareto, size_t pareto_length, const double *weibull,
+                                size_t weibull_length, const double *seeds, size_t seeds_length, double hint, double share,
+                                const double *shapes, size_t shapes_length, double *out, size_t out_length);
+
+/* ---- which fit is used */
+
+/*
+ * Whether a fit is to be believed: the first of the rules that turns it away.
+ *
+ *    1  the log-likelihood, BIC or deviance is not finite
+ *    2  a weight is outside 0 to 1 or a NaN, the mean not finite or not above 0, the dispersion not finite or below 1, or the shelf invalid
+ *    3  a component's log mass in the window is not finite or above 1e-12
+ *    4  the log of the components' total over the spectrum's is above ln(mass_limit), or a NaN
+ *    5  fog_mode_roundtrip_error is above 0.5 or a NaN
+ *    6  the primary mode is 0 or above the window end
+ *    7  the error mode is above the valley, or a log probability scanned for it is a NaN
+ *    8  mode + 1 < 0.75 * peak, or mode > (0.75 + 0.58) * peak, of the primary mode
+ *    9  the repeat mode is not above the primary one
+ *   10  the log-likelihood is above 0
+ *
+ * Refusals 1, 2, 5 and 9; the window end is the fit's.
+ */
+fog_verdict fog_validate_fit(fog_fit fit, size_t valley, size_t peak, double mass_limit);
+
+/* Whether there is a candidate and no rejection. */
+bool fog_is_valid(fog_attempt attempt);
+
+/*
+ * The valid candidate of lowest BIC, the attempts being gone through in order: a later one takes the place of the best only where its BIC
+ * is below the best's by more than 1e-9 * (1 + the larger |BIC|). A NaN or an infinite BIC neither takes the place of another nor gives its
+ * own up.
+ */
+fog_selected fog_select_fit(fog_attempt first, fog_attempt second, fog_attempt third, fog_attempt fourth);
 
 /* ---- the histogram file */
 

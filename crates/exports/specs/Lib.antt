@@ -2,3 +2,4 @@ pub mod Flat
 pub mod FlatFits
 pub mod FlatCutoffs
 pub mod FlatFile
+pub mod FlatAttempts

@@ -1,5 +1,6 @@
 // The C interface of what users call. include/fogatise.h says each function in C.
 pub mod answers;
+pub mod attempts;
 pub mod costs;
 pub mod cutoffs;
 pub mod densities;
@@ -10,4 +11,7 @@ pub mod four;
 pub mod masses;
 pub mod readers;
 pub mod shelf;
+pub mod spectra;
+pub mod starts;
 pub mod tables;
+pub mod verdicts;
