@@ -3,11 +3,11 @@
 mod cost_strata;
 mod costs;
 mod errors;
-mod fits;
+pub mod fits;
 mod params;
 mod problem;
 mod recovery;
-mod rust;
+pub mod rust;
 mod shelf_rules;
 pub mod usability;
 

@@ -8,6 +8,9 @@ pub mod math_helpers;
 #[allow(dead_code)]
 #[path = "../../target/oracle/linked/models.rs"]
 pub mod models;
+#[allow(dead_code, unused_imports)]
+#[path = "../../target/oracle/linked/spectrum_fitter.rs"]
+pub mod spectrum_fitter;
 
 pub trait Routines {
     fn fog_exp(self) -> f64;

@@ -6,6 +6,7 @@ mod draw;
 mod layer1;
 mod layer2;
 mod layer3;
+mod layer4;
 mod linked;
 mod port;
 mod rules;
@@ -18,9 +19,10 @@ use call::Call;
 use std::time::Instant;
 use tally::Tally;
 
-/// How many rows of each stratum the replay holds, and how many words the longest may have: in layers 1 and 2, and in layer 3.
-const ROWS: [usize; 2] = [8, 2];
-const LONGEST: [usize; 2] = [64, 128];
+/// How many rows of each stratum the replay holds, and how many words the longest may have: in layers 1 and 2, in layer 3, and in
+/// layer 4.
+const ROWS: [usize; 3] = [8, 2, 1];
+const LONGEST: [usize; 3] = [64, 128, 200];
 
 /// What the command line asks for: one layer, one call, one input of so many, the replay's rows.
 struct Asked {
@@ -47,7 +49,7 @@ fn asked() -> Asked {
 
 impl Asked {
     fn calls(&self) -> Vec<Call> {
-        let layers = [layer1::calls(), layer2::calls(), layer3::calls()];
+        let layers = [layer1::calls(), layer2::calls(), layer3::calls(), layer4::calls()];
         let wanted = (1..).zip(layers).filter(|(n, _)| self.layer.is_none_or(|layer| layer == *n));
         wanted.flat_map(|(_, calls)| calls).filter(|call| self.call.as_ref().is_none_or(|name| name == call.name)).collect()
     }
@@ -83,7 +85,7 @@ fn main() {
     let calls = asked.calls();
     if asked.sample {
         for call in &calls {
-            let upper = usize::from(call.number >= 64);
+            let upper = usize::from(call.number >= 64) + usize::from(call.number >= 96);
             print!("{}", call.sample(ROWS[upper], LONGEST[upper]));
         }
     } else if !compare(&calls, asked.part) {

@@ -1,6 +1,7 @@
 //! The port through its C interface: `crates/exports` and `crates/probe`.
 
 use crate::layer3::Problem;
+use crate::layer4::Search;
 
 #[repr(C)]
 #[derive(Clone, Copy)]
@@ -126,6 +127,31 @@ pub struct ParamsAnswer {
     pub params: Params,
 }
 
+#[repr(C)]
+pub struct Verdict {
+    pub number: u8,
+    pub reason: u8,
+}
+
+#[repr(C)]
+#[derive(Clone, Copy)]
+pub struct Attempt {
+    pub error_model: u8,
+    pub genome_model: u8,
+    pub has_candidate: u8,
+    pub candidate: Fit,
+    pub rejection_present: u8,
+    pub rejection: u8,
+    pub total_iterations: u64,
+    pub capped_starts: u32,
+}
+
+#[repr(C)]
+pub struct Selected {
+    pub found: u8,
+    pub fit: Fit,
+}
+
 /// Declares a C function `fog_NAME` and a safe NAME that calls it. None of these reads or writes memory.
 macro_rules! calls {
     ($($name:ident = $symbol:ident($($argument:ident: $type:ty),*) -> $answer:ty;)*) => {
@@ -193,6 +219,9 @@ calls! {
     repeat_mode = fog_repeat_mode(fit: Fit) -> u64;
     error_mode = fog_error_mode(fit: Fit) -> Count;
     component_heights = fog_component_heights(fit: Fit, count: usize) -> Heights;
+    validate_fit = fog_validate_fit(fit: Fit, valley: usize, peak: usize, mass_limit: f64) -> Verdict;
+    is_valid = fog_is_valid(attempt: Attempt) -> bool;
+    select_fit = fog_select_fit(first: Attempt, second: Attempt, third: Attempt, fourth: Attempt) -> Selected;
 }
 
 extern "C" {
@@ -287,4 +316,66 @@ pub fn unpack(p: &Problem, cost: f64, iterations: u64, table: &mut [f64]) -> Fit
     let (bins, length, theta, listed) = (p.bins.as_ptr(), p.bins.len(), p.theta.as_ptr(), p.theta.len());
     let (end, peak, room) = (p.window_end as usize, p.peak as usize, table.len());
     unsafe { fog_unpack(bins, length, p.scale, end, peak, p.error, p.genome, theta, listed, cost, iterations, table.as_mut_ptr(), room) }
+}
+
+extern "C" {
+    fn fog_recover_bins(bins: *const u32, length: usize, scale: f64, out: *mut u32, room: usize) -> Written;
+    fn fog_empirical_shelf_share(bins: *const u32, length: usize, scale: f64, valley: usize, peak: usize) -> Number;
+    fn fog_start_tables_refusal(pareto: *const f64, pareto_length: usize, weibull: *const f64, weibull_length: usize) -> u8;
+    fn fog_fit_starts(
+        error: u8,
+        genome: u8,
+        seeds: *const f64,
+        seeds_length: usize,
+        hint: f64,
+        share: f64,
+        shapes: *const f64,
+        shapes_length: usize,
+        out: *mut f64,
+        room: usize,
+    ) -> Written;
+    fn fog_fit_starts_lent(
+        error: u8,
+        genome: u8,
+        pareto: *const f64,
+        pareto_length: usize,
+        weibull: *const f64,
+        weibull_length: usize,
+        seeds: *const f64,
+        seeds_length: usize,
+        hint: f64,
+        share: f64,
+        shapes: *const f64,
+        shapes_length: usize,
+        out: *mut f64,
+        room: usize,
+    ) -> Written;
+}
+
+pub fn recover_bins(bins: &[u32], scale: f64, out: &mut [u32]) -> Written {
+    unsafe { fog_recover_bins(bins.as_ptr(), bins.len(), scale, out.as_mut_ptr(), out.len()) }
+}
+
+pub fn empirical_shelf_share(bins: &[u32], scale: f64, valley: usize, peak: usize) -> Number {
+    unsafe { fog_empirical_shelf_share(bins.as_ptr(), bins.len(), scale, valley, peak) }
+}
+
+pub fn start_tables_refusal(pareto: &[f64], weibull: &[f64]) -> u8 {
+    unsafe { fog_start_tables_refusal(pareto.as_ptr(), pareto.len(), weibull.as_ptr(), weibull.len()) }
+}
+
+/// The out buffer is lent apart from the search. Without lent tables the fixed ones are taken.
+pub fn fit_starts(s: &Search, out: &mut [f64]) -> Written {
+    let (seeds, shapes, written, room) = (&s.seeds, &s.shapes, out.as_mut_ptr(), out.len());
+    let (seeds, seeded, shapes, shaped) = (seeds.as_ptr(), seeds.len(), shapes.as_ptr(), shapes.len());
+    let Some([pareto, weibull]) = &s.lent else {
+        return unsafe { fog_fit_starts(s.error, s.genome, seeds, seeded, s.hint, s.share, shapes, shaped, written, room) };
+    };
+    let (pareto, rows, weibull, lines) = (pareto.as_ptr(), pareto.len(), weibull.as_ptr(), weibull.len());
+    let (hint, share) = (s.hint, s.share);
+    unsafe {
+        fog_fit_starts_lent(
+            s.error, s.genome, pareto, rows, weibull, lines, seeds, seeded, hint, share, shapes, shaped, written, room,
+        )
+    }
 }

@@ -64,6 +64,20 @@ pub fn of_a_list(p: &Problem) -> [(u64, bool); 3] {
     [(1, p.peak < 2), (2, p.peak > 65_535), (7, p.theta.len() != list_length(p.weibull(), p.with_shelf()))]
 }
 
+/// A table of error starts whose length is not a positive multiple of 3.
+pub fn not_rows(length: usize) -> bool {
+    length == 0 || length % 3 != 0
+}
+
+/// A hint that is not finite or not above 1 becomes 2.
+pub fn hint(hint: f64) -> f64 {
+    if hint.is_finite() && hint > 1.0 {
+        hint
+    } else {
+        2.0
+    }
+}
+
 pub fn first(rules: &[(u64, bool)]) -> Option<u64> {
     rules.iter().find(|(_, holds)| *holds).map(|&(number, _)| number)
 }

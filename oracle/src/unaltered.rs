@@ -6,3 +6,6 @@ pub mod math_helpers;
 #[allow(dead_code)]
 #[path = "../../target/oracle/unaltered/models.rs"]
 pub mod models;
+#[allow(dead_code, unused_imports)]
+#[path = "../../target/oracle/unaltered/spectrum_fitter.rs"]
+pub mod spectrum_fitter;

@@ -30,6 +30,16 @@ pub fn push_slice(words: &mut Vec<u64>, entries: &[f64]) {
     words.extend(entries.iter().map(|x| x.to_bits()));
 }
 
+/// The bins whose number is word i.
+pub fn slice_of_bins(words: &[u64], i: usize) -> Vec<u32> {
+    words[i + 1..][..words[i] as usize].iter().map(|&w| w as u32).collect()
+}
+
+pub fn push_bins(words: &mut Vec<u64>, bins: &[u32]) {
+    words.push(bins.len() as u64);
+    words.extend(bins.iter().map(|&n| u64::from(n)));
+}
+
 pub fn is_finite(word: u64) -> bool {
     f64::from_bits(word).is_finite()
 }
@@ -42,6 +52,16 @@ pub fn lent<T>(held: &[f64], call: impl FnOnce(&mut [f64]) -> T) -> (T, Vec<f64>
     let room = held.len();
     let answer = call(&mut buffer[1..=room]);
     assert!([buffer[0], buffer[room + 1]].iter().all(|x| x.to_bits() == GUARD), "written outside the slice");
+    (answer, buffer[1..=room].to_vec())
+}
+
+/// The same of bins.
+pub fn lent_bins<T>(held: &[u32], call: impl FnOnce(&mut [u32]) -> T) -> (T, Vec<u32>) {
+    const GUARD: [u32; 1] = [0xcafe_beef];
+    let mut buffer = [&GUARD, held, &GUARD].concat();
+    let room = held.len();
+    let answer = call(&mut buffer[1..=room]);
+    assert!([buffer[0], buffer[room + 1]] == [GUARD[0]; 2], "written outside the slice");
     (answer, buffer[1..=room].to_vec())
 }
 

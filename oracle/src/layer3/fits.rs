@@ -47,6 +47,7 @@ macro_rules! fit_and {
         ]
     };
 }
+pub(crate) use fit_and;
 
 const READ: &[(&str, Kind)] = fit_and!();
 const COUNTED: &[(&str, Kind)] = fit_and!(("count", Other));

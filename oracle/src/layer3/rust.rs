@@ -20,7 +20,7 @@ macro_rules! side {
             use crate::$build::math_helpers::shelf_log_table;
             use crate::$build::models::*;
 
-            fn error_model(word: u64) -> ErrorModel {
+            pub fn error_model(word: u64) -> ErrorModel {
                 if word == 0 {
                     ErrorModel::FreeSingletonWeibull
                 } else {
@@ -28,7 +28,7 @@ macro_rules! side {
                 }
             }
 
-            fn genome_model(word: u64) -> GenomeModel {
+            pub fn genome_model(word: u64) -> GenomeModel {
                 if word == 0 {
                     GenomeModel::NegativeBinomial
                 } else {
