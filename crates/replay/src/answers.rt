@@ -110,6 +110,28 @@ fn wholes_agree(ours: &[u64], words: &[u64]) -> bool
     true
 }
 
+fn wide(n: u32) -> u64
+    ensures { λ r. ⌜ r ≡ n ⌝ }
+{
+    n as u64
+}
+
+pub(crate) fn bins_agree(ours: &[u32], words: &[u64]) -> bool
+    ensures { λ r. ⌜ (r ≡ true → WholesAgree (now (ours .entry)) (now (words .entry))) ⌝ }
+{
+    if ours.len() != words.len() {
+        return false;
+    }
+    let mut i = 0;
+    while i < ours.len() {
+        if wide(ours[i]) != words[i] {
+            return false;
+        }
+        i += 1;
+    }
+    true
+}
+
 pub(crate) fn floats_agree(ours: &[f64], words: &[u64]) -> bool
     ensures { λ r. ⌜ (r ≡ true → FloatsAgree (now (ours .entry)) (now (words .entry))) ⌝ }
 {

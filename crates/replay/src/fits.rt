@@ -38,7 +38,7 @@ pub(crate) const ERROR_MODE: u64 = 70;
 pub(crate) const COMPONENT_HEIGHTS: u64 = 71;
 
 // 33 words.
-fn fit(w: &[u64]) -> SpectrumFit {
+pub(crate) fn fit(w: &[u64]) -> SpectrumFit {
     let error_params = ErrorParams {
         singleton_probability: number(w, 12),
         tail_exponent: number(w, 13),

@@ -30,7 +30,7 @@ pub(crate) const COST: u64 = 64;
 pub(crate) const UNPACK: u64 = 65;
 
 // The first n words at the front of `bins`, or as many as fit; how many.
-fn fill_bins(words: &[u64], n: usize, bins: &mut [u32]) -> usize
+pub(crate) fn fill_bins(words: &[u64], n: usize, bins: &mut [u32]) -> usize
     ensures { λ r. ⌜ Counts r (now (bins .exit)) ⌝ }
 {
     let end = least(n, bins.len());
@@ -43,7 +43,7 @@ fn fill_bins(words: &[u64], n: usize, bins: &mut [u32]) -> usize
 }
 
 // An answer of n words, and the table behind them.
-fn both_agree(a: Answer, n: usize, table: &[f64], words: &[u64]) -> bool {
+pub(crate) fn both_agree(a: Answer, n: usize, table: &[f64], words: &[u64]) -> bool {
     if !agrees(a, first(words, n)) {
         return false;
     }
@@ -52,7 +52,7 @@ fn both_agree(a: Answer, n: usize, table: &[f64], words: &[u64]) -> bool {
 
 // ---- a table of a shelf's logarithms
 
-fn written(answer: Written) -> Answer {
+pub(crate) fn written(answer: Written) -> Answer {
     match answer {
         Written::Items(n) => small(0, 2, 0, n as u64, 0, 0.0, 0.0, 0.0),
         Written::Refused(n) => small(0, 2, n as u64, 0, 0, 0.0, 0.0, 0.0),

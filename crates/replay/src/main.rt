@@ -1,6 +1,7 @@
 // Replays the sample of the oracle's answers on standard input, and says how many rows it read and how many the port
 // answers otherwise.
 mod answers;
+mod attempts;
 mod fits;
 mod layer1;
 mod layer2;
@@ -10,11 +11,14 @@ mod row;
 mod rows;
 mod shapes;
 mod slices;
+mod spectra;
+mod starts;
 mod words;
 
 use libc::STDIN_FILENO;
 use libc::STDOUT_FILENO;
 use rows::Replay;
+use words::MOST;
 
 // One read, and each byte of it taken in turn; whether to go on.
 fn read_some(words: &mut [u64], replay: Replay) -> Replay {
@@ -35,7 +39,7 @@ fn read_all(words: &mut [u64]) -> Replay {
 }
 
 fn main() {
-    let mut words = [0u64; 128];
+    let mut words = [0u64; MOST];
     let replay = read_all(&mut words);
     io::print_decimal(STDOUT_FILENO, replay.rows);
     io::write_all(STDOUT_FILENO, b" rows, ");

@@ -1,8 +1,8 @@
 // A row is a line of hexadecimal words with a space between: the call's number, its arguments, its answer. A line that
-// starts
-// with # is a comment.
+// starts with # is a comment.
 use crate::answers::Answer;
 use crate::answers::agrees;
+use crate::attempts;
 use crate::fits;
 use crate::layer1;
 use crate::layer2;
@@ -11,11 +11,12 @@ use crate::lent;
 use crate::row;
 use crate::row::Row;
 use crate::slices;
+use crate::spectra;
+use crate::starts;
 use crate::words::digit;
 
 // Where the replay stands: the word of the row that is being read, whether the row is a comment or has a byte that no
-// row has, the
-// rows and the differences so far, and whether there may be more to read.
+// row has, the rows and the differences so far, and whether there may be more to read.
 pub(crate) struct Replay {
     pub place: usize,
     pub comment: bool,
@@ -59,6 +60,9 @@ fn holds(row: &[u64]) -> bool {
         fits::COMPONENT_TOTAL_RATIO..=fits::COMPONENT_HEIGHTS => {
             agrees(fits::answer(call, row), row)
         }
+        spectra::RECOVER_BINS | spectra::EMPIRICAL_SHELF_SHARE => spectra::holds(r, row),
+        starts::START_TABLES_REFUSAL..=starts::FIT_STARTS_LENT => starts::holds(r, row),
+        attempts::VALIDATE_FIT..=attempts::SELECT_FIT => attempts::holds(call, row),
         _ => agrees(answer(r), row),
     }
 }
