@@ -1,5 +1,6 @@
 //! Layer 4 against spectrum_fitter.rs, with the port's four routines in it, and against document 01's validator.
 
+pub mod read_back;
 mod selection;
 mod spectra;
 mod starts;

@@ -72,6 +72,9 @@ fn compare(calls: &[Call], part: u64) -> bool {
         println!("## How often a cost is infinite\n\n{table}");
         faults.extend(apart);
     }
+    if part == 1 && calls.iter().any(|call| call.name == "fit_starts") {
+        println!("## How a start reads back\n\n{}", layer4::read_back::table());
+    }
     println!("## Each stratum\n\n{}", tally.comparison_table());
     println!("## Each stratum against the unaltered Rust\n\n{}", tally.distance_table());
     for fault in &faults {

@@ -76,7 +76,7 @@ impl Search {
 
     // ---- drawing
 
-    fn of(d: &mut Draw, error: u8, genome: u8, tables: bool) -> Search {
+    pub fn of(d: &mut Draw, error: u8, genome: u8, tables: bool) -> Search {
         let hint = if d.one_in(4) { d.between(-3.0, 3.0) } else { d.between(1.0, 30.0) };
         let lent = tables.then(|| [likely_table(d, false), likely_table(d, true)]);
         let seeds = (0..d.below(4)).map(|_| 1.0 + d.octaves(-3, 5)).collect();
