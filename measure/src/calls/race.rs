@@ -1,0 +1,74 @@
+//! Two programs over the same inputs, by turns, in slices of processor time.
+
+/// A run has so many slices of each side, each of about so many nanoseconds: what else the machine does then slows both alike.
+const SLICES: usize = 100;
+const SLICE: f64 = 1e6;
+pub const RUNS: usize = 9;
+
+#[repr(C)]
+struct Time {
+    seconds: i64,
+    nanoseconds: i64,
+}
+
+extern "C" {
+    fn clock_gettime(clock: i32, time: *mut Time) -> i32;
+}
+
+/// Nanoseconds of processor time of this thread.
+fn thread_time() -> f64 {
+    const THREAD: i32 = 3;
+    let mut time = Time { seconds: 0, nanoseconds: 0 };
+    let status = unsafe { clock_gettime(THREAD, &mut time) };
+    assert!(status == 0);
+    time.seconds as f64 * 1e9 + time.nanoseconds as f64
+}
+
+/// Work on the input of a number.
+pub type Side<'a> = &'a mut dyn FnMut(usize);
+
+fn slice(side: Side, inputs: impl Iterator<Item = usize>) -> f64 {
+    let start = thread_time();
+    for i in inputs {
+        side(i);
+    }
+    thread_time() - start
+}
+
+/// Nanoseconds for an input, medians of the runs, and the median, the least and the largest of their ratios.
+pub struct Times {
+    pub ours: f64,
+    pub theirs: f64,
+    pub ratio: f64,
+    pub least: f64,
+    pub largest: f64,
+}
+
+fn sorted(mut values: Vec<f64>) -> Vec<f64> {
+    values.sort_by(f64::total_cmp);
+    values
+}
+
+/// The sums of both sides over a run; the side that begins changes from slice to slice.
+fn run(inputs: usize, slices: usize, batch: usize, ours: Side, theirs: Side) -> [f64; 2] {
+    let mut times = [0.0; 2];
+    for s in 0..slices {
+        let chosen = (s * batch..(s + 1) * batch).map(|i| i % inputs);
+        for turn in 0..2 {
+            let side = (s + turn) % 2;
+            times[side] += slice(if side == 0 { &mut *ours } else { &mut *theirs }, chosen.clone());
+        }
+    }
+    times
+}
+
+pub fn race(inputs: usize, divisor: usize, ours: Side, theirs: Side) -> Times {
+    slice(ours, 0..inputs);
+    let each = slice(theirs, 0..inputs) / inputs as f64;
+    let batch = (SLICE / each).ceil() as usize;
+    let slices = (SLICES / divisor).max(2);
+    let runs: Vec<[f64; 2]> = (0..RUNS).map(|_| run(inputs, slices, batch, ours, theirs)).collect();
+    let each = |side: usize| sorted(runs.iter().map(|t| t[side] / (slices * batch) as f64).collect())[RUNS / 2];
+    let ratios = sorted(runs.iter().map(|t| t[0] / t[1]).collect());
+    Times { ours: each(0), theirs: each(1), ratio: ratios[RUNS / 2], least: ratios[0], largest: ratios[RUNS - 1] }
+}

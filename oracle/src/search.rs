@@ -1,0 +1,133 @@
+//! The points that Nelder and Mead's search visits, from the starts of spectrum_fitter.rs.
+
+use crate::draw::Draw;
+use crate::layer3::Problem;
+use crate::port;
+use crate::spectra;
+
+/// A tail exponent, the singletons' probability, a shape.
+const WEIBULL: [(f64, f64, f64); 3] = [(1.5, 0.8, 0.05), (2.5, 0.9, 0.5), (2.0, 0.95, 1.0)];
+const PARETO: [(f64, f64, f64); 2] = [(1.5, 0.8, 0.0), (2.5, 0.95, 0.0)];
+const DISPERSIONS: [f64; 3] = [2.0, 8.0, 15.0];
+const RATIO: f64 = 1.9;
+const SHAPES: [(f64, f64); 2] = [(0.5, 3.0), (0.75, 4.0)];
+
+/// How far each point of the first simplex is from the start, and the costs' spread at which the search ends.
+const STEP: f64 = 0.5;
+const SPREAD: f64 = 1e-4;
+
+fn logit(p: f64) -> f64 {
+    port::ln(p / (1.0 - p))
+}
+
+/// One of a configuration's starts, with a hint of the dispersion and a shelf share as a histogram may give them.
+pub fn start(d: &mut Draw, p: &Problem) -> Vec<f64> {
+    let hint = d.between(1.1, 6.0);
+    let dispersion = d.pick(&[DISPERSIONS[0], DISPERSIONS[1], DISPERSIONS[2], hint]);
+    let (exponent, singletons, shape) = if p.weibull() { d.pick(&WEIBULL) } else { d.pick(&PARETO) };
+    let mut start = vec![0.0, -3.0, 0.0, port::ln(dispersion - 1.0), port::ln(exponent), logit(singletons)];
+    if p.weibull() {
+        start.push(port::ln(shape));
+    }
+    start.push(logit((RATIO - 1.5) / 0.5));
+    if p.with_shelf() {
+        let (share, (retained, concentration)) = (d.between(0.01, 0.4), d.pick(&SHAPES));
+        let (low, high) = (1.0 / retained, 20.0);
+        start.extend([logit(share / 0.5), logit((retained - 0.3) / 0.7), logit((concentration - low) / (high - low))]);
+    }
+    start
+}
+
+/// A simulated spectrum with its peak at a sixth of the window, and a start over it.
+pub fn problem(d: &mut Draw, error: u8, genome: u8, window_end: u64) -> Problem {
+    let peak = window_end / 6;
+    let bins = spectra::simulated(d, peak, window_end + 1);
+    let table = vec![0.0; window_end as usize + 1];
+    let mut p = Problem { scale: 1.0, window_end, peak, error, genome, theta: vec![], bins, table };
+    p.theta = start(d, &p);
+    p
+}
+
+type Point = (f64, Vec<f64>);
+
+struct Simplex<F> {
+    cost: F,
+    points: Vec<Point>,
+    visited: Vec<Point>,
+}
+
+impl<F: FnMut(&[f64]) -> f64> Simplex<F> {
+    fn visit(&mut self, point: Vec<f64>) -> Point {
+        let visited = ((self.cost)(&point), point);
+        self.visited.push(visited.clone());
+        visited
+    }
+
+    /// On the line from the centre through the worst point: 1 is the point itself.
+    fn along(&mut self, centre: &[f64], by: f64) -> Point {
+        let worst = &self.points[self.points.len() - 1].1;
+        let point = centre.iter().zip(worst).map(|(c, x)| c + by * (x - c)).collect();
+        self.visit(point)
+    }
+
+    fn centre(&self) -> Vec<f64> {
+        let others = &self.points[..self.points.len() - 1];
+        let mean = |i: usize| others.iter().map(|(_, x)| x[i]).sum::<f64>() / others.len() as f64;
+        (0..others.len()).map(mean).collect()
+    }
+
+    fn shrink(&mut self) {
+        let best = self.points[0].1.clone();
+        for i in 1..self.points.len() {
+            let half = self.points[i].1.iter().zip(&best).map(|(x, b)| b + 0.5 * (x - b)).collect();
+            self.points[i] = self.visit(half);
+        }
+    }
+
+    fn step(&mut self) {
+        self.points.sort_by(|a, b| a.0.total_cmp(&b.0));
+        let last = self.points.len() - 1;
+        let (best, second, worst) = (self.points[0].0, self.points[last - 1].0, self.points[last].0);
+        let centre = self.centre();
+        let reflected = self.along(&centre, -1.0);
+        if reflected.0 < best {
+            let expanded = self.along(&centre, -2.0);
+            self.points[last] = if expanded.0 < reflected.0 { expanded } else { reflected };
+        } else if reflected.0 < second {
+            self.points[last] = reflected;
+        } else {
+            let outside = reflected.0 < worst;
+            let contracted = self.along(&centre, if outside { -0.5 } else { 0.5 });
+            if contracted.0 < reflected.0.min(worst) {
+                self.points[last] = contracted;
+            } else {
+                self.shrink();
+            }
+        }
+    }
+
+    /// The standard deviation of the costs.
+    fn spread(&self) -> f64 {
+        let n = self.points.len() as f64;
+        let mean = self.points.iter().map(|p| p.0).sum::<f64>() / n;
+        (self.points.iter().map(|p| (p.0 - mean) * (p.0 - mean)).sum::<f64>() / n).sqrt()
+    }
+}
+
+/// Every point that the search from `start` asks the cost of, in order, with the cost: to its end, or the first so many.
+pub fn path(start: &[f64], most: usize, cost: impl FnMut(&[f64]) -> f64) -> Vec<Point> {
+    let mut simplex = Simplex { cost, points: vec![], visited: vec![] };
+    for i in 0..=start.len() {
+        let mut point = start.to_vec();
+        if i > 0 {
+            point[i - 1] += STEP;
+        }
+        let point = simplex.visit(point);
+        simplex.points.push(point);
+    }
+    while simplex.visited.len() < most && !(simplex.spread() < SPREAD) {
+        simplex.step();
+    }
+    simplex.visited.truncate(most);
+    simplex.visited
+}
