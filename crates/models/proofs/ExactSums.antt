@@ -130,7 +130,7 @@ module _ (p : ℕ → Float) (held : (k : ℕ) → T (fits binary64 (p k))) (cei
   signed (suc n) h =
       ap (λ (z : ℤ). z +ℤ exactly (p n)) (signed n (le-of-lt h))
       ∙ ap (λ (z : ℤ). pos (unitsBelow p n) +ℤ z)
-          (exactly-units (p n) (probable-held (p n) (held n) (between n (le-of-suc-le-suc h))))
+      (exactly-units (p n) (probable-held (p n) (held n) (between n (le-of-suc-le-suc h))))
       ∙ pos-+ℤ-pos (unitsBelow p n) (unitsOf (p n))
 
   module _ (allowed : Float) (F : T (fits binary64 allowed)) (K : T (finite allowed)) (n : ℕ) (h : n ≤ suc ceiling) where

@@ -53,7 +53,11 @@ fn ceiling(mean: f64, end: u16) -> u16
     ensures { λ r. ⌜ r ≡ ceilingTo mean end ⌝ }
 {
     let rounded = to_u64(round(mean));
-    if rounded < (end as u64) { rounded as u16 } else { end }
+    if rounded < (end as u64) {
+        rounded as u16
+    } else {
+        end
+    }
 }
 
 fn hole_walk(fit: SpectrumFit, budget: f64) -> CutoffPart
@@ -62,7 +66,13 @@ fn hole_walk(fit: SpectrumFit, budget: f64) -> CutoffPart
 {
     let shelf = fit.shelf;
     let top = ceiling(fit.mean, fit.fit_window_end as u16);
-    walk(fit.mean, fit.dispersion, shelf, budget / fit.genome_kmers, top)
+    walk(
+        fit.mean,
+        fit.dispersion,
+        shelf,
+        budget / fit.genome_kmers,
+        top,
+    )
 }
 
 // What the walk's guarantee asks besides that it starts.

@@ -18,8 +18,7 @@ same-length c = search needs
 returns : tie.Need-returns
 returns c =
     let call = c .before .before .before in
-    let fit = call .before .before in
-    (
+    let fit = call .before .before in (
       rw (c .flat-written .ensures, call .component-heights-to .ensures .0, fit .fit-of .ensures),
       rw (call .component-heights-to .ensures .1, fit .fit-of .ensures),
     )

@@ -81,9 +81,9 @@ loop-again c =
       l .loop .inv .0,
       l .loop .inv .1
           ∙ walk-goes (single s) (s .args .allowed) (s .args .ceiling) k (l .loop .cdf) (omega arith)
-              (tested sum _ (c .if1 .left))
+          (tested sum _ (c .if1 .left))
           ∙ ap (λ (x : Float). walkFrom (single s) (s .args .allowed) (s .args .ceiling - (k + 1)) (k + 1) (l .loop .cdf ⊕ x))
-              (sym (sum .probability2 .ensures)),
+          (sym (sum .probability2 .ensures)),
     )
 
 returns-2 : tie.Need-returns-2 Inv-loop μ-loop
