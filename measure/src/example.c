@@ -1,89 +1,169 @@
-/* A few answers of the library, as a C program sees them. */
+/*
+ * From a histogram file to a fit and its cutoff, by the C interface alone.
+ * Usage: example FILE VALLEY PEAK. Prints each step. Exits 1 if something is refused or no fit is valid.
+ *
+ * The library has no search of its own yet, so a small one stands here: each number of a list is moved up and down by a step, what lowers the
+ * cost is kept, and the step is halved where nothing does.
+ */
 #include "fogatise.h"
 #include <stdio.h>
+#include <stdlib.h>
 
-static void show(const char *call, fog_number answer) {
-    if (answer.number)
-        printf("%-46s refused, number %u\n", call, answer.number);
-    else
-        printf("%-46s %.17g\n", call, answer.value);
+enum { MOST_BINS = 2047, MOST_BYTES = 10238, MOST_NUMBERS = 11, SEEDS = 2, SHAPES = 1, MOST_STARTS = 9 };
+
+typedef struct {
+    uint32_t bins[MOST_BINS];
+    size_t length, window_end, valley, peak;
+    double scale;
+} spectrum;
+
+/* A configuration: an error family and a genome family. */
+typedef struct {
+    uint8_t error, genome;
+    const char *name;
+} families;
+
+static const families configurations[4] = {
+    {FOG_FREE_SINGLETON_WEIBULL, FOG_NEGATIVE_BINOMIAL, "Weibull"},
+    {FOG_FREE_SINGLETON_WEIBULL, FOG_SHELF_NEGATIVE_BINOMIAL, "Weibull with shelf"},
+    {FOG_SINGLETON_PARETO, FOG_NEGATIVE_BINOMIAL, "Pareto"},
+    {FOG_SINGLETON_PARETO, FOG_SHELF_NEGATIVE_BINOMIAL, "Pareto with shelf"},
+};
+
+/* The shelf table is built here in every cost. */
+static double table[MOST_BINS + 1];
+
+static void refused(const char *call, unsigned number) {
+    fprintf(stderr, "example: %s is refused, number %u\n", call, number);
+    exit(1);
 }
 
-/* A spectrum with an error tail, a peak at 25 and a small one at 50. */
-static void spectrum(uint32_t *bins, size_t length) {
-    for (size_t i = 0; i < length; i++) {
-        const double count = (double)(i + 1);
-        const double lobes = fog_exp(fog_ln_dnbinom(count, 25.0, 2.0)) + 0.1 * fog_exp(fog_ln_dnbinom(count, 50.0, 2.0));
-        bins[i] = (uint32_t)(200000.0 / (count * count * count) + 50000.0 * lobes);
+/* ---- the spectrum */
+
+static void read_spectrum(const char *name, spectrum *s) {
+    static uint8_t bytes[MOST_BYTES];
+    FILE *file = fopen(name, "rb");
+    if (!file) {
+        perror(name);
+        exit(1);
     }
+    const size_t length = fread(bytes, 1, sizeof bytes, file);
+    fclose(file);
+    const fog_file read = fog_read_histogram(bytes, length, s->bins, MOST_BINS);
+    if (read.number) {
+        fprintf(stderr, "example: %s is refused, number %u at %zu\n", name, read.number, read.place);
+        exit(1);
+    }
+    s->length = s->window_end = read.items;
+    s->scale = 1.0;
+    printf("%zu bins, valley %zu, peak %zu, window end %zu\n", s->length, s->valley, s->peak, s->window_end);
 }
 
-/* The cost of a list with a shelf, and the fit that it is. */
-static void fit(void) {
-    uint32_t bins[80];
-    double table[71];
-    const double theta[11] = {-1.0, -3.0, 0.0, 0.0, 0.7, 1.5, -0.7, 0.5, -2.0, 0.0, 0.0};
-    const size_t length = fog_list_length(FOG_FREE_SINGLETON_WEIBULL, FOG_SHELF_NEGATIVE_BINOMIAL);
-
-    spectrum(bins, 80);
-    const fog_number cost = fog_cost(bins, 80, 1.0, 70, 25, FOG_FREE_SINGLETON_WEIBULL, FOG_SHELF_NEGATIVE_BINOMIAL, theta, length, table, 71);
-    show("cost, Weibull with shelf, window end 70", cost);
-    show("cost, a list one short",
-         fog_cost(bins, 80, 1.0, 70, 25, FOG_FREE_SINGLETON_WEIBULL, FOG_SHELF_NEGATIVE_BINOMIAL, theta, length - 1, table, 71));
-
-    const fog_fit_answer answer = fog_unpack(bins, 80, 1.0, 70, 25, FOG_FREE_SINGLETON_WEIBULL, FOG_SHELF_NEGATIVE_BINOMIAL, theta, length,
-                                             cost.value, 120, table, 71);
-    const fog_heights heights = fog_component_heights(answer.fit, 20);
-    printf("%-46s %u, mean %.17g, BIC %.17g, deviance %.17g\n", "unpack", answer.number, answer.fit.mean, answer.fit.bic,
-           answer.fit.deviance);
-    printf("%-46s %llu, %llu and %llu\n", "modes: error, single-copy, repeat", (unsigned long long)fog_error_mode(answer.fit).count,
-           (unsigned long long)fog_primary_mode(answer.fit), (unsigned long long)fog_repeat_mode(answer.fit));
-    printf("%-46s %.17g, %.17g and %.17g\n", "heights at 20", heights.error, heights.single, heights.repeat);
+static double cost(const spectrum *s, families f, const double *theta) {
+    const fog_number answer = fog_cost(s->bins, s->length, s->scale, s->window_end, s->peak, f.error, f.genome, theta,
+                                       fog_list_length(f.error, f.genome), table, MOST_BINS + 1);
+    if (answer.number) refused("fog_cost", answer.number);
+    return answer.value;
 }
 
-/* A histogram as a file, the bins of the file again, and a file that breaks off. */
-static void file(void) {
-    const uint32_t bins[3] = {300, 0, 5};
-    uint32_t again[3];
-    uint8_t bytes[16];
+/* ---- the search */
 
-    const fog_written written = fog_write_histogram(bins, 3, bytes, 16);
-    printf("%-46s %u, %zu bytes:", "write_histogram(300, 0, 5)", written.number, written.items);
-    for (size_t i = 0; i < written.items; i++) printf(" %02x", bytes[i]);
-    const fog_file read = fog_read_histogram(bytes, written.items, again, 3);
-    printf("\n%-46s %u, %zu bins: %u, %u and %u\n", "read_histogram", read.number, read.items, again[0], again[1], again[2]);
-    const fog_file broken = fog_read_histogram(bytes, written.items - 1, again, 3);
-    printf("%-46s refused, number %u at %zu\n", "read_histogram, a byte short", broken.number, broken.place);
+/* Moves one number of the list, and keeps the better of the two moves where it is below the cost. */
+static double moved(const spectrum *s, families f, double *theta, size_t i, double step, double now) {
+    const double held = theta[i];
+    theta[i] = held + step;
+    const double up = cost(s, f, theta);
+    if (up < now) return up;
+    theta[i] = held - step;
+    const double down = cost(s, f, theta);
+    if (down < now) return down;
+    theta[i] = held;
+    return now;
 }
 
-int main(void) {
-    double table[64];
-    const fog_shelf shelf = {0.1, 2.0, 3.0};
-    const fog_shelf none = {0.0, 0.0, 0.0};
+static double searched(const spectrum *s, families f, double *theta, uint64_t *rounds) {
+    double now = cost(s, f, theta);
+    for (double step = 0.5; step > 1e-3;) {
+        const double before = now;
+        for (size_t i = 0; i < fog_list_length(f.error, f.genome); i++) now = moved(s, f, theta, i, step, now);
+        if (!(now < before)) step *= 0.5;
+        ++*rounds;
+    }
+    return now;
+}
 
-    printf("%-46s %.17g\n", "exp(1)", fog_exp(1.0));
-    printf("%-46s %.17g\n", "ln(2)", fog_ln(2.0));
-    printf("%-46s %.17g\n", "expm1(1e-9)", fog_expm1(1e-9));
-    printf("%-46s %.17g\n", "lgamma(10.5)", fog_lgamma(10.5));
-    printf("%-46s %.17g\n", "ln_dnbinom(20, 25, 2)", fog_ln_dnbinom(20.0, 25.0, 2.0));
-    printf("%-46s %.17g\n", "ln_dbetabinom(3, 25, 2, 3)", fog_ln_dbetabinom(3.0, 25.0, 2.0, 3.0));
-    printf("%-46s %.17g\n", "ln_single_copy(20, 25, 2), no shelf", fog_ln_single_copy(20.0, 25.0, 2.0, 0, none));
-    printf("%-46s %.17g\n", "ln_single_copy(20, 25, 2), a shelf", fog_ln_single_copy(20.0, 25.0, 2.0, 1, shelf));
-    printf("%-46s %llu\n", "discrete_nb_mode(25, 2)", (unsigned long long)fog_discrete_nb_mode(25.0, 2.0));
-    printf("%-46s %.17g\n", "shelf_trials(24.5)", fog_shelf_trials(24.5));
+/* ---- one configuration: every start, from two dispersions and a hint, the list of lowest cost as a fit, and what the validator says of it */
 
-    fog_written written = fog_shelf_log_table(25.0, shelf, 60, table, 64);
-    printf("%-46s %u, %zu entries, the last %.17g\n", "shelf_log_table(25, to 60), room 64", written.number, written.items,
-           table[written.items - 1]);
-    printf("%-46s %.17g\n", "mix_single_copy(-3, 20)", fog_mix_single_copy(-3.0, 20.0, 1, shelf, table, written.items));
-    show("single_copy_log_mass(25, 2, a shelf, to 60)",
-         fog_single_copy_log_mass(25.0, 2.0, 1, shelf, table, written.items, 60));
-    show("log_nb_mass(25, 2, to 60)", fog_log_nb_mass(25.0, 2.0, 60));
-    show("log_nb_mass(25, 2, to 0)", fog_log_nb_mass(25.0, 2.0, 0));
-    show("log_nb_mass(25, 2, to 65536)", fog_log_nb_mass(25.0, 2.0, 65536));
-    written = fog_shelf_log_table(25.0, shelf, 60, table, 25);
-    printf("%-46s refused, number %u\n", "shelf_log_table(25, to 60), room 25", written.number);
-    fit();
-    file();
+static fog_attempt attempt(const spectrum *s, families f, double share) {
+    const double seeds[SEEDS] = {1.5, 3.0}, shapes[2 * SHAPES] = {0.6, 5.0};
+    double starts[MOST_STARTS * MOST_NUMBERS], *best = NULL;
+    const size_t numbers = fog_list_length(f.error, f.genome);
+    const fog_written written = fog_fit_starts(f.error, f.genome, seeds, SEEDS, 2.0, share, shapes, 2 * SHAPES, starts,
+                                               MOST_STARTS * MOST_NUMBERS);
+    if (written.number) refused("fog_fit_starts", written.number);
+
+    double lowest = 0.0;
+    uint64_t rounds = 0;
+    for (double *theta = starts; theta < starts + written.items; theta += numbers) {
+        const double found = searched(s, f, theta, &rounds);
+        if (!best || found < lowest) best = theta, lowest = found;
+    }
+    const fog_fit_answer answer = fog_unpack(s->bins, s->length, s->scale, s->window_end, s->peak, f.error, f.genome, best, numbers, lowest,
+                                             rounds, table, MOST_BINS + 1);
+    if (answer.number) refused("fog_unpack", answer.number);
+    const fog_verdict verdict = fog_validate_fit(answer.fit, s->valley, s->peak, 2.0);
+    if (verdict.number) refused("fog_validate_fit", verdict.number);
+    printf("%-18s  %zu starts, cost %.3f, BIC %.3f, ", f.name, written.items / numbers, lowest, answer.fit.bic);
+    if (verdict.reason)
+        printf("rejected by rule %u\n", verdict.reason);
+    else
+        puts("valid");
+    fflush(stdout);
+    return (fog_attempt){f.error, f.genome, 1, answer.fit, verdict.reason != 0, verdict.reason, rounds, 0};
+}
+
+static void show(const fog_fit *fit) {
+    const fog_heights heights = fog_component_heights(*fit, (size_t)fog_primary_mode(*fit));
+    printf("weights             errors %.4f, single copies %.4f, repeats %.4f\n", fit->w_error, fit->w_single, fit->w_repeat);
+    printf("single-copy lobe    mean %.3f, dispersion %.3f, mode %llu\n", fit->mean, fit->dispersion,
+           (unsigned long long)fog_primary_mode(*fit));
+    printf("repeat lobe         %.3f times the mean, mode %llu\n", fit->repeat_ratio, (unsigned long long)fog_repeat_mode(*fit));
+    printf("k-mers              genome %.0f, errors %.0f, repeats %.0f\n", fit->genome_kmers, fit->error_kmers, fit->repeat_kmers);
+    printf("heights at the mode errors %.1f, single copies %.1f, repeats %.1f\n", heights.error, heights.single, heights.repeat);
+}
+
+static void show_cutoff(const fog_fit *fit, double budget) {
+    const fog_sure_cutoff hole = fog_hole_cutoff_sure(*fit, budget);
+    if (hole.number) refused("fog_hole_cutoff_sure", hole.number);
+    if (hole.cutoff)
+        printf("hole cutoff         %u for a budget of %.0f k-mers, %s\n", hole.cutoff, budget, hole.sure ? "sure" : "not sure");
+    else
+        printf("hole cutoff         none for a budget of %.0f k-mers\n", budget);
+}
+
+int main(int count, char **words) {
+    static spectrum s;
+    if (count != 4) {
+        fputs("usage: example FILE VALLEY PEAK\n", stderr);
+        return 1;
+    }
+    s.valley = strtoul(words[2], NULL, 10);
+    s.peak = strtoul(words[3], NULL, 10);
+    read_spectrum(words[1], &s);
+
+    const fog_number share = fog_empirical_shelf_share(s.bins, s.length, s.scale, s.valley, s.peak);
+    if (share.number) refused("fog_empirical_shelf_share", share.number);
+    printf("shelf share         %.4f\n", share.value);
+
+    fog_attempt attempts[4];
+    for (size_t i = 0; i < 4; i++) attempts[i] = attempt(&s, configurations[i], share.value);
+    const fog_selected chosen = fog_select_fit(attempts[0], attempts[1], attempts[2], attempts[3]);
+    if (!chosen.found) {
+        puts("no fit is valid");
+        return 1;
+    }
+    show(&chosen.fit);
+    show_cutoff(&chosen.fit, 100.0);
+    show_cutoff(&chosen.fit, 1000.0);
     return 0;
 }
