@@ -2,14 +2,14 @@
 -- nothing.
 use Prim.Native.Nat.{ℕ, _+_, _-_, _*_, _/_, _^_, _≤_, _<_, min}
 use mathlib.Core.Path.{_≡_, refl, subst}
-use mathlib.Core.Bool.{Bool, true, false, not, _||_, true≢false, false≢true}
+use mathlib.Core.Bool.{Bool, true, false, not, _||_, false≢true}
 use native.Mathlib.Nat.{mul-pos, zero-lt-suc, le-div-iff-mul-le}
 use native.Mathlib.Omega.{arith}
 use borrow.Author.Tests.{ltb-false}
 use lib.IntN.{pos}
 use lib.Dec.{T, ltb, eqb, eqb→eq}
 use lib.Ieee.{Float, nan, inf, fin, binary64, up, down, ofBits, lt, le, eq, round, toUnsigned}
-use lib.Ieee.Fits.{down-pos, and-l, and-r}
+use lib.Ieee.Fits.{down-pos, and-r}
 use lib.Ieee.Order.{round-mono}
 use lib.Ieee.Scale.{finite}
 use Rattle.routines.specs.Constants.{two, zero as nought}
@@ -43,7 +43,9 @@ cut (fin true m e) h =
   where
     none : (d : ℕ) → 0 < d → 1 * 2 * d ≡ 0 → ⊥
     none d D e = omega arith
-cut (fin false m e) h = twice (m * up e) (down e) (down-pos e) (less (m * up e) (down e) (or-le (1 * 2 * down e) (m * up e * 1) h))
+cut (fin false m e) h =
+    twice (m * up e) (down e) (down-pos e)
+    (less (m * up e) (down e) (or-le (1 * 2 * down e) (m * up e * 1) h))
   where
     less : (a d : ℕ) → 1 * 2 * d ≤ a * 1 → 2 * d ≤ a
     less a d h = omega arith

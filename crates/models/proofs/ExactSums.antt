@@ -5,7 +5,7 @@ use mathlib.Core.Path.{_≡_, refl, sym, ap, _∙_, subst}
 use mathlib.Core.Bool.{Bool, true, false, not, false≢true}
 use native.Mathlib.Nat.{le-trans, le-of-eq, le-of-lt, le-of-suc-le-suc, mul-assoc, mul-pos, zero-lt-suc}
 use native.Mathlib.Omega.{arith}
-use lib.IntN.{ℤ, pos, negℤ, _+ℤ_, _*ℤ_, pos-+ℤ-pos, pos-*ℤ-pos, negsuc-*ℤ-pos}
+use lib.IntN.{ℤ, pos, negℤ, _+ℤ_, _*ℤ_, pos-+ℤ-pos, negsuc-*ℤ-pos}
 use lib.Signed.{_≤ℤ_, _<ℤ_}
 use lib.Dec.{T, ltb, ltb→lt, lt→ltb, le→leb, nltb→le}
 use lib.Pow.{pow-pos}
@@ -83,8 +83,8 @@ negative-below (fin false m x) S F K e = absurd (false≢true e)
 negative-below (fin true m x) S F K e =
     negative-times (unitsOf (fin true m x)) (2 ^ 36) S
     (some-units (m * up x * 2 ^ low binary64) (unitsOf (fin true m x)) (down x)
-    (mul-pos (mul-pos (ltb→lt 0 m (yes e)) (up-pos x)) (pow-pos (low binary64))) (has-units binary64 (fin true m x) F tt))
-    (pow-pos 36)
+    (mul-pos (mul-pos (ltb→lt 0 m (yes e)) (up-pos x)) (pow-pos (low binary64)))
+    (has-units binary64 (fin true m x) F tt)) (pow-pos 36)
 
 -- ---- the sums
 -- p 0 + .. + p (n - 1) in units
@@ -133,7 +133,8 @@ module _ (p : ℕ → Float) (held : (k : ℕ) → T (fits binary64 (p k))) (cei
       (exactly-units (p n) (probable-held (p n) (held n) (between n (le-of-suc-le-suc h))))
       ∙ pos-+ℤ-pos (unitsBelow p n) (unitsOf (p n))
 
-  module _ (allowed : Float) (F : T (fits binary64 allowed)) (K : T (finite allowed)) (n : ℕ) (h : n ≤ suc ceiling) where
+  module _ (allowed : Float) (F : T (fits binary64 allowed)) (K : T (finite allowed)) (n : ℕ)
+      (h : n ≤ suc ceiling) where
     pub at-most : T (not (negative allowed)) → unitsBelow p n * 2 ^ 36 ≤ unitsOf allowed * (2 ^ 36 + 1)
         → AtMost (sumBelow p n) (exactly allowed)
     at-most s l =

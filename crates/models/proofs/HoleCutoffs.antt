@@ -1,5 +1,5 @@
--- DEMAND 3, of the call: `hole-cutoff-keeps`, to be read beside the owner's sentence with specs/ClaimsCutoff.antt. And of
--- `hole_cutoff_sure`: it tells the same cutoff (`told-same`), it is sure exactly where demand 3's premise holds
+-- DEMAND 3, of the call: `hole-cutoff-keeps`, to be read beside the owner's sentence with specs/ClaimsCutoff.antt. And
+-- of `hole_cutoff_sure`: it tells the same cutoff (`told-same`), it is sure exactly where demand 3's premise holds
 -- (`sure-supposed`, `supposed-sure`), and where it is sure demand 3 holds without a premise (`sure-keeps`).
 -- Assumes nothing.
 use Prim.Native.Nat.{ℕ, suc, _≤_, suc-le-suc}
@@ -13,7 +13,7 @@ use lib.Ieee.{Float, binary64}
 use lib.Ieee.Bits.{is-true}
 use lib.Ieee.Fits.{and-l, and-r, div-fits}
 use lib.Ieee.Scale.{finite}
-use Rattle.meaning.specs.Reply.{Reply, give, chain, firstOf, unless}
+use Rattle.meaning.specs.Reply.{give, firstOf, unless}
 use Rattle.meaning.specs.Rows.{most, windowTests}
 use Rattle.meaning.proofs.Chains.{chain-passed, gave-passed}
 use Rattle.meaning.proofs.Replies.{gave-answer}
@@ -21,9 +21,9 @@ use Rattle.meaning.proofs.Rows.{window-passed}
 use Rattle.routines.proofs.Shapes.{exp-fits}
 use Rattle.routines.proofs.Tests.{yes}
 use Rattle.models.specs.ClaimsCutoff.{Supposed, Keeps, toldOf}
-use Rattle.models.specs.Cutoffs.{singleAt, walkStarts, allowedOf, ceilingOf, holeWalkOf, holeCutoffOf, sureOf, Sureness, sure, notSure}
-use Rattle.models.specs.Cutoffs.{noWalk, sureness, holeCutoffSureOf}
-use Rattle.models.specs.Walk.{allProbable, probable}
+use Rattle.models.specs.Cutoffs.{singleAt, walkStarts, allowedOf, ceilingOf, holeWalkOf, holeCutoffOf}
+use Rattle.models.specs.Cutoffs.{sureOf, Sureness, sure, noWalk, sureness, holeCutoffSureOf}
+use Rattle.models.specs.Walk.{allProbable}
 use Rattle.models.specs.declared.fit.SpectrumFit.{SpectrumFit}
 use Rattle.models.proofs.Ceilings.{ceiling-two, ceiling-end}
 use Rattle.models.proofs.Removed.{Says, walk-keeps}
@@ -56,9 +56,12 @@ module _ (fit : SpectrumFit) (budget : Float) where
   -- a cutoff is 2 at least, and the ceiling at most
   pub hole-cutoff-range : (c : ℕ) → holeCutoffOf fit budget ≡ give (some c) → (2 ≤ c) × (c ≤ ceilingOf fit)
   unfolding holeCutoffOf holeWalkOf
-  hole-cutoff-range c gave = go (walkStarts fit) refl (gave-answer (cond (walkStarts fit) (holeWalkOf fit budget) none) (some c) (windowTests (fit .«fit_window_end»)) gave)
+  hole-cutoff-range c gave =
+      go (walkStarts fit) refl
+      (gave-answer (cond (walkStarts fit) (holeWalkOf fit budget) none) (some c) (windowTests (fit .«fit_window_end»)) gave)
     where
-      go : (b : Bool) → walkStarts fit ≡ b → cond b (holeWalkOf fit budget) none ≡ some c → (2 ≤ c) × (c ≤ ceilingOf fit)
+      go : (b : Bool) → walkStarts fit ≡ b → cond b (holeWalkOf fit budget) none ≡ some c
+          → (2 ≤ c) × (c ≤ ceilingOf fit)
       go true e same = answer-range (singleAt fit) (allowedOf fit budget) (ceilingOf fit) (ceiling-two fit e) c same
       go false e same = let z : _≡_ {A = ℕ} 0 1 = cc in absurd (omega arith)
 
@@ -75,7 +78,8 @@ module _ (fit : SpectrumFit) (budget : Float) where
   told-same = go (ltb most (fit .«fit_window_end»)) (eqb (fit .«fit_window_end») 0) (walkStarts fit) (sureOf fit budget)
     where
       go : (many none starts s : Bool)
-          → toldOf (unless many 2 (unless none 5 (give (answered starts s)))) ≡ unless many 2 (unless none 5 (give (walked starts)))
+          → toldOf (unless many 2 (unless none 5 (give (answered starts s))))
+          ≡ unless many 2 (unless none 5 (give (walked starts)))
       go true n b s = refl
       go false true b s = refl
       go false false true true = refl
@@ -101,8 +105,8 @@ module _ (fit : SpectrumFit) (budget : Float) where
         starts = t .0;
         share = is-true share (and-l share all (yes (t .1)));
         between =
-            λ (k : ℕ) (h : k ≤ ceilingOf fit). all-each p (suc (ceilingOf fit)) (is-true all (and-r share all (yes (t .1)))) k
-            (suc-le-suc h);
+            λ (k : ℕ) (h : k ≤ ceilingOf fit). all-each p (suc (ceilingOf fit))
+            (is-true all (and-r share all (yes (t .1)))) k (suc-le-suc h);
       }
 
   pub supposed-sure : Supposed fit budget → 0 ≡ firstOf (windowTests (fit .«fit_window_end»))
@@ -115,7 +119,8 @@ module _ (fit : SpectrumFit) (budget : Float) where
       (λ (k : ℕ) (h : suc k ≤ suc (ceilingOf fit)). s .between k (le-of-suc-le-suc h)) in
       chain-passed (give (answered (walkStarts fit) (sureOf fit budget))) (windowTests end) refl passed
       ∙ ap give (ap (λ (b : Bool). answered b (sureOf fit budget)) (s .starts)
-      ∙ ap (λ (b : Bool). answered true b) (ap (λ (b : Bool). b && allProbable p (suc (ceilingOf fit))) (s .share) ∙ all))
+      ∙ ap (λ (b : Bool). answered true b)
+      (ap (λ (b : Bool). b && allProbable p (suc (ceilingOf fit))) (s .share) ∙ all))
 
   -- THE THEOREM, without a premise
   pub sure-keeps : (answer : Option ℕ) → holeCutoffSureOf fit budget ≡ give (sure answer)

@@ -1,7 +1,7 @@
--- What a walk over probabilities from 0 to 2 answers, against their exact sums (`walk-keeps`), by the sharper bound on the
--- f64 sum (`running-near`): after k additions it is off by at most k / 2 ^ 53 of itself. Assumes nothing.
+-- What a walk over probabilities from 0 to 2 answers, against their exact sums (`walk-keeps`), by the sharper bound on
+-- the f64 sum (`running-near`): after k additions it is off by at most k / 2 ^ 53 of itself. Assumes nothing.
 use Prim.Native.Nat.{ℕ, zero, suc, _+_, _-_, _*_, _^_, _≤_, _<_, max, suc-le-suc}
-use mathlib.Core.Path.{_≡_, refl, sym, ap, _∙_, subst}
+use mathlib.Core.Path.{_≡_, sym, subst}
 use mathlib.Core.Bool.{Bool, true, false, not, cond}
 use mathlib.Core.Option.{Option, none, some}
 use native.Mathlib.Nat.{le-trans, le-of-eq, le-of-lt, le-suc, lt-of-lt-of-le, mul-le-mul-right}
@@ -11,15 +11,15 @@ use lib.Pow.{pow-pos}
 use lib.Ieee.{Float, binary64, low, lt, fits}
 use lib.Ieee.Scale.{finite, overflow}
 use Rattle.routines.specs.Ops.{_⊕_}
-use Rattle.routines.specs.Units.{unitsOf, negative, NonNegative, Within, Near}
+use Rattle.routines.specs.Units.{unitsOf, negative, NonNegative, Near}
 use Rattle.routines.proofs.Compared.{lt-units, ge-units}
 use Rattle.routines.proofs.RunningSum.{near-start, near-step, near-within, near-beyond, near-room}
 use Rattle.routines.proofs.Sums.{sum-within, sum-grows}
 use Rattle.routines.proofs.Values.{holds-units}
 use Rattle.models.specs.ClaimsCutoff.{exactly, sumBelow, running, Sharp, AtMost, Exceeds}
 use Rattle.models.specs.Walk.{walkFrom, walkOf, probable}
-use Rattle.models.proofs.ExactSums.{probable-held, probable-bounded, exactly-units, pos-le, unitsBelow, below-suc, below-one, up-to-answer}
-use Rattle.models.proofs.ExactSums.{below-bounded, signed, at-most, exceeds}
+use Rattle.models.proofs.ExactSums.{probable-held, probable-bounded, exactly-units, pos-le, unitsBelow, below-suc}
+use Rattle.models.proofs.ExactSums.{below-one, up-to-answer, below-bounded, signed, at-most, exceeds}
 
 roomy : 2 ^ 20 * 2 ^ low binary64 ≤ overflow binary64
 roomy = lit≤ tt
@@ -94,7 +94,8 @@ module _ (p : ℕ → Float) (held : (k : ℕ) → T (fits binary64 (p k))) (cei
       sum : Summed k cdf
       passed : 1 ≤ k → T (not (negative allowed)) × (unitsOf cdf ≤ unitsOf allowed)
 
-    within : (k : ℕ) (cdf : Float) → suc k ≤ ceiling → 1 ≤ k → Reached k cdf → AtMost (sumBelow p (suc k)) (exactly allowed)
+    within : (k : ℕ) (cdf : Float) → suc k ≤ ceiling → 1 ≤ k → Reached k cdf
+        → AtMost (sumBelow p (suc k)) (exactly allowed)
     within k cdf h one r =
         at-most p held ceiling between allowed F K (suc k) (le-trans h (le-suc ceiling)) (r .passed one .0)
         (near-within k (unitsOf cdf) (unitsBelow p (suc k)) (unitsOf allowed) (le-trans (le-of-lt h) top) (r .sum .near)
@@ -151,7 +152,8 @@ module _ (p : ℕ → Float) (held : (k : ℕ) → T (fits binary64 (p k))) (cei
       where
         go : (b : Bool) → (T b → Says p allowed ceiling (some (max (suc k) 2)))
             → (T (not b) → Says p allowed ceiling (walkFrom p allowed left (suc (suc k)) (cdf ⊕ p (suc k))))
-            → Says p allowed ceiling (cond b (some (max (suc k) 2)) (walkFrom p allowed left (suc (suc k)) (cdf ⊕ p (suc k))))
+            → Says p allowed ceiling
+            (cond b (some (max (suc k) 2)) (walkFrom p allowed left (suc (suc k)) (cdf ⊕ p (suc k))))
         go true u v = u tt
         go false u v = v tt
 

@@ -1,23 +1,26 @@
 -- The walk and the test of its probabilities, step by step: the laws that their loops cite. Assumes nothing.
 use Prim.Native.Nat.{ℕ, zero, suc, _+_, _-_, _*_, _≤_, _<_, max}
-use mathlib.Core.Path.{_≡_, refl, sym, ap, _∙_}
+use mathlib.Core.Path.{_≡_, refl, sym, ap, _∙_, fun-ext}
 use mathlib.Core.Bool.{Bool, true, false, _&&_, cond, true≢false, false≢true}
 use mathlib.Core.Logic.{inl, inr}
-use mathlib.Core.Option.{Option, none, some}
+use mathlib.Core.Option.{none, some}
 use native.Mathlib.Nat.{eq-or-lt-of-le, le-of-suc-le-suc, not-suc-le-zero, zero-lt-suc}
 use native.Mathlib.Numerals.{add-one}
 use native.Mathlib.Omega.{arith}
-use lib.IntN.{pos}
-use lib.Ieee.{Float, nan, inf, fin, binary64, up, down, ofBits, lt, le}
+use lib.Ieee.{Float, nan, inf, fin, up, down, ofBits, lt, le}
 use lib.Ieee.Bits.{is-true}
 use lib.Ieee.Fits.{down-pos}
 use lib.Ieee.Order.{le-of-values}
 use Rattle.routines.specs.Constants.{two, zero as nought}
 use Rattle.routines.specs.Exp.{expOf}
-use Rattle.routines.specs.Ops.{_⊕_}
+use Rattle.routines.specs.Ops.{_⊕_, ofCount}
 use Rattle.routines.specs.Signs.{signClear}
 use Rattle.routines.proofs.AnnexF.{exp-clear}
-use Rattle.models.specs.Walk.{walkFrom, walkOf, probable, allProbable}
+use Rattle.helpers.specs.SingleCopies.{singleCopyOf}
+use Rattle.helpers.specs.declared.shelves.ShelfPart.{ShelfPart}
+use Rattle.helpers.proofs.SingleCopies.{single-density-is}
+use Rattle.models.specs.Hoists.{probabilityOf}
+use Rattle.models.specs.Walk.{singleOf, walkFrom, walkOf, probable, allProbable}
 
 -- ---- the walk
 one-left : (n c : ℕ) → c < n → n - c ≡ suc (n - (c + 1))
@@ -38,7 +41,8 @@ module _ (p : ℕ → Float) (allowed : Float) (n : ℕ) where
 
     -- one step, by the test of the sum through c
     stepped : c < n → (b : Bool) → lt allowed (cdf ⊕ p c) ≡ b
-        → walkFrom p allowed (n - c) c cdf ≡ cond b (some (max c 2)) (walkFrom p allowed (n - (c + 1)) (c + 1) (cdf ⊕ p c))
+        → walkFrom p allowed (n - c) c cdf
+        ≡ cond b (some (max c 2)) (walkFrom p allowed (n - (c + 1)) (c + 1) (cdf ⊕ p c))
     unfolding walkFrom
     stepped h b t =
         ap (λ (k : ℕ). walkFrom p allowed k c cdf) (one-left n c h)
@@ -53,7 +57,8 @@ module _ (p : ℕ → Float) (allowed : Float) (n : ℕ) where
     walk-goes h t = stepped h false t
 
   -- ---- every cutoff is 2 at least, and the ceiling at most where that is 2 or more
-  walk-range : (left c : ℕ) (cdf : Float) (r : ℕ) → walkFrom p allowed left c cdf ≡ some r → (2 ≤ r) × (r ≤ max (c + left) 2)
+  walk-range : (left c : ℕ) (cdf : Float) (r : ℕ) → walkFrom p allowed left c cdf ≡ some r
+      → (2 ≤ r) × (r ≤ max (c + left) 2)
   unfolding walkFrom
   walk-range zero c cdf r e = let z : _≡_ {A = ℕ} 0 1 = cc in absurd (omega arith)
   walk-range (suc left) c cdf r e =
@@ -73,6 +78,12 @@ module _ (p : ℕ → Float) (allowed : Float) (n : ℕ) where
       let w = walk-range (n - 1) 1 (p 0) r (sym walk-starts ∙ e) in
       let l : r ≤ max (1 + (n - 1)) 2 = w .1 in
       (w .0, omega arith)
+
+-- ---- the probabilities, with what does not change worked out before
+pub probability-is : (mean dispersion : Float) (shelf : ShelfPart)
+    → probabilityOf (singleCopyOf mean dispersion shelf) ≡ singleOf mean dispersion shelf
+probability-is mean dispersion shelf =
+    fun-ext (λ (c : ℕ). ap expOf (single-density-is (ofCount c) mean dispersion shelf))
 
 -- ---- the test of the probabilities
 -- what is not negative lies between 0 and 2 where it is at most 2

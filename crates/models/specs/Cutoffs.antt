@@ -29,7 +29,8 @@ singleAt fit = singleOf (fit .mean) (fit .dispersion) (fit .shelf)
 
 unfoldable pub walkStarts : SpectrumFit → Bool
 walkStarts fit =
-    not (le (fit .«genome_kmers») nought || not (finite (fit .mean)) || lt (fit .mean) two || ltb (fit .«fit_window_end») 2)
+    not
+    (le (fit .«genome_kmers») nought || not (finite (fit .mean)) || lt (fit .mean) two || ltb (fit .«fit_window_end») 2)
 
 abbrev pub allowedOf : SpectrumFit → Float → Float
 allowedOf fit budget = budget ⊘ fit .«genome_kmers»

@@ -9,6 +9,7 @@ use crate::fit::SpectrumFit;
 use crate::walk::CutoffPart;
 use crate::walk::all_probable;
 use crate::walk::walk;
+use helpers::single_copies::single_copy_of;
 use meaning::limits::MOST;
 use routines::casts::to_u64;
 use routines::pick::is_finite;
@@ -65,14 +66,9 @@ fn hole_walk(fit: SpectrumFit, budget: f64) -> CutoffPart
     ensures { λ r. ⌜ partSays r ≡ holeWalkOf fit budget ⌝ }
 {
     let shelf = fit.shelf;
+    let single = single_copy_of(fit.mean, fit.dispersion, shelf);
     let top = ceiling(fit.mean, fit.fit_window_end as u16);
-    walk(
-        fit.mean,
-        fit.dispersion,
-        shelf,
-        budget / fit.genome_kmers,
-        top,
-    )
+    walk(single, budget / fit.genome_kmers, top)
 }
 
 // What the walk's guarantee asks besides that it starts.
@@ -84,8 +80,9 @@ fn is_sure(fit: SpectrumFit, budget: f64) -> bool
     if !is_finite(budget / fit.genome_kmers) {
         return false;
     }
+    let single = single_copy_of(fit.mean, fit.dispersion, shelf);
     let top = ceiling(fit.mean, fit.fit_window_end as u16);
-    all_probable(fit.mean, fit.dispersion, shelf, top)
+    all_probable(single, top)
 }
 
 // The largest cutoff that removes at most `budget` of the genome's k-mers by the fit, and 2 at least; none where each

@@ -2,14 +2,14 @@
 -- within 2 ^ -53 of its result of the exact sum, and is no less than either; and a comparison of values that are not
 -- negative is that of their units.
 -- Assumes nothing.
-use mathlib.Core.Path.{_≡_, refl, sym, ap, _∙_, subst}
+use mathlib.Core.Path.{_≡_, sym, ap, _∙_, subst}
 use mathlib.Core.Logic.{_↔_}
 use mathlib.Core.Bool.{false}
 use Prim.Native.Nat.{ℕ, _+_, _*_, _^_, _≤_, _<_}
 use native.Mathlib.Nat.{eq-of-mul-eq-mul-right, mul-le-mul-right}
 use native.Mathlib.Omega.{arith}
 use lib.Dec.{T}
-use lib.Ieee.{Float, nan, inf, fin, Format, binary64, low, up, down, round, add, lt, le}
+use lib.Ieee.{Float, nan, inf, fin, Format, binary64, low, down, round, add, lt, le}
 use lib.Ieee.Exact.{round-exact}
 use lib.Ieee.Fits.{add-fits, down-pos}
 use lib.Ieee.Order.{round-mono}

@@ -3,8 +3,11 @@ use mathlib.Core.Path.{sym, ap, _∙_}
 use Prim.Native.Nat.{ℕ, suc}
 use borrow.Author.Needs.{needs}
 use borrow.Author.Tests.{not-true, not-false}
+use lib.Ieee.{Float}
+use Rattle.models.specs.Hoists.{probabilityOf}
 use Rattle.models.specs.Walk.{allProbable}
 use Rattle.models.specs.Cutoffs.{singleAt, sureOf}
+use Rattle.models.proofs.Walks.{probability-is}
 use Rattle.models.proofs.cutoffs.is_sure.Statement.{statement}
 use Rattle.models.proofs.cutoffs.is_sure.Tie as tie
 
@@ -14,6 +17,9 @@ is-finite-requires c κs = search needs
 returns : tie.Need-returns
 unfolding sureOf
 returns c = rw (sym (c .before .is-finite .ensures) ∙ not-true _ (c .if1 .taken))
+
+single-copy-of-requires : tie.Need-single-copy-of-requires
+single-copy-of-requires c κs = search needs
 
 cast-ceiling : tie.Need-cast-ceiling
 cast-ceiling c = search needs
@@ -28,11 +34,23 @@ returns-2 : tie.Need-returns-2
 unfolding sureOf
 returns-2 c =
     let top = c .before in
-    let finite = top .before .before in
+    let single = top .before .before in
+    let finite = single .before in
     let a = finite .before .before .before .args in
     rw (sym (finite .before .is-finite .ensures) ∙ not-false _ (finite .if1 .left))
-    (c .all-probable .ensures ∙ ap (λ (n : ℕ). allProbable (singleAt (a .fit)) (suc n)) (top .ceiling .ensures))
+    (c .all-probable .ensures
+    ∙ ap (λ (p : ℕ → Float). allProbable p (suc (top .ceiling .result)))
+        (ap probabilityOf (single .single-copy-of .ensures) ∙ probability-is (a .fit .mean) (a .fit .dispersion) (a .fit .shelf))
+    ∙ ap (λ (n : ℕ). allProbable (singleAt (a .fit)) (suc n)) (top .ceiling .ensures))
 
 pub is-sure-spec : {M : Type 1} → statement M
 is-sure-spec =
-    tie.close (tie.spec is-finite-requires returns cast-ceiling ceiling-requires all-probable-requires returns-2)
+    tie.close
+    (tie.spec
+    is-finite-requires
+    returns
+    single-copy-of-requires
+    cast-ceiling
+    ceiling-requires
+    all-probable-requires
+    returns-2)
