@@ -22,8 +22,7 @@ pub enum Cutoff {
     Refused(u8),
 }
 
-// A cutoff or none from a walk whose sums are proved near the exact ones, or from one that need not be near; no walk; or
-// the number.
+// What the walk answered, where its guarantee is known to hold and where it is not; no walk; or the number.
 pub enum SureCutoff {
     Sure(CutoffPart),
     NotSure(CutoffPart),
@@ -71,7 +70,7 @@ fn hole_walk(fit: SpectrumFit, budget: f64) -> CutoffPart
     walk(single, budget / fit.genome_kmers, top)
 }
 
-// What the walk's guarantee asks besides that it starts.
+// What the guarantee asks besides that the walk starts.
 fn is_sure(fit: SpectrumFit, budget: f64) -> bool
     requires { ⌜ (fit .«fit_window_end») ≤ 65535 ⌝ }
     ensures { λ r. ⌜ r ≡ sureOf fit budget ⌝ }
@@ -107,7 +106,9 @@ pub fn hole_cutoff(fit: SpectrumFit, budget: f64) -> Cutoff
     }
 }
 
-// The same cutoff, and whether the guarantee holds of it: it holds without further premise where the answer is sure.
+// The same cutoff, and whether it is sure: then, in exact arithmetic on the probabilities, 3 or more remove at most the
+// allowed share, the sum through any cutoff exceeds it, and with none the sum below the ceiling is at most it, each up to
+// one part in 2^36.
 pub fn hole_cutoff_sure(fit: SpectrumFit, budget: f64) -> SureCutoff
     ensures { λ r. ⌜ sureSays r ≡ holeCutoffSureOf fit budget ⌝ }
 {

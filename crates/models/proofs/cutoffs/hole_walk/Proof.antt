@@ -31,7 +31,7 @@ returns c =
     let share = allowedOf (a .fit) (a .budget) in
     c .walk .ensures
     ∙ ap (λ (p : ℕ → Float). walkOf p share (top .ceiling .result))
-        (ap probabilityOf (single .single-copy-of .ensures) ∙ probability-is (a .fit .mean) (a .fit .dispersion) (a .fit .shelf))
+    (ap probabilityOf (single .single-copy-of .ensures) ∙ probability-is (a .fit .mean) (a .fit .dispersion) (a .fit .shelf))
     ∙ ap (walkOf (singleAt (a .fit)) share) (top .ceiling .ensures)
 
 pub hole-walk-spec : {M : Type 1} → statement M

@@ -40,7 +40,7 @@ returns-2 c =
     rw (sym (finite .before .is-finite .ensures) ∙ not-false _ (finite .if1 .left))
     (c .all-probable .ensures
     ∙ ap (λ (p : ℕ → Float). allProbable p (suc (top .ceiling .result)))
-        (ap probabilityOf (single .single-copy-of .ensures) ∙ probability-is (a .fit .mean) (a .fit .dispersion) (a .fit .shelf))
+    (ap probabilityOf (single .single-copy-of .ensures) ∙ probability-is (a .fit .mean) (a .fit .dispersion) (a .fit .shelf))
     ∙ ap (λ (n : ℕ). allProbable (singleAt (a .fit)) (suc n)) (top .ceiling .ensures))
 
 pub is-sure-spec : {M : Type 1} → statement M

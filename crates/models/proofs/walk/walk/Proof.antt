@@ -71,7 +71,7 @@ loop-again c =
     l .loop .inv
     ∙ walk-goes p (a .allowed) (a .ceiling) k (l .loop .cdf) (omega arith) (tested sum _ (c .if1 .left))
     ∙ ap (λ (x : Float). walkFrom p (a .allowed) (a .ceiling - (k + 1)) (k + 1) (l .loop .cdf ⊕ x))
-        (sym (sum .probability2 .ensures))
+    (sym (sum .probability2 .ensures))
 
 returns-2 : tie.Need-returns-2 Inv-loop μ-loop
 returns-2 c =
