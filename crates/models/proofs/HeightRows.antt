@@ -49,8 +49,3 @@ rows-more h n held now x p l e =
     ∙ stored (heightRows h n) held (3 * n) (x .error) (x .single) (x .repeat) (rows-length h n) l
     ∙ ap (λ (y : Heights). over (heightRows h n ++ heightRow y) held) (e ∙ ap h (add-one n))
     ∙ ap (λ (k : ℕ). over (heightRows h k) held) (sym (add-one n))
-
-pub rows-same : (f g : ℕ → Heights) → ((k : ℕ) → f k ≡ g k) → (n : ℕ) → heightRows f n ≡ heightRows g n
-unfolding heightRows
-rows-same f g e zero = refl
-rows-same f g e (suc n) = rw (rows-same f g e n, e (suc n))

@@ -22,5 +22,8 @@ pub mod Ceilings
 pub mod ExactSums
 pub mod Removed
 pub mod HoleCutoffs
+pub mod HeightCutoffs
+pub mod Crossings
+pub mod Floors
 pub mod Cases
 pub mod Says

@@ -1,6 +1,7 @@
 -- Answers of this layer that say the same are the same. Assumes nothing.
 use mathlib.Core.Path.{_≡_, ap}
 use Rattle.models.specs.Cutoffs.{cutoffSays, sureSays}
+use Rattle.models.specs.HeightCutoffs.{floorSays}
 use Rattle.models.specs.Heights.{heightsSays}
 use Rattle.models.specs.Params.{paramsSays}
 use Rattle.models.specs.Walk.{partSays}
@@ -8,6 +9,8 @@ use Rattle.models.specs.declared.cutoffs.Cutoff.{Cutoff}
 use Rattle.models.specs.declared.cutoffs.Cutoff.the-variants.{At, Nothing, Refused}
 use Rattle.models.specs.declared.cutoffs.SureCutoff.{SureCutoff}
 use Rattle.models.specs.declared.cutoffs.SureCutoff.the-variants as surely
+use Rattle.models.specs.declared.height_cutoffs.FloorAnswer.{FloorAnswer}
+use Rattle.models.specs.declared.height_cutoffs.FloorAnswer.the-variants as floors
 use Rattle.models.specs.declared.heights.HeightsAnswer.{HeightsAnswer}
 use Rattle.models.specs.declared.heights.HeightsAnswer.the-variants as heights
 use Rattle.models.specs.declared.params.ParamsAnswer.{ParamsAnswer}
@@ -61,3 +64,9 @@ sure-same (surely.Refused n) (surely.Sure d) e = cc
 sure-same (surely.Refused n) (surely.NotSure d) e = cc
 sure-same (surely.Refused n) surely.NoWalk e = cc
 sure-same (surely.Refused n) (surely.Refused m) e = cc
+
+pub floor-same : (a b : FloorAnswer) → floorSays a ≡ floorSays b → a ≡ b
+floor-same (floors.At c) (floors.At d) e = cc
+floor-same (floors.At c) (floors.Refused n) e = cc
+floor-same (floors.Refused n) (floors.At d) e = cc
+floor-same (floors.Refused n) (floors.Refused m) e = cc

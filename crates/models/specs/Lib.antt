@@ -19,5 +19,7 @@ pub mod Deviances
 pub mod Unpacking
 pub mod Walk
 pub mod Cutoffs
+pub mod HeightCutoffs
 pub mod Claims
 pub mod ClaimsCutoff
+pub mod ClaimsHeights

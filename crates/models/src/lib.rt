@@ -6,6 +6,7 @@ pub mod deviances;
 pub mod errors;
 pub mod families;
 pub mod fit;
+pub mod height_cutoffs;
 pub mod height_rows;
 pub mod height_terms;
 pub mod heights;

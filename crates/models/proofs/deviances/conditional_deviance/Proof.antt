@@ -1,15 +1,13 @@
 -- `models::deviances::conditional_deviance` meets its contract. Assumes nothing.
-use mathlib.Core.Path.{_≡_, refl, ap, _∙_}
+use mathlib.Core.Path.{_≡_, refl, ap, _∙_, fun-ext}
 use mathlib.Core.List.{List}
-use Prim.Native.Nat.{ℕ, _+_, _-_, _≤_, _<_, zero-le}
+use Prim.Native.Nat.{ℕ, _+_, _-_}
 use native.Mathlib.Omega.{arith}
 use lib.Ieee.{Float, neg, ofBits}
-use Rattle.meaning.specs.Fold.{fold}
-use Rattle.meaning.proofs.Folds.{fold-same}
 use Rattle.meaning.proofs.Loops.{Folded, begins, goes-on, ends}
 use Rattle.routines.specs.Constants.{zero}
 use Rattle.routines.specs.Ops.{ofCount}
-use Rattle.models.specs.Deviances.{expectedOf, devianceTerm, devianceAt, devianceOf}
+use Rattle.models.specs.Deviances.{expectedOf, devianceTerm, devianceOf}
 use Rattle.models.specs.HeightTerms.{heightTermsOf, heightsOf}
 use Rattle.models.specs.Spectra.{observedStep, overObserved, seenTerm}
 use Rattle.models.specs.declared.fit.SpectrumFit.{SpectrumFit}
@@ -24,13 +22,10 @@ abbrev termFrom : HeightTerms → Float → ℕ → ℕ → Float
 termFrom t scale n i = devianceTerm (ofCount n) (expectedOf (heightsOf t (ofCount (i + 1))) scale)
 
 from-terms : (bins : List ℕ) (scale : Float) (top : ℕ) (fit : SpectrumFit)
-    → fold (observedStep bins scale (termFrom (heightTermsOf fit) scale)) 0 top (neg zero)
-    ≡ devianceOf bins scale top fit
-unfolding devianceOf overObserved
+    → overObserved bins scale top (termFrom (heightTermsOf fit) scale) ≡ devianceOf bins scale top fit
+unfolding devianceOf
 from-terms bins scale top fit =
-    fold-same (observedStep bins scale (termFrom (heightTermsOf fit) scale))
-    (observedStep bins scale (devianceAt fit scale)) 0 top (neg zero) zero-le
-    (λ (k : ℕ) (x : Float) (l : 0 ≤ k) (h : k < top). rw (terms-heights))
+    ap (overObserved bins scale top) (fun-ext (λ (n : ℕ). fun-ext (λ (i : ℕ). rw (terms-heights))))
 
 abbrev Inv-loop : tie.InvT-loop
 Inv-loop bins scale top t total₀ i₀ total i =
@@ -78,6 +73,7 @@ loop-again c =
     (c .before .recovered-at .ensures))
 
 returns : tie.Need-returns Inv-loop μ-loop
+unfolding overObserved
 returns c =
     let at = c .before in
     ends _ _ _ _ (at .loop .inv) (omega arith)

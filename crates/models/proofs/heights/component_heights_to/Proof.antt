@@ -1,6 +1,6 @@
 -- `models::heights::component_heights_to` meets its contract. Assumes nothing.
 use Prim.Native.Nat.{ℕ}
-use mathlib.Core.Path.{_≡_, sym, ap, _∙_}
+use mathlib.Core.Path.{_≡_, sym, ap, _∙_, fun-ext}
 use mathlib.Core.List.{List}
 use native.Mathlib.Omega.{arith}
 use borrow.Author.Tests.{lt-ltb, le-ltb}
@@ -12,7 +12,8 @@ use Rattle.models.specs.Heights.{heightsAt, heightRows, heightsToOf}
 use Rattle.models.specs.HeightTerms.{heightTermsOf, heightsOf}
 use Rattle.models.specs.declared.fit.SpectrumFit.{SpectrumFit}
 use Rattle.models.specs.declared.height_terms.HeightTerms.{HeightTerms}
-use Rattle.models.proofs.HeightRows.{rows-length, rows-same}
+use Rattle.models.specs.declared.heights.Heights.{Heights}
+use Rattle.models.proofs.HeightRows.{rows-length}
 use Rattle.models.proofs.HeightTerms.{terms-heights}
 use borrow.Author.Needs.{needs}
 use Rattle.models.proofs.heights.component_heights_to.Statement.{statement}
@@ -21,7 +22,8 @@ use Rattle.models.proofs.heights.component_heights_to.Tie as tie
 -- the rows from the terms of a fit are the fit's
 rows-of : (fit : SpectrumFit) (t : HeightTerms) → t ≡ heightTermsOf fit → (n : ℕ)
     → heightRows (λ (k : ℕ). heightsOf t (ofCount k)) n ≡ heightRows (λ (k : ℕ). heightsAt fit (ofCount k)) n
-rows-of fit t e = rows-same _ _ (λ (k : ℕ). rw (e) (terms-heights fit (ofCount k)))
+rows-of fit t e n =
+    ap (λ (f : ℕ → Heights). heightRows f n) (fun-ext (λ (k : ℕ). rw (e) (terms-heights fit (ofCount k))))
 
 returns : tie.Need-returns
 unfolding heightsToOf
