@@ -46,8 +46,8 @@ returns-3 c =
     let terms = mode .before in
     let some = terms .before in
     let last =
-        floor-of-terms (some .before .before .args .fit) _ (terms .height-terms .ensures) _ _ _ _ _ (mode .primary-mode .ensures)
-        (place .from-u64 .ensures) (reference .single-height .ensures) (c .before .last-bad .ensures) in
+    floor-of-terms (some .before .before .args .fit) _ (terms .height-terms .ensures) _ _ _ _ _ (mode .primary-mode .ensures)
+    (place .from-u64 .ensures) (reference .single-height .ensures) (c .before .last-bad .ensures) in
     simp (le-ltb _ _ (some .before .if1 .left), ne-eqb _ _ (some .if2 .left)) (ap give (c .floor-behind .ensures ∙ ap floorOf last))
 
 pub error-floor-cutoff-spec : {M : Type 1} → statement M

@@ -67,13 +67,12 @@ loop-again c =
     let start = test .before .before .before .before in
     let a = start .args in
     let few : turn .i + 1 ≤ 65535 = omega (arith, test .loop-test .taken, start .fits) in
-    let survives = next-survival (turn .i + 1) few _ _ _ (next .survival-with .ensures) (next .before .ln .ensures) in
-    (
+    let survives = next-survival (turn .i + 1) few _ _ _ (next .survival-with .ensures) (next .before .ln .ensures) in (
       survives,
       goes-on _ _ _ _ (turn .inv .1) _ (omega arith)
-      (c .later-bad .ensures
-      ∙ ap (λ (x : Float). laterBad (a .reference) x (turn .i + 1) (turn .last))
-      (error .error-height-from .ensures ∙ error-from-is (turn .i + 1) few _ _ (a .t) (turn .inv .0) survives)),
+          (c .later-bad .ensures
+          ∙ ap (λ (x : Float). laterBad (a .reference) x (turn .i + 1) (turn .last))
+          (error .error-height-from .ensures ∙ error-from-is (turn .i + 1) few _ _ (a .t) (turn .inv .0) survives)),
     )
 
 returns : tie.Need-returns Inv-loop μ-loop
