@@ -20,7 +20,7 @@ use Rattle.meaning.proofs.Replies.{gave-answer}
 use Rattle.meaning.proofs.Rows.{window-passed}
 use Rattle.routines.proofs.Shapes.{exp-fits}
 use Rattle.routines.proofs.Tests.{yes}
-use Rattle.models.specs.ClaimsCutoff.{Supposed, Keeps, toldOf}
+use Rattle.models.specs.ClaimsCutoff.{Supposed, Keeps, Demanded, DemandedSure, toldOf}
 use Rattle.models.specs.Cutoffs.{singleAt, walkStarts, allowedOf, ceilingOf, holeWalkOf, holeCutoffOf}
 use Rattle.models.specs.Cutoffs.{sureOf, Sureness, sure, noWalk, sureness, holeCutoffSureOf}
 use Rattle.models.specs.Walk.{allProbable}
@@ -31,9 +31,8 @@ use Rattle.models.proofs.Walks.{answer-range, all-each, each-all}
 
 module _ (fit : SpectrumFit) (budget : Float) where
   -- ---- THE THEOREM
-  -- `holeCutoffOf fit budget` is what `hole_cutoff(fit, budget)` answers, by its contract
-  pub hole-cutoff-keeps : Supposed fit budget → (answer : Option ℕ) → holeCutoffOf fit budget ≡ give answer
-      → Keeps fit budget answer
+  -- `holeCutoffOf fit budget` is what `hole_cutoff(fit, budget)` answers, by its contract, which cites this too
+  pub hole-cutoff-keeps : Demanded fit budget (holeCutoffOf fit budget)
   unfolding holeCutoffOf holeWalkOf
   hole-cutoff-keeps s answer gave =
       let p = singleAt fit in
@@ -123,8 +122,7 @@ module _ (fit : SpectrumFit) (budget : Float) where
       (ap (λ (b : Bool). b && allProbable p (suc (ceilingOf fit))) (s .share) ∙ all))
 
   -- THE THEOREM, without a premise
-  pub sure-keeps : (answer : Option ℕ) → holeCutoffSureOf fit budget ≡ give (sure answer)
-      → (holeCutoffOf fit budget ≡ give answer) × Keeps fit budget answer
+  pub sure-keeps : DemandedSure fit budget (holeCutoffSureOf fit budget)
   sure-keeps answer gave =
       let same : holeCutoffOf fit budget ≡ give answer = sym told-same ∙ ap toldOf gave in
       (same, hole-cutoff-keeps (sure-supposed answer gave) answer same)

@@ -13,7 +13,8 @@ use lib.Ieee.Scale.{finite}
 use Rattle.meaning.specs.Reply.{Reply, refuse, broken, give}
 use Rattle.routines.specs.Ops.{_⊕_}
 use Rattle.routines.specs.Units.{unitsOf}
-use Rattle.models.specs.Cutoffs.{singleAt, walkStarts, allowedOf, ceilingOf, Sureness, sure, notSure, noWalk}
+use Rattle.models.specs.Cutoffs.{singleAt, walkStarts, allowedOf, ceilingOf, holeCutoffOf}
+use Rattle.models.specs.Cutoffs.{Sureness, sure, notSure, noWalk}
 use Rattle.models.specs.Walk.{probable}
 use Rattle.models.specs.declared.fit.SpectrumFit.{SpectrumFit}
 
@@ -59,6 +60,15 @@ pub record Keeps (fit : SpectrumFit) (budget : Float) (answer : Option ℕ) : Ty
   pub removes : (c : ℕ) → answer ≡ some c → 3 ≤ c → AtMost (removedBy fit c) (allowedShare fit budget)
   pub reaches : (c : ℕ) → answer ≡ some c → Exceeds (removedBy fit (suc c)) (allowedShare fit budget)
   pub stays : answer ≡ none → AtMost (removedBy fit (ceilingOf fit)) (allowedShare fit budget)
+
+-- of a reply to `hole_cutoff`
+abbrev pub Demanded : SpectrumFit → Float → Reply (Option ℕ) → Type 0
+Demanded fit budget reply = Supposed fit budget → (answer : Option ℕ) → reply ≡ give answer → Keeps fit budget answer
+
+-- of a reply to `hole_cutoff_sure`: where it is sure nothing is supposed, and the cutoff is the hole cutoff
+abbrev pub DemandedSure : SpectrumFit → Float → Reply Sureness → Type 0
+DemandedSure fit budget reply =
+    (answer : Option ℕ) → reply ≡ give (sure answer) → (holeCutoffOf fit budget ≡ give answer) × Keeps fit budget answer
 
 -- ---- the sharper bound behind it
 -- the f64 sum of p 0 to p k, after k additions

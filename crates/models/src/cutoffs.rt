@@ -4,6 +4,7 @@
 ghost use mathlib.Core.Path.{_≡_};
 ghost use Prim.Native.Nat.{_≤_};
 ghost use Rattle.models.specs.Walk.{partSays};
+ghost use Rattle.models.specs.ClaimsCutoff.{Demanded, DemandedSure};
 ghost use Rattle.models.specs.Cutoffs.{cutoffSays, sureSays, walkStarts, ceilingTo, holeWalkOf, sureOf, holeCutoffOf, holeCutoffSureOf};
 use crate::fit::SpectrumFit;
 use crate::walk::CutoffPart;
@@ -85,9 +86,10 @@ fn is_sure(fit: SpectrumFit, budget: f64) -> bool
 }
 
 // The largest cutoff that removes at most `budget` of the genome's k-mers by the fit, and 2 at least; none where each
-// cutoff up to the mean removes at most that. 2 for a window end above 65,535, 5 for 0.
+// cutoff up to the mean removes at most that. 2 for a window end above 65,535, 5 for 0. `Demanded` is demand 3.
 pub fn hole_cutoff(fit: SpectrumFit, budget: f64) -> Cutoff
     ensures { λ r. ⌜ cutoffSays r ≡ holeCutoffOf fit budget ⌝ }
+    ensures { λ r. ⌜ Demanded fit budget (cutoffSays r) ⌝ }
 {
     let end = fit.fit_window_end;
     if end > MOST {
@@ -106,11 +108,10 @@ pub fn hole_cutoff(fit: SpectrumFit, budget: f64) -> Cutoff
     }
 }
 
-// The same cutoff, and whether it is sure: then, in exact arithmetic on the probabilities, 3 or more remove at most the
-// allowed share, the sum through any cutoff exceeds it, and with none the sum below the ceiling is at most it, each up to
-// one part in 2^36.
+// The same cutoff, and whether it is sure: then demand 3 holds of it, and nothing is supposed.
 pub fn hole_cutoff_sure(fit: SpectrumFit, budget: f64) -> SureCutoff
     ensures { λ r. ⌜ sureSays r ≡ holeCutoffSureOf fit budget ⌝ }
+    ensures { λ r. ⌜ DemandedSure fit budget (sureSays r) ⌝ }
 {
     let end = fit.fit_window_end;
     if end > MOST {

@@ -13,7 +13,7 @@ flat-cutoff-requires : tie.Need-flat-cutoff-requires
 flat-cutoff-requires c κs = search needs
 
 returns : tie.Need-returns
-returns c = rw (c .flat-cutoff .ensures, c .before .hole-cutoff .ensures, c .before .before .fit-of .ensures)
+returns c = rw (c .flat-cutoff .ensures, c .before .hole-cutoff .ensures .0, c .before .before .fit-of .ensures)
 
 pub fog-hole-cutoff-spec : {M : Type 1} → statement M
 fog-hole-cutoff-spec = tie.close (tie.spec fit-of-requires hole-cutoff-requires flat-cutoff-requires returns)

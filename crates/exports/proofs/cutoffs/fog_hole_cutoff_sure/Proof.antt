@@ -13,7 +13,7 @@ flat-sure-requires : tie.Need-flat-sure-requires
 flat-sure-requires c κs = search needs
 
 returns : tie.Need-returns
-returns c = rw (c .flat-sure .ensures, c .before .hole-cutoff-sure .ensures, c .before .before .fit-of .ensures)
+returns c = rw (c .flat-sure .ensures, c .before .hole-cutoff-sure .ensures .0, c .before .before .fit-of .ensures)
 
 pub fog-hole-cutoff-sure-spec : {M : Type 1} → statement M
 fog-hole-cutoff-sure-spec =
