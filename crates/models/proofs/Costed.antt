@@ -7,11 +7,13 @@ use lib.Ieee.{Float, inf, neg, le}
 use lib.Ieee.Scale.{finite}
 use Rattle.meaning.specs.Over.{over}
 use Rattle.routines.specs.Constants.{zero}
-use Rattle.models.specs.Costs.{modeHeld, started, likelihoodUsable, evaluatedOf, costWith, tableWith}
-use Rattle.models.specs.Likelihoods.{likelihoodOf}
-use Rattle.models.specs.Masses.{windowMassesOf, massesUsable}
+use Rattle.models.specs.Costs.{modeHeld, started, likelihoodUsable, tableWith}
+use Rattle.models.specs.Hoists.{steadyOf, massesAt, likelihoodAt}
+use Rattle.models.specs.Masses.{massesUsable}
+use Rattle.models.specs.Prepared.{evaluatedAt, costReady}
 use Rattle.models.specs.Usable.{paramsUsable}
 use Rattle.models.specs.declared.params.Params.{Params}
+use Rattle.models.specs.declared.steady.Steady.{Steady}
 use Rattle.models.specs.declared.window_masses.WindowMasses.{WindowMasses}
 
 pub not-finite : (t : Float) → finite t ≡ false → likelihoodUsable t ≡ false
@@ -26,23 +28,28 @@ pub at-most-zero : (t : Float) → finite t ≡ true → le t zero ≡ true → 
 unfolding likelihoodUsable
 at-most-zero t f l = rw (f, l)
 
-module _ (bins : List ℕ) (scale : Float) (end : ℕ) (p : Params) (table : List Float) (m : WindowMasses)
-    (e : m ≡ windowMassesOf p table end) where
-  pub masses-stop : massesUsable m ≡ false → inf false ≡ evaluatedOf bins scale end p table
-  unfolding evaluatedOf
-  masses-stop h = rw (sym (ap massesUsable e) ∙ h)
+module _ (bins : List ℕ) (scale : Float) (end : ℕ) (p : Params) (ready table : List Float) (s : Steady) (m : WindowMasses)
+    (d : s ≡ steadyOf p) (e : m ≡ massesAt p s ready table end) where
+  masses-is : m ≡ massesAt p (steadyOf p) ready table end
+  masses-is = e ∙ ap (λ (k : Steady). massesAt p k ready table end) d
 
-  module _ (t : Float) (l : t ≡ likelihoodOf bins scale end p m table) (h : massesUsable m ≡ true) where
-    total-is : t ≡ likelihoodOf bins scale end p (windowMassesOf p table end) table
-    total-is = l ∙ ap (λ (k : WindowMasses). likelihoodOf bins scale end p k table) e
+  pub masses-stop : massesUsable m ≡ false → inf false ≡ evaluatedAt bins scale end p ready table
+  unfolding evaluatedAt
+  masses-stop h = rw (sym (ap massesUsable masses-is) ∙ h)
 
-    pub likelihood-stops : likelihoodUsable t ≡ false → inf false ≡ evaluatedOf bins scale end p table
-    unfolding evaluatedOf
-    likelihood-stops u = rw (sym (ap massesUsable e) ∙ h, sym (ap likelihoodUsable total-is) ∙ u)
+  module _ (t : Float) (l : t ≡ likelihoodAt bins scale end p m s ready table) (h : massesUsable m ≡ true) where
+    total-is : t ≡ likelihoodAt bins scale end p (massesAt p (steadyOf p) ready table end) (steadyOf p) ready table
+    total-is =
+        l ∙ ap (λ (k : WindowMasses). likelihoodAt bins scale end p k s ready table) masses-is
+        ∙ ap (λ (k : Steady). likelihoodAt bins scale end p (massesAt p (steadyOf p) ready table end) k ready table) d
 
-    pub evaluates : likelihoodUsable t ≡ true → neg t ≡ evaluatedOf bins scale end p table
-    unfolding evaluatedOf
-    evaluates u = rw (sym (ap massesUsable e) ∙ h, sym (ap likelihoodUsable total-is) ∙ u) (ap neg total-is)
+    pub likelihood-stops : likelihoodUsable t ≡ false → inf false ≡ evaluatedAt bins scale end p ready table
+    unfolding evaluatedAt
+    likelihood-stops u = rw (sym (ap massesUsable masses-is) ∙ h, sym (ap likelihoodUsable total-is) ∙ u)
+
+    pub evaluates : likelihoodUsable t ≡ true → neg t ≡ evaluatedAt bins scale end p ready table
+    unfolding evaluatedAt
+    evaluates u = rw (sym (ap massesUsable masses-is) ∙ h, sym (ap likelihoodUsable total-is) ∙ u) (ap neg total-is)
 
 -- ---- before the table
 module _ (p : Params) where
@@ -58,16 +65,16 @@ module _ (p : Params) where
   unfolding started
   starts h k = rw (h, k)
 
-  pub stopped-cost : (bins : List ℕ) (scale : Float) (end : ℕ) (entries : List Float) → started p ≡ false
-      → inf false ≡ costWith bins scale end p entries
-  stopped-cost bins scale end entries h = rw h
+  pub stopped-cost : (bins : List ℕ) (scale : Float) (end : ℕ) (ready entries : List Float) → started p ≡ false
+      → inf false ≡ costReady bins scale end p ready entries
+  stopped-cost bins scale end ready entries h = rw h
 
   pub stopped-table : (entries held : List Float) → started p ≡ false → held ≡ tableWith p entries held
   stopped-table entries held h = rw h
 
-  pub started-cost : (bins : List ℕ) (scale : Float) (end : ℕ) (y : Float) (t entries : List Float) → started p ≡ true
-      → y ≡ evaluatedOf bins scale end p t → t ≡ entries → y ≡ costWith bins scale end p entries
-  started-cost bins scale end y t entries h e o = rw h (e ∙ ap (evaluatedOf bins scale end p) o)
+  pub started-cost : (bins : List ℕ) (scale : Float) (end : ℕ) (y : Float) (ready t entries : List Float) → started p ≡ true
+      → y ≡ evaluatedAt bins scale end p ready t → t ≡ entries → y ≡ costReady bins scale end p ready entries
+  started-cost bins scale end y ready t entries h e o = rw h (e ∙ ap (evaluatedAt bins scale end p ready) o)
 
   pub started-table : (entries held t : List Float) → started p ≡ true → t ≡ over entries held
       → t ≡ tableWith p entries held

@@ -9,6 +9,7 @@ pub mod Survivals
 pub mod Filled
 pub mod Costed
 pub mod Passed
+pub mod ReadyCost
 pub mod Infinite
 pub mod Unpacked
 pub mod AnyTable

@@ -15,6 +15,7 @@ pub mod Likelihoods
 pub mod Hoists
 pub mod HeightTerms
 pub mod Costs
+pub mod Prepared
 pub mod Deviances
 pub mod Unpacking
 pub mod Walk

@@ -3,7 +3,8 @@
 ghost use mathlib.Core.Path.{_≡_};
 ghost use lib.ListN.{length};
 ghost use Rattle.helpers.specs.Answers.{numberSays};
-ghost use Rattle.models.specs.Costs.{modeHeld, evaluatedOf, costWith, tableWith, costOf, costTable};
+ghost use Rattle.models.specs.Costs.{modeHeld, tableWith, costOf, costTable};
+ghost use Rattle.models.specs.Prepared.{evaluatedAt, costReady, preparedCostOf, preparedCostTable};
 ghost use Rattle.models.specs.Tables.{entriesIn};
 use crate::families::ErrorModel;
 use crate::families::GenomeModel;
@@ -13,9 +14,10 @@ use crate::params::Params;
 use crate::params::decode;
 use crate::recovery::used_scale;
 use crate::refusals::fit_refusal;
+use crate::steady::steady_of;
 use crate::tables::fill_table;
 use crate::usable::params_usable;
-use crate::window_masses::masses_of;
+use crate::window_masses::masses_at;
 use crate::window_masses::masses_usable;
 use helpers::answers::Number;
 use routines::pick::is_finite;
@@ -30,14 +32,15 @@ fn mode_held(p: Params) -> bool
 }
 
 // The negative log-likelihood, and +inf for masses or a log-likelihood that can't be used.
-fn evaluate(bins: &[u32], scale: f64, top: u16, p: Params, table: &[f64]) -> f64
-    ensures { λ r. ⌜ r ≡ evaluatedOf (now (bins .entry)) scale top p (now (table .entry)) ⌝ }
+fn evaluate(bins: &[u32], scale: f64, top: u16, p: Params, ready: &[f64], table: &[f64]) -> f64
+    ensures { λ r. ⌜ r ≡ evaluatedAt (now (bins .entry)) scale top p (now (ready .entry)) (now (table .entry)) ⌝ }
 {
-    let m = masses_of(p, table, top);
+    let steady = steady_of(p);
+    let m = masses_at(p, steady, ready, table, top);
     if !masses_usable(m) {
         return 1.0 / 0.0;
     }
-    let total = likelihood(bins, scale, top, p, m, table);
+    let total = likelihood(bins, scale, top, p, m, steady, ready, table);
     if is_finite(total) && total <= 0.0 {
         return -total;
     }
@@ -45,8 +48,8 @@ fn evaluate(bins: &[u32], scale: f64, top: u16, p: Params, table: &[f64]) -> f64
 }
 
 // The table stays as it is where the parameters are turned away.
-fn cost_at(bins: &[u32], scale: f64, top: u16, p: Params, table: &mut [f64]) -> f64
-    ensures { λ r. ⌜ r ≡ costWith (now (bins .entry)) scale top p (entriesIn (p .shelf) (p .mean) top (length (now (table .entry)))) ⌝ }
+fn cost_at(bins: &[u32], scale: f64, top: u16, p: Params, ready: &[f64], table: &mut [f64]) -> f64
+    ensures { λ r. ⌜ r ≡ costReady (now (bins .entry)) scale top p (now (ready .entry)) (entriesIn (p .shelf) (p .mean) top (length (now (table .entry)))) ⌝ }
     ensures { λ _. ⌜ now (table .exit) ≡ tableWith p (entriesIn (p .shelf) (p .mean) top (length (now (table .entry)))) (now (table .entry)) ⌝ }
 {
     if !params_usable(p) {
@@ -57,7 +60,7 @@ fn cost_at(bins: &[u32], scale: f64, top: u16, p: Params, table: &mut [f64]) -> 
     }
     let shelf = p.shelf;
     let items = fill_table(p.mean, shelf, top, table);
-    evaluate(bins, scale, top, p, &table[0..items])
+    evaluate(bins, scale, top, p, ready, &table[0..items])
 }
 
 // The negative log-likelihood of the window at the parameters of a list, and +inf for what the model can't use;
@@ -89,5 +92,43 @@ pub fn cost(
         return Number::Refused(refused);
     }
     let p = decode(error, genome, (peak as u16) as f64, theta);
-    Number::Value(cost_at(bins, used_scale(scale), window_end as u16, p, table))
+    let used = used_scale(scale);
+    Number::Value(cost_at(bins, used, window_end as u16, p, &theta[0..0], table))
+}
+
+// The cost, with ln n and lgamma(n + 1) read from a slice as `prepare_window` fills it; 10 also where that slice is too
+// short for the window.
+pub fn cost_prepared(
+    bins: &[u32],
+    scale: f64,
+    window_end: usize,
+    peak: usize,
+    error: ErrorModel,
+    genome: GenomeModel,
+    theta: &[f64],
+    ready: &[f64],
+    table: &mut [f64],
+) -> Number
+    ensures { λ r. ⌜ numberSays r ≡ preparedCostOf (now (bins .entry)) scale «window_end» peak error genome (now (theta .entry)) (now (ready .entry)) (length (now (table .entry))) ⌝ }
+    ensures { λ _. ⌜ now (table .exit) ≡ preparedCostTable (now (bins .entry)) scale «window_end» peak error genome (now (theta .entry)) (now (ready .entry)) (now (table .entry)) ⌝ }
+{
+    let refused = fit_refusal(
+        bins,
+        scale,
+        window_end,
+        peak,
+        error,
+        genome,
+        theta.len(),
+        table.len(),
+    );
+    if refused != 0 {
+        return Number::Refused(refused);
+    }
+    if ready.len() < 2 * (window_end + 2) {
+        return Number::Refused(10);
+    }
+    let p = decode(error, genome, (peak as u16) as f64, theta);
+    let used = used_scale(scale);
+    Number::Value(cost_at(bins, used, window_end as u16, p, ready, table))
 }

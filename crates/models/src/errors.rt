@@ -3,7 +3,7 @@
 ghost use mathlib.Core.Path.{_≡_};
 ghost use Rattle.helpers.specs.Answers.{numberSays};
 ghost use Rattle.models.specs.Errors.{factorOf, survivalOf, lnTailOf, logProbabilityOf, logWindowMassTo, logWindowMassOf};
-ghost use Rattle.models.specs.Hoists.{survivalWith, logProbabilityBetween};
+ghost use Rattle.models.specs.Hoists.{survivalWith, logProbabilityBetween, probabilityWith, windowMassWith};
 use helpers::answers::Number;
 use helpers::log_sums::ln_sub_exp;
 use meaning::limits::MOST;
@@ -93,11 +93,29 @@ impl ErrorParams {
         ln_tail + ln_sub_exp(here, next)
     }
 
+    // ln of the probability of a count, with the tail's log and the survivals from the count and from the next at hand.
+    pub(crate) fn probability_with(self, ln_tail: f64, count: u32, high: f64, low: f64) -> f64
+        ensures { λ r. ⌜ r ≡ probabilityWith self «ln_tail» count high low ⌝ }
+    {
+        if count == 1 {
+            return ln(self.singleton_probability);
+        }
+        ln_tail + ln_sub_exp(high, low)
+    }
+
     // ln of the probability of `count`.
     pub fn log_probability(self, count: f64) -> f64
         ensures { λ r. ⌜ r ≡ logProbabilityOf self count ⌝ }
     {
         self.log_probability_with(self.ln_tail(), count)
+    }
+
+    // ln of the mass on 1 to a window end, with the tail's log and the window end's log at hand.
+    pub(crate) fn window_mass_with(self, ln_tail: f64, log: f64) -> f64
+        ensures { λ r. ⌜ r ≡ windowMassWith self «ln_tail» log ⌝ }
+    {
+        let log_beyond = ln_tail + self.survival_with(log);
+        ln(-expm1(log_beyond))
     }
 
     // ln of the mass on 1 to `top`, for any top that a u16 holds.

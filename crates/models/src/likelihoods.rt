@@ -1,51 +1,90 @@
 // The log-likelihood of the window.
 // Ported from src/preprocessing/models.rs of bacpop/sparrowhawk-asm, f1f8af1232, Apache-2.0; ported and changed.
 ghost use mathlib.Core.Path.{_≡_};
-ghost use Rattle.models.specs.Likelihoods.{pointOf, likelihoodOf};
-ghost use Rattle.models.specs.Hoists.{steadyOf};
+ghost use Prim.Native.Nat.{_+_};
+ghost use Rattle.models.specs.Hoists.{aheadOf, afterOf, pointFrom, pointAt, likelihoodAt};
 ghost use Rattle.models.specs.Spectra.{seenTerm};
 ghost use Rattle.routines.specs.Ops.{ofCount, _⊗_};
+use crate::errors::ErrorParams;
 use crate::params::Params;
 use crate::spectra::recovered_at;
+use crate::steady::Steady;
 use crate::window_masses::WindowMasses;
-use helpers::hoists::Lobe;
-use helpers::hoists::ShelfLogs;
-use helpers::hoists::density;
-use helpers::hoists::lobe_of;
-use helpers::hoists::mix_entry;
-use helpers::hoists::shelf_logs;
+use helpers::hoists::density_with;
 use helpers::log_sums::lse3;
+use helpers::mixtures::mix_at;
+use helpers::prepared::gamma_at;
+use helpers::prepared::ln_at;
 
-// What does not change with the count.
-struct Steady {
-    lobe: Lobe,
-    second: Lobe,
-    ln_tail: f64,
-    logs: ShelfLogs,
+// What stands ready for a bin: the log of its count, and the error tail's survival from that count.
+struct Ahead {
+    bin: u32,
+    log: f64,
+    survival: f64,
 }
 
-fn steady_of(p: Params) -> Steady
-    ensures { λ r. ⌜ r ≡ steadyOf p ⌝ }
+// The sum so far, and what it leaves ready.
+struct Reached {
+    total: f64,
+    ahead: Ahead,
+}
+
+fn ahead_of(error: ErrorParams, ready: &[f64], i: u16) -> Ahead
+    ensures { λ r. ⌜ r ≡ aheadOf error (now (ready .entry)) i ⌝ }
 {
-    let shelf = p.shelf;
-    Steady {
-        lobe: lobe_of(p.mean, p.dispersion),
-        second: lobe_of(p.repeat_ratio * p.mean, p.dispersion),
-        ln_tail: p.error_params.ln_tail(),
-        logs: shelf_logs(shelf),
+    let bin = i as u32;
+    let before = ln_at(ready, bin);
+    Ahead {
+        bin,
+        log: ln_at(ready, bin + 1),
+        survival: error.survival_with(before),
     }
 }
 
-// The mixture's log density at a count.
-fn point(p: Params, m: WindowMasses, steady: Steady, count: f64, table: &[f64]) -> f64
-    requires { ⌜ steady ≡ steadyOf p ⌝ }
-    ensures { λ r. ⌜ r ≡ pointOf p m (now (table .entry)) count ⌝ }
+// What stands ready for bin i, worked out only where it does not.
+fn ahead_at(ahead: Ahead, error: ErrorParams, ready: &[f64], i: u16) -> Ahead
+    requires { ⌜ ahead ≡ aheadOf error (now ready) (ahead .bin) ⌝ }
+    ensures { λ r. ⌜ r ≡ aheadOf error (now (ready .entry)) i ⌝ }
+{
+    if ahead.bin == (i as u32) {
+        return ahead;
+    }
+    ahead_of(error, ready, i)
+}
+
+// What stands ready for the bin after i, from the log of bin i's count.
+fn ahead_after(log: f64, error: ErrorParams, ready: &[f64], i: u16) -> Ahead
+    ensures { λ r. ⌜ r ≡ afterOf log error (now (ready .entry)) i ⌝ }
+{
+    let bin = (i as u32) + 1;
+    let next = ln_at(ready, bin + 1);
+    Ahead {
+        bin,
+        log: next,
+        survival: error.survival_with(log),
+    }
+}
+
+// The mixture's log density at a count, with the error tail's survival from it and from the next, and lgamma(count + 1).
+fn point(
+    p: Params,
+    m: WindowMasses,
+    steady: Steady,
+    count: u32,
+    high: f64,
+    low: f64,
+    gamma: f64,
+    table: &[f64],
+) -> f64
+    ensures { λ r. ⌜ r ≡ pointFrom p m steady (now (table .entry)) count high low gamma ⌝ }
 {
     let shelf = p.shelf;
-    let lobe = density(steady.lobe, count);
-    let second = density(steady.second, count);
-    let tail = p.error_params.log_probability_with(steady.ln_tail, count);
-    let single = mix_entry(lobe, count, shelf, steady.logs, table);
+    let x = count as f64;
+    let lobe = density_with(steady.lobe, x, gamma);
+    let second = density_with(steady.second, x, gamma);
+    let tail = p.error_params
+        .probability_with(steady.ln_tail, count, high, low);
+    let single = mix_at(lobe, count, shelf, steady.logs, table);
     lse3(
         p.ln_error + tail - m.error,
         p.ln_single + single - m.single,
@@ -55,21 +94,41 @@ fn point(p: Params, m: WindowMasses, steady: Steady, count: f64, table: &[f64]) 
 
 // Nothing is worked out for an empty bin.
 fn add_point(
-    total: f64,
+    reached: Reached,
     n: u32,
     p: Params,
     m: WindowMasses,
     steady: Steady,
-    count: u32,
+    i: u16,
+    ready: &[f64],
     table: &[f64],
-) -> f64
-    requires { ⌜ steady ≡ steadyOf p ⌝ }
-    ensures { λ r. ⌜ r ≡ seenTerm n total (ofCount n ⊗ pointOf p m (now (table .entry)) (ofCount count)) ⌝ }
+) -> Reached
+    requires { ⌜ reached .ahead ≡ aheadOf (p .«error_params») (now ready) (reached .ahead .bin) ⌝ }
+    ensures { λ r. ⌜ r .total ≡ seenTerm n (reached .total) (ofCount n ⊗ pointAt p m steady (now (ready .entry)) (now (table .entry)) i) ⌝ }
+    ensures { λ r. ⌜ r .ahead ≡ aheadOf (p .«error_params») (now (ready .entry)) (r .ahead .bin) ⌝ }
 {
     if n == 0 {
-        return total;
+        return reached;
     }
-    total + (n as f64) * point(p, m, steady, count as f64, table)
+    let error = p.error_params;
+    let here = ahead_at(reached.ahead, error, ready, i);
+    let next = ahead_after(here.log, error, ready, i);
+    let count = (i as u32) + 1;
+    let gamma = gamma_at(ready, count, next.log);
+    let term = point(
+        p,
+        m,
+        steady,
+        count,
+        here.survival,
+        next.survival,
+        gamma,
+        table,
+    );
+    Reached {
+        total: reached.total + (n as f64) * term,
+        ahead: next,
+    }
 }
 
 pub(crate) fn likelihood(
@@ -78,17 +137,22 @@ pub(crate) fn likelihood(
     top: u16,
     p: Params,
     m: WindowMasses,
+    steady: Steady,
+    ready: &[f64],
     table: &[f64],
 ) -> f64
-    ensures { λ r. ⌜ r ≡ likelihoodOf (now (bins .entry)) scale top p m (now (table .entry)) ⌝ }
+    ensures { λ r. ⌜ r ≡ likelihoodAt (now (bins .entry)) scale top p m steady (now (ready .entry)) (now (table .entry)) ⌝ }
 {
-    let steady = steady_of(p);
-    let mut total = -0.0;
+    let error = p.error_params;
+    let mut reached = Reached {
+        total: -0.0,
+        ahead: ahead_of(error, ready, 0),
+    };
     let mut i: u16 = 0;
     while i < top {
         let n = recovered_at(bins, scale, i as usize);
-        total = add_point(total, n, p, m, steady, (i as u32) + 1, table);
+        reached = add_point(reached, n, p, m, steady, i, ready, table);
         i += 1;
     }
-    total
+    reached.total
 }

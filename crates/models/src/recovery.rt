@@ -19,9 +19,12 @@ pub fn used_scale(scale: f64) -> f64
     1.0
 }
 
-// n / divisor, a half away from zero.
+// n / divisor, a half away from zero. Over 1 that is n.
 pub fn rounded_quotient(n: u32, divisor: f64) -> u32
     ensures { λ r. ⌜ r ≡ roundedQuotientOf n divisor ⌝ }
 {
+    if divisor == 1.0 {
+        return n;
+    }
     to_u32(round((n as f64) / divisor))
 }

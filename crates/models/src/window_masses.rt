@@ -1,10 +1,14 @@
 // Each component's log mass inside the window.
 // Ported from src/preprocessing/models.rs of bacpop/sparrowhawk-asm, f1f8af1232, Apache-2.0; ported and changed.
 ghost use mathlib.Core.Path.{_≡_};
+ghost use Rattle.models.specs.Hoists.{massesAt};
 ghost use Rattle.models.specs.Masses.{windowMassesOf, massUsable, massesUsable};
 use crate::params::Params;
-use helpers::masses::log_nb_mass_to;
-use helpers::masses::single_copy_log_mass_to;
+use crate::steady::Steady;
+use crate::steady::steady_of;
+use helpers::mixtures::mix_mass;
+use helpers::pairs::lobe_masses;
+use helpers::prepared::ln_at;
 use routines::pick::is_finite;
 
 // A log mass may pass 0 by this much: rounding.
@@ -16,19 +20,33 @@ pub(crate) struct WindowMasses {
     pub repeat: f64,
 }
 
+// `table` holds the shelf's entries and nothing else, and `steady` is the list's.
+pub(crate) fn masses_at(
+    p: Params,
+    steady: Steady,
+    ready: &[f64],
+    table: &[f64],
+    top: u16,
+) -> WindowMasses
+    ensures { λ r. ⌜ r ≡ massesAt p steady (now (ready .entry)) (now (table .entry)) top ⌝ }
+{
+    let shelf = p.shelf;
+    let log = ln_at(ready, top as u32);
+    let error = p.error_params.window_mass_with(steady.ln_tail, log);
+    let lobes = lobe_masses(steady.lobe, steady.second, ready, top);
+    let single = mix_mass(lobes.first, shelf, steady.logs, table, top);
+    WindowMasses {
+        error,
+        single,
+        repeat: lobes.second,
+    }
+}
+
 // `table` holds the shelf's entries and nothing else.
 pub(crate) fn masses_of(p: Params, table: &[f64], top: u16) -> WindowMasses
     ensures { λ r. ⌜ r ≡ windowMassesOf p (now (table .entry)) top ⌝ }
 {
-    let shelf = p.shelf;
-    let error = p.error_params.log_window_mass_to(top);
-    let single = single_copy_log_mass_to(p.mean, p.dispersion, shelf, table, top);
-    let repeat = log_nb_mass_to(p.repeat_ratio * p.mean, p.dispersion, top);
-    WindowMasses {
-        error,
-        single,
-        repeat,
-    }
+    masses_at(p, steady_of(p), &table[0..0], table, top)
 }
 
 fn mass_usable(mass: f64) -> bool

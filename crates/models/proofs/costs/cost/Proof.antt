@@ -1,9 +1,11 @@
 -- `models::costs::cost` meets its contract. Assumes nothing.
 use Prim.Native.Nat.{_<_}
+use mathlib.Core.Path.{_∙_}
 use native.Mathlib.Omega.{arith}
 use borrow.Author.Needs.{needs}
 use lib.ListN.{length}
 use Rattle.models.proofs.Passed.{Passed, all-passed, cost-refused, cost-given, refused-table, given-table}
+use Rattle.models.proofs.ReadyCost.{cost-unprepared}
 use Rattle.models.proofs.costs.cost.Statement.{statement}
 use Rattle.models.proofs.costs.cost.Tie as tie
 
@@ -47,6 +49,15 @@ used-scale-requires c κs = search needs
 cast-cost-at : tie.Need-cast-cost-at
 cast-cost-at c = let all = passed (c .before .before .before) in omega (arith, all .end-few)
 
+sub-cost-at : tie.Need-sub-cost-at
+sub-cost-at c = search needs
+
+part-cost-at-start : tie.Need-part-cost-at-start
+part-cost-at-start c = search needs
+
+part-cost-at-end : tie.Need-part-cost-at-end
+part-cost-at-end c = search needs
+
 cost-at-requires : tie.Need-cost-at-requires
 cost-at-requires c κs = search needs
 
@@ -56,13 +67,14 @@ same-length c = search needs
 returns-2 : tie.Need-returns-2
 returns-2 c =
     let priced = c .before .before in
-    let scaled = priced .before .before in
+    let scaled = priced .before .before .before in
     let decoded = scaled .before in
     let left = decoded .before .before in
     let a = start (left .before) .args in
-    let first = left .before .fit-refusal .ensures in (
+    let first = left .before .fit-refusal .ensures in
+    let value = priced .cost-at .ensures .0 ∙ cost-unprepared (a .bins .now) _ (a .window-end) _ _ (passed left .end-few) in (
       cost-given (a .bins .now) (a .scale) (a .window-end) (a .peak) (a .error) (a .genome) (a .theta .now) _ _ first
-          _ _ _ (left .if1 .left) (scaled .used-scale .ensures) (decoded .decode .ensures) (priced .cost-at .ensures .0),
+          _ _ _ (left .if1 .left) (scaled .used-scale .ensures) (decoded .decode .ensures) value,
       given-table (a .bins .now) (a .scale) (a .window-end) (a .peak) (a .error) (a .genome) (a .theta .now)
           (a .table .now) _ first _ _ (left .if1 .left) (decoded .decode .ensures) (priced .cost-at .ensures .1),
     )
@@ -78,6 +90,9 @@ cost-spec =
     decode-requires
     used-scale-requires
     cast-cost-at
+    sub-cost-at
+    part-cost-at-start
+    part-cost-at-end
     cost-at-requires
     same-length
     returns-2)

@@ -21,13 +21,13 @@ returns : tie.Need-returns
 unfolding div ofBits
 returns c =
     let stop = params-stop _ (sym (c .before .params-usable .ensures) ∙ not-true _ (c .if1 .taken)) in
-    (stopped-cost _ _ _ _ _ stop, stopped-table _ _ _ stop)
+    (stopped-cost _ _ _ _ _ _ stop, stopped-table _ _ _ stop)
 
 mode-held-requires : tie.Need-mode-held-requires
 mode-held-requires c κs = search needs
 
 -- where the parameters can be used
-usable : (c : tie.Else1) → paramsUsable (c .before .before .before .before .args .p) ≡ true
+usable : (c : tie.Else1) → paramsUsable (c .before .before .before .before .before .args .p) ≡ true
 usable c = sym (c .before .params-usable .ensures) ∙ not-false _ (c .if1 .left)
 
 returns-2 : tie.Need-returns-2
@@ -35,7 +35,7 @@ unfolding div ofBits
 returns-2 c =
     let lost = sym (c .before .mode-held .ensures) ∙ not-true _ (c .if2 .taken) in
     let stop = mode-stops _ (usable (c .before .before)) lost in
-    (stopped-cost _ _ _ _ _ stop, stopped-table _ _ _ stop)
+    (stopped-cost _ _ _ _ _ _ stop, stopped-table _ _ _ stop)
 
 fill-table-requires : tie.Need-fill-table-requires
 fill-table-requires c κs = search needs
@@ -43,7 +43,7 @@ fill-table-requires c κs = search needs
 -- where the table was written
 module _ (c : tie.After-fill-table) where
   abbrev start : tie.Start
-  start = c .before .before .before .before .before .before .before .before
+  start = c .before .before .before .before .before .before .before .before .before
 
   abbrev entries : List Float
   entries = let a = start .args in entriesIn (a .p .shelf) (a .p .mean) (a .top) (length (a .table .now))
@@ -77,7 +77,7 @@ returns-3 : tie.Need-returns-3
 returns-3 c =
     let filled = c .before .before .before .before .before in
     let fill = filled .fill-table in (
-      started-cost _ _ _ _ _ _ _ (go filled) (c .evaluate .ensures)
+      started-cost _ _ _ _ _ _ _ _ (go filled) (c .evaluate .ensures)
           (front-is (entries filled) (start filled .args .table .now) _ _ (fill .ensures .0) (fill .ensures .1)),
       started-table _ _ _ _ (go filled) (fill .ensures .1),
     )

@@ -5,14 +5,18 @@ use mathlib.Core.Logic.{⊎-elim}
 use borrow.Author.Needs.{needs}
 use borrow.Author.Tests.{not-true, not-false}
 use lib.Ieee.{inf, div, ofBits}
-use Rattle.models.specs.Costs.{likelihoodUsable, evaluatedOf}
+use Rattle.models.specs.Costs.{likelihoodUsable}
 use Rattle.models.specs.Masses.{massesUsable}
+use Rattle.models.specs.Prepared.{evaluatedAt}
 use Rattle.models.proofs.Costed.{not-finite, above-zero, at-most-zero, masses-stop, likelihood-stops, evaluates}
 use Rattle.models.proofs.costs.evaluate.Statement.{statement}
 use Rattle.models.proofs.costs.evaluate.Tie as tie
 
-masses-of-requires : tie.Need-masses-of-requires
-masses-of-requires c κs = search needs
+steady-of-requires : tie.Need-steady-of-requires
+steady-of-requires c κs = search needs
+
+masses-at-requires : tie.Need-masses-at-requires
+masses-at-requires c κs = search needs
 
 masses-usable-requires : tie.Need-masses-usable-requires
 masses-usable-requires c κs = search needs
@@ -21,7 +25,9 @@ returns : tie.Need-returns
 unfolding div ofBits
 returns c =
     let known = c .before in
-    masses-stop _ _ _ _ _ _ (known .before .masses-of .ensures) (sym (known .masses-usable .ensures) ∙ not-true _ (c .if1 .taken))
+    let masses = known .before in
+    masses-stop _ _ _ _ _ _ _ _ (masses .before .steady-of .ensures) (masses .masses-at .ensures)
+    (sym (known .masses-usable .ensures) ∙ not-true _ (c .if1 .taken))
 
 likelihood-requires : tie.Need-likelihood-requires
 likelihood-requires c κs = search needs
@@ -31,23 +37,26 @@ is-finite-requires c κs = search needs
 
 -- where the masses can be used and the log-likelihood is known
 module _ (c : tie.After-is-finite) where
-  abbrev start : tie.Start
-  start = c .before .before .before .before .before .before .before
+  abbrev masses : tie.After-masses-at
+  masses = c .before .before .before .before
 
-  usable : massesUsable (c .before .before .before .before .masses-of .result) ≡ true
+  abbrev start : tie.Start
+  start = masses .before .before .before .before .before
+
+  usable : massesUsable (masses .masses-at .result) ≡ true
   usable = sym (c .before .before .before .masses-usable .ensures) ∙ not-false _ (c .before .before .if1 .left)
 
   stopped : likelihoodUsable (c .before .likelihood .result) ≡ false → let a = start .args in
-      inf false ≡ evaluatedOf (a .bins .now) (a .scale) (a .top) (a .p) (a .table .now)
+      inf false ≡ evaluatedAt (a .bins .now) (a .scale) (a .top) (a .p) (a .ready .now) (a .table .now)
   stopped u =
-      let masses = c .before .before .before .before .masses-of .ensures in
-      likelihood-stops _ _ _ _ _ _ masses _ (c .before .likelihood .ensures) usable u
+      likelihood-stops _ _ _ _ _ _ _ _ (masses .before .steady-of .ensures) (masses .masses-at .ensures) _
+      (c .before .likelihood .ensures) usable u
 
 returns-2 : tie.Need-returns-2
 returns-2 c =
     let known = c .before .before in
-    let masses = known .before .before .before .before .masses-of .ensures in
-    evaluates _ _ _ _ _ _ masses _ (known .before .likelihood .ensures) (usable known)
+    evaluates _ _ _ _ _ _ _ _ (masses known .before .steady-of .ensures) (masses known .masses-at .ensures) _
+    (known .before .likelihood .ensures) (usable known)
     (at-most-zero _ (sym (known .is-finite .ensures) ∙ c .before .if2 .taken) (c .if3 .taken))
 
 returns-3 : tie.Need-returns-3
@@ -62,7 +71,8 @@ pub evaluate-spec : {M : Type 1} → statement M
 evaluate-spec =
     tie.close
     (tie.spec
-    masses-of-requires
+    steady-of-requires
+    masses-at-requires
     masses-usable-requires
     returns
     likelihood-requires

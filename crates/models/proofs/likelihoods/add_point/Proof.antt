@@ -1,27 +1,56 @@
 -- `models::likelihoods::add_point` meets its contract. Assumes nothing.
+use mathlib.Core.Path.{ap, _∙_}
+use native.Mathlib.Omega.{arith}
 use borrow.Author.Tests.{eq-eqb, ne-eqb}
+use lib.Ieee.{Float}
+use Rattle.routines.specs.Ops.{_⊕_, _⊗_, ofCount}
 use Rattle.models.specs.Spectra.{seenTerm}
+use Rattle.models.proofs.Points.{step-is, next-stands}
 use borrow.Author.Needs.{needs}
 use Rattle.models.proofs.likelihoods.add_point.Statement.{statement}
 use Rattle.models.proofs.likelihoods.add_point.Tie as tie
 
 returns : tie.Need-returns
 unfolding seenTerm
-returns c = simp (eq-eqb _ _ (c .if1 .taken))
+returns c = (simp (eq-eqb _ _ (c .if1 .taken)), c .before .before .before .pre)
 
-int-to-float-result : tie.Need-int-to-float-result
-int-to-float-result c = search needs
+ahead-at-requires : tie.Need-ahead-at-requires
+ahead-at-requires c κs = c .before .before .before .before .pre
 
-int-to-float-point : tie.Need-int-to-float-point
-int-to-float-point c = search needs
+ahead-after-requires : tie.Need-ahead-after-requires
+ahead-after-requires c κs = search needs
+
+add-count : tie.Need-add-count
+add-count c = search needs
+
+gamma-at-requires : tie.Need-gamma-at-requires
+gamma-at-requires c κs = search needs
 
 point-requires : tie.Need-point-requires
 point-requires c κs = search needs
 
+int-to-float-t17 : tie.Need-int-to-float-t17
+int-to-float-t17 c = search needs
+
 returns-2 : tie.Need-returns-2
 unfolding seenTerm
-returns-2 c = simp (ne-eqb _ _ (c .before .before .before .if1 .left)) (rw (c .point .ensures))
+returns-2 c =
+    let pointed = c .before .before in
+    let gamma = pointed .before in
+    let after = gamma .before in
+    let at = after .before in
+    let left = at .before .before in
+    let start = left .before .before .before in
+    let a = start .args in
+    let few = start .fits .i in
+    let here = at .ahead-at .ensures in
+    let next = after .ahead-after .ensures in
+    let term = pointed .point .ensures
+    ∙ step-is (a .p) (a .m) (a .steady) (a .ready .now) (a .table .now) (a .i) _ _ _ (omega (arith, few)) here next (gamma .gamma-at .ensures) in (
+      simp (ne-eqb _ _ (left .if1 .left)) (ap (λ (x : Float). a .reached .total ⊕ ofCount (a .n) ⊗ x) term),
+      next-stands (a .p .«error_params») (a .ready .now) (a .i) _ _ here next,
+    )
 
 pub add-point-spec : {M : Type 1} → statement M
 add-point-spec =
-    tie.close (tie.spec returns int-to-float-result int-to-float-point point-requires returns-2)
+    tie.close (tie.spec returns ahead-at-requires ahead-after-requires add-count gamma-at-requires point-requires int-to-float-t17 returns-2)

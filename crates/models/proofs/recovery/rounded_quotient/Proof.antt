@@ -1,8 +1,20 @@
 -- `models::recovery::rounded_quotient` meets its contract. Assumes nothing.
+use mathlib.Core.Path.{sym, ap, _∙_}
+use native.Mathlib.Omega.{arith}
+use lib.Ieee.{toUnsigned}
+use Rattle.routines.proofs.Counts.{count-over-one, count-back}
 use Rattle.models.specs.Recovery.{roundedQuotientOf}
 use borrow.Author.Needs.{needs}
 use Rattle.models.proofs.recovery.rounded_quotient.Statement.{statement}
 use Rattle.models.proofs.recovery.rounded_quotient.Tie as tie
+
+returns : tie.Need-returns
+unfolding roundedQuotientOf
+returns c =
+    let a = c .before .args in
+    let few = c .before .fits .n in
+    let whole = count-over-one (a .divisor) (a .n) (c .if1 .taken) (omega (arith, few)) in
+    sym (ap (toUnsigned 32) whole ∙ count-back 32 (a .n) (omega (arith, few)) (omega (arith, few)))
 
 int-to-float-round : tie.Need-int-to-float-round
 int-to-float-round c = search needs
@@ -13,10 +25,10 @@ round-requires c κs = search needs
 to-u32-requires : tie.Need-to-u32-requires
 to-u32-requires c κs = search needs
 
-returns : tie.Need-returns
+returns-2 : tie.Need-returns-2
 unfolding roundedQuotientOf
-returns c = cc
+returns-2 c = rw (c .to-u32 .ensures, c .before .round .ensures)
 
 pub rounded-quotient-spec : {M : Type 1} → statement M
 rounded-quotient-spec =
-    tie.close (tie.spec int-to-float-round round-requires to-u32-requires returns)
+    tie.close (tie.spec returns int-to-float-round round-requires to-u32-requires returns-2)

@@ -1,30 +1,41 @@
 -- `models::window_masses::masses_of` meets its contract. Assumes nothing.
-use Rattle.models.specs.Masses.{windowMassesOf}
+use mathlib.Core.Path.{_∙_}
+use native.Mathlib.Omega.{arith}
+use Rattle.models.proofs.Points.{plain-masses}
 use borrow.Author.Needs.{needs}
 use Rattle.models.proofs.window_masses.masses_of.Statement.{statement}
 use Rattle.models.proofs.window_masses.masses_of.Tie as tie
 
-log-window-mass-to-requires : tie.Need-log-window-mass-to-requires
-log-window-mass-to-requires c κs = search needs
+steady-of-requires : tie.Need-steady-of-requires
+steady-of-requires c κs = search needs
 
-single-copy-log-mass-to-requires : tie.Need-single-copy-log-mass-to-requires
-single-copy-log-mass-to-requires c κs = search needs
+sub-masses-at : tie.Need-sub-masses-at
+sub-masses-at c = search needs
 
-log-nb-mass-to-requires : tie.Need-log-nb-mass-to-requires
-log-nb-mass-to-requires c κs = search needs
+part-masses-at-start : tie.Need-part-masses-at-start
+part-masses-at-start c = search needs
+
+part-masses-at-end : tie.Need-part-masses-at-end
+part-masses-at-end c = search needs
+
+masses-at-requires : tie.Need-masses-at-requires
+masses-at-requires c κs = search needs
 
 returns : tie.Need-returns
-unfolding windowMassesOf
 returns c =
-    let single = c .before .before in
-    let error = single .before in
-    rw (c .log-nb-mass-to .ensures, single .single-copy-log-mass-to .ensures, error .log-window-mass-to .ensures)
+    let steady = c .before .before in
+    let start = steady .before .before in
+    let a = start .args in
+    c .masses-at .ensures
+    ∙ plain-masses (a .p) _ (a .table .now) (a .top) (omega (arith, start .fits .top)) (steady .steady-of .ensures)
 
 pub masses-of-spec : {M : Type 1} → statement M
 masses-of-spec =
     tie.close
     (tie.spec
-    log-window-mass-to-requires
-    single-copy-log-mass-to-requires
-    log-nb-mass-to-requires
+    steady-of-requires
+    sub-masses-at
+    part-masses-at-start
+    part-masses-at-end
+    masses-at-requires
     returns)

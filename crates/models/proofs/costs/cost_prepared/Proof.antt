@@ -1,0 +1,109 @@
+-- `models::costs::cost_prepared` meets its contract. Assumes nothing.
+use Prim.Native.Nat.{_<_}
+use native.Mathlib.Omega.{arith}
+use borrow.Author.Needs.{needs}
+use lib.ListN.{length}
+use Rattle.models.proofs.Passed.{Passed, all-passed}
+use Rattle.models.proofs.ReadyCost.{prepared-refused, prepared-short, prepared-given, prepared-kept, prepared-table}
+use Rattle.models.proofs.costs.cost_prepared.Statement.{statement}
+use Rattle.models.proofs.costs.cost_prepared.Tie as tie
+
+fit-refusal-requires : tie.Need-fit-refusal-requires
+fit-refusal-requires c κs = search needs
+
+abbrev start : tie.After-fit-refusal → tie.Start
+start c = c .before .before .before .before .before
+
+returns : tie.Need-returns
+returns c =
+    let refusal = c .before in
+    let a = start refusal .args in
+    let some : 0 < refusal .fit-refusal .result = omega (arith, c .if1 .taken) in
+    let answer = prepared-refused (a .bins .now) (a .scale) (a .window-end) (a .peak) (a .error) (a .genome) (a .theta .now)
+    (a .ready .now) (length (a .table .now)) _ (refusal .fit-refusal .ensures) some in (
+      answer,
+      prepared-kept (a .bins .now) (a .scale) (a .window-end) (a .peak) (a .error) (a .genome) (a .theta .now) (a .ready .now)
+          (a .table .now) _ answer,
+    )
+
+-- where cost refuses nothing
+passed : (c : tie.Else1) → let a = start (c .before) .args in
+    Passed (a .bins .now) (a .scale) (a .window-end) (a .peak) (a .genome) (length (a .table .now))
+passed c =
+    let a = start (c .before) .args in
+    all-passed (a .bins .now) (a .scale) (a .window-end) (a .peak) (a .error) (a .genome) (a .theta .now) _ _
+    (c .before .fit-refusal .ensures) (c .if1 .left)
+
+add-if2 : tie.Need-add-if2
+add-if2 c = let all = passed c in omega (arith, all .end-few)
+
+mul-if2 : tie.Need-mul-if2
+mul-if2 c = let all = passed c in omega (arith, all .end-few)
+
+returns-2 : tie.Need-returns-2
+returns-2 c =
+    let left = c .before in
+    let refusal = left .before in
+    let a = start refusal .args in
+    let answer = prepared-short (a .bins .now) (a .scale) (a .window-end) (a .peak) (a .error) (a .genome) (a .theta .now)
+    (a .ready .now) (length (a .table .now)) _ (refusal .fit-refusal .ensures) (left .if1 .left) (c .if2 .taken) in (
+      answer,
+      prepared-kept (a .bins .now) (a .scale) (a .window-end) (a .peak) (a .error) (a .genome) (a .theta .now) (a .ready .now)
+          (a .table .now) 10 answer,
+    )
+
+cast-decode : tie.Need-cast-decode
+cast-decode c = let all = passed (c .before) in omega (arith, all .peak-few)
+
+int-to-float-decode : tie.Need-int-to-float-decode
+int-to-float-decode c = search needs
+
+decode-requires : tie.Need-decode-requires
+decode-requires c κs = search needs
+
+used-scale-requires : tie.Need-used-scale-requires
+used-scale-requires c κs = search needs
+
+cast-cost-at : tie.Need-cast-cost-at
+cast-cost-at c = let all = passed (c .before .before .before .before) in omega (arith, all .end-few)
+
+cost-at-requires : tie.Need-cost-at-requires
+cost-at-requires c κs = search needs
+
+same-length : tie.Need-same-length
+same-length c = search needs
+
+returns-3 : tie.Need-returns-3
+returns-3 c =
+    let priced = c .before .before in
+    let scaled = priced .before .before in
+    let decoded = scaled .before in
+    let room = decoded .before .before in
+    let left = room .before in
+    let a = start (left .before) .args in
+    let first = left .before .fit-refusal .ensures in
+    let answer = prepared-given (a .bins .now) (a .scale) (a .window-end) (a .peak) (a .error) (a .genome) (a .theta .now)
+    (a .ready .now) (length (a .table .now)) _ first _ _ _ (left .if1 .left) (room .if2 .left) (scaled .used-scale .ensures)
+    (decoded .decode .ensures) (priced .cost-at .ensures .0) in (
+      answer,
+      prepared-table (a .bins .now) (a .scale) (a .window-end) (a .peak) (a .error) (a .genome) (a .theta .now) (a .ready .now)
+          (a .table .now) _ first _ _ _ (left .if1 .left) answer (decoded .decode .ensures) (priced .cost-at .ensures .1),
+    )
+
+pub cost-prepared-spec : {M : Type 1} → statement M
+cost-prepared-spec =
+    tie.close
+    (tie.spec
+    fit-refusal-requires
+    returns
+    add-if2
+    mul-if2
+    returns-2
+    cast-decode
+    int-to-float-decode
+    decode-requires
+    used-scale-requires
+    cast-cost-at
+    cost-at-requires
+    same-length
+    returns-3)

@@ -1,0 +1,77 @@
+-- `models::prepared::write_rows` meets its contract. Assumes nothing.
+use mathlib.Core.Path.{_≡_, refl, ap, _∙_}
+use Prim.Native.Nat.{ℕ, _-_, _*_, _≤_, zero-le}
+use native.Mathlib.Omega.{arith}
+use lib.ListN.{length, length-set}
+use Rattle.meaning.specs.Over.{over}
+use Rattle.models.specs.Prepared.{readyRows}
+use Rattle.models.proofs.ReadyCost.{rows-none, rows-more}
+use borrow.Author.Needs.{needs}
+use Rattle.models.proofs.prepared.write_rows.Statement.{statement}
+use Rattle.models.proofs.prepared.write_rows.Tie as tie
+
+abbrev Inv-loop : tie.InvT-loop
+Inv-loop rows out₀ n₀ out n =
+    (n ≤ rows) × (length out ≡ length out₀) × (2 * rows ≤ length out₀) × (out ≡ over (readyRows n) out₀)
+
+abbrev μ-loop : tie.MeasureT-loop
+μ-loop rows out₀ n₀ out n = rows - n
+
+loop-holds : tie.Need-loop-holds Inv-loop μ-loop
+loop-holds c = (zero-le, refl, c .before .pre, rows-none _)
+
+int-to-float-x : tie.Need-int-to-float-x Inv-loop μ-loop
+int-to-float-x c = search needs
+
+mul-i : tie.Need-mul-i Inv-loop μ-loop
+mul-i c = search needs
+
+ln-requires : tie.Need-ln-requires Inv-loop μ-loop
+ln-requires c κs = search needs
+
+mul-out : tie.Need-mul-out Inv-loop μ-loop
+mul-out c = search needs
+
+slice-write-out : tie.Need-slice-write-out Inv-loop μ-loop
+slice-write-out c = omega arith
+
+lgamma-requires : tie.Need-lgamma-requires Inv-loop μ-loop
+lgamma-requires c κs = search needs
+
+add-out : tie.Need-add-out Inv-loop μ-loop
+add-out c = omega arith
+
+mul-out-2 : tie.Need-mul-out-2 Inv-loop μ-loop
+mul-out-2 c = search needs
+
+slice-write-out-2 : tie.Need-slice-write-out-2 Inv-loop μ-loop
+slice-write-out-2 c = simp length-set (omega arith)
+
+add-n : tie.Need-add-n Inv-loop μ-loop
+add-n c = omega arith
+
+loop-less : tie.Need-loop-less Inv-loop μ-loop
+loop-less c = omega arith
+
+loop-again : tie.Need-loop-again Inv-loop μ-loop
+loop-again c =
+    let inv = c .before .before .before .before .loop .inv in (
+      omega arith,
+      simp length-set (inv .1),
+      inv .2,
+      rows-more _ _ _ _ _ (inv .3) (omega arith) (c .before .ln .ensures) (c .lgamma .ensures),
+    )
+
+same-length : tie.Need-same-length Inv-loop μ-loop
+same-length c = search needs
+
+returns : tie.Need-returns Inv-loop μ-loop
+returns c =
+    let inv = c .before .loop .inv in
+    let a = c .before .before .before .args in
+    let done : c .before .loop .n ≡ a .rows = omega arith in
+    inv .3 ∙ ap (λ (k : ℕ). over (readyRows k) (a .out .now)) done
+
+pub write-rows-spec : {M : Type 1} → statement M
+write-rows-spec =
+    tie.close (tie.spec Inv-loop μ-loop loop-holds int-to-float-x mul-i ln-requires mul-out slice-write-out lgamma-requires add-out mul-out-2 slice-write-out-2 add-n loop-less loop-again same-length returns)

@@ -1,0 +1,28 @@
+-- `models::window_masses::masses_at` meets its contract. Assumes nothing.
+use Rattle.models.specs.Hoists.{massesAt}
+use borrow.Author.Needs.{needs}
+use Rattle.models.proofs.window_masses.masses_at.Statement.{statement}
+use Rattle.models.proofs.window_masses.masses_at.Tie as tie
+
+ln-at-requires : tie.Need-ln-at-requires
+ln-at-requires c κs = search needs
+
+window-mass-with-requires : tie.Need-window-mass-with-requires
+window-mass-with-requires c κs = search needs
+
+lobe-masses-requires : tie.Need-lobe-masses-requires
+lobe-masses-requires c κs = search needs
+
+mix-mass-requires : tie.Need-mix-mass-requires
+mix-mass-requires c κs = search needs
+
+returns : tie.Need-returns
+unfolding massesAt
+returns c =
+    let lobes = c .before in
+    let error = lobes .before in
+    rw (c .mix-mass .ensures, lobes .lobe-masses .ensures, error .window-mass-with .ensures, error .before .ln-at .ensures)
+
+pub masses-at-spec : {M : Type 1} → statement M
+masses-at-spec =
+    tie.close (tie.spec ln-at-requires window-mass-with-requires lobe-masses-requires mix-mass-requires returns)
