@@ -2,7 +2,7 @@
 -- of `hole_cutoff_sure`: it tells the same cutoff (`told-same`), it is sure exactly where demand 3's premise holds
 -- (`sure-supposed`, `supposed-sure`), and where it is sure demand 3 holds without a premise (`sure-keeps`).
 -- Assumes nothing.
-use Prim.Native.Nat.{ℕ, suc, _≤_, suc-le-suc}
+use Prim.Native.Nat.{ℕ, suc, _*_, _^_, _≤_, suc-le-suc}
 use mathlib.Core.Path.{_≡_, refl, sym, ap, _∙_, subst}
 use mathlib.Core.Bool.{Bool, true, false, _&&_, cond}
 use mathlib.Core.Option.{Option, none, some}
@@ -12,14 +12,17 @@ use lib.Dec.{ltb, eqb}
 use lib.Ieee.{Float, binary64}
 use lib.Ieee.Bits.{is-true}
 use lib.Ieee.Fits.{and-l, and-r, div-fits}
+use lib.Ieee.Positive.{num, den}
 use lib.Ieee.Scale.{finite}
 use Rattle.meaning.specs.Reply.{give, firstOf, unless}
 use Rattle.meaning.specs.Rows.{most, windowTests}
 use Rattle.meaning.proofs.Chains.{chain-passed, gave-passed}
 use Rattle.meaning.proofs.Replies.{gave-answer}
 use Rattle.meaning.proofs.Rows.{window-passed}
+use Rattle.routines.specs.Units.{unitsOf}
 use Rattle.routines.proofs.Shapes.{exp-fits}
 use Rattle.routines.proofs.Tests.{yes}
+use Rattle.routines.proofs.Values.{has-units}
 use Rattle.models.specs.ClaimsCutoff.{Supposed, Keeps, Demanded, DemandedSure, toldOf}
 use Rattle.models.specs.Cutoffs.{singleAt, walkStarts, allowedOf, ceilingOf, holeWalkOf, holeCutoffOf}
 use Rattle.models.specs.Cutoffs.{sureOf, Sureness, sure, noWalk, sureness, holeCutoffSureOf}
@@ -30,6 +33,13 @@ use Rattle.models.proofs.Removed.{Says, walk-keeps}
 use Rattle.models.proofs.Walks.{answer-range, all-each, each-all}
 
 module _ (fit : SpectrumFit) (budget : Float) where
+  -- ---- the probabilities and the share are whole numbers of units: nothing is lost of num / den, their exact value
+  pub probability-whole : (k : ℕ) → let p = singleAt fit k in finite p ≡ true → num p * 2 ^ 1074 ≡ unitsOf p * den p
+  probability-whole k h = has-units binary64 (singleAt fit k) (exp-fits _) (yes h)
+
+  pub share-whole : let s = allowedOf fit budget in finite s ≡ true → num s * 2 ^ 1074 ≡ unitsOf s * den s
+  share-whole h = has-units binary64 (allowedOf fit budget) (div-fits binary64 _ _) (yes h)
+
   -- ---- THE THEOREM
   -- `holeCutoffOf fit budget` is what `hole_cutoff(fit, budget)` answers, by its contract, which cites this too
   pub hole-cutoff-keeps : Demanded fit budget (holeCutoffOf fit budget)
@@ -57,7 +67,8 @@ module _ (fit : SpectrumFit) (budget : Float) where
   unfolding holeCutoffOf holeWalkOf
   hole-cutoff-range c gave =
       go (walkStarts fit) refl
-      (gave-answer (cond (walkStarts fit) (holeWalkOf fit budget) none) (some c) (windowTests (fit .«fit_window_end»)) gave)
+      (gave-answer (cond (walkStarts fit) (holeWalkOf fit budget) none) (some c) (windowTests (fit .«fit_window_end»))
+      gave)
     where
       go : (b : Bool) → walkStarts fit ≡ b → cond b (holeWalkOf fit budget) none ≡ some c
           → (2 ≤ c) × (c ≤ ceilingOf fit)

@@ -1,6 +1,7 @@
 -- Demand 3, word for word: what is supposed, and what then holds of the exact sums of the probabilities.
--- Every finite `f64` is a whole multiple of 2 ^ -1074 (`has-units` of crates/routines). Sums and comparisons are those
--- of these whole numbers, with both sides times 2 ^ 36 where one part in 2 ^ 36 is allowed.
+-- Every finite `f64` is a whole multiple of 2 ^ -1074 (`probability-whole`, `share-whole` in proofs/HoleCutoffs.antt).
+-- Sums and comparisons are those of these whole numbers, with both sides times 2 ^ 36 where one part in 2 ^ 36 is
+-- allowed.
 -- Definitions only. Assumes nothing.
 use Prim.Native.Nat.{ℕ, zero, suc, _+_, _^_, _≤_}
 use mathlib.Core.Path.{_≡_}
@@ -18,7 +19,7 @@ use Rattle.models.specs.Cutoffs.{Sureness, sure, notSure, noWalk}
 use Rattle.models.specs.Walk.{probable}
 use Rattle.models.specs.declared.fit.SpectrumFit.{SpectrumFit}
 
--- a finite value in units of 2 ^ -1074; either zero is 0
+-- a finite value in units of 2 ^ -1074; either zero is 0, and so are a NaN and an infinity, which no sum below has
 unfoldable pub exactly : Float → ℤ
 exactly nan = pos 0
 exactly (inf s) = pos 0
