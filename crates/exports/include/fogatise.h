@@ -296,6 +296,21 @@ fog_number fog_cost(const uint32_t *bins, size_t bins_length, double scale, size
                     const double *theta, size_t theta_length, double *table, size_t table_length);
 
 /*
+ * What the costs of one window have in common: ln n and lgamma(n + 1) for n from 0 to window_end + 1, 2 (window_end + 2) entries in front of
+ * `out`; what lies behind stays. Refusals 2, 5 and 10.
+ */
+fog_written fog_prepare_window(size_t window_end, double *out, size_t length);
+
+/*
+ * fog_cost, faster: `ready` is as fog_prepare_window filled it for this window end, and then the answer and the table are fog_cost's, bit
+ * for bit. Over another slice it still ends and answers, but means nothing. Refusal 10 also where `ready` has fewer than
+ * 2 (window_end + 2) entries.
+ */
+fog_number fog_cost_prepared(const uint32_t *bins, size_t bins_length, double scale, size_t window_end, size_t peak, uint8_t error,
+                             uint8_t genome, const double *theta, size_t theta_length, const double *ready, size_t ready_length,
+                             double *table, size_t table_length);
+
+/*
  * A converged list as a fit, with its cost, which may be any number, and its iterations. The rest is as in fog_cost, but that a shelf table
  * is always built.
  */
