@@ -17,7 +17,7 @@ use Rattle.models.specs.Families.{listLengthOf}
 use Rattle.models.specs.declared.families.ErrorModel.{ErrorModel}
 use Rattle.models.specs.declared.families.ErrorModel.the-variants.{FreeSingletonWeibull, SingletonPareto}
 use Rattle.models.specs.declared.families.GenomeModel.{GenomeModel}
-use Rattle.fitter.specs.StartTables.{tableOf, notRows, wrongTables}
+use Rattle.fitter.specs.StartTables.{tableOf, notRows, wrongTables, partSays, startTableOf}
 use Rattle.fitter.specs.Starts.{hintOf, perRow, allStarts, oddShapes, startsOf}
 use Rattle.fitter.proofs.Parts.{all-length}
 
@@ -73,6 +73,25 @@ module _ (error : ErrorModel) (pareto weibull r : List Float)
 
   pub some-fine : (length r ≡ 0 → ⊥) → 0 ≡ firstOf (wrongTables (length pareto) (length weibull))
   some-fine h = ⊎-elim (λ e. e) (λ e. absurd (h (ap length (none e)))) (number (length pareto) (length weibull))
+
+  -- so what the part says is the reply: 7, or the table
+  pub says : partSays r ≡ startTableOf error pareto weibull
+  unfolding startTableOf
+  says = ⊎-elim fine refused (number (length pareto) (length weibull))
+    where
+      filled : (l : List Float) → 0 < length l / 3 → partSays l ≡ give l
+      filled [] h = absurd (omega arith)
+      filled (x ∷ l) h = refl
+
+      fine : 0 ≡ firstOf (wrongTables (length pareto) (length weibull)) → partSays r ≡ startTableOf error pareto weibull
+      fine e =
+          ap partSays (took e) ∙ filled (tableOf error pareto weibull) (table-some error pareto weibull e)
+          ∙ sym (chain-passed (give (tableOf error pareto weibull)) (wrongTables (length pareto) (length weibull)) refl e)
+
+      refused : 7 ≡ firstOf (wrongTables (length pareto) (length weibull)) → partSays r ≡ startTableOf error pareto weibull
+      refused e =
+          ap partSays (none e)
+          ∙ sym (chain-refused (give (tableOf error pareto weibull)) (wrongTables (length pareto) (length weibull)) 7 e (omega arith))
 
 -- ---- the answer
 module _ (error : ErrorModel) (genome : GenomeModel) (pareto weibull seeds : List Float) (hint share : Float)

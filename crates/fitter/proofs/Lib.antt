@@ -3,7 +3,6 @@
 pub mod Recovered
 pub mod Sums
 pub mod ShareTests
-pub mod Cases
 -- ---- the starts
 pub mod Writing
 pub mod Joins
@@ -16,4 +15,7 @@ pub mod Either
 pub mod Verdicts
 -- ---- the selection
 pub mod Replaced
+pub mod Lower
 pub mod Selecting
+-- ---- document 01's cases
+pub mod Cases

@@ -18,13 +18,13 @@ unfolding replacesOf maxOf absOf neg add sub mul lt eq ofBits round
 takes-the-second = refl
 
 -- ---- a NaN or an infinity
-below-nan : (x : Float) → lt x nan ≡ false
+pub below-nan : (x : Float) → lt x nan ≡ false
 unfolding lt
 below-nan nan = refl
 below-nan (inf s) = refl
 below-nan (fin s m e) = refl
 
-below-all : (x : Float) → lt x (inf true) ≡ false
+pub below-all : (x : Float) → lt x (inf true) ≡ false
 unfolding lt
 below-all nan = refl
 below-all (inf true) = refl

@@ -7,3 +7,4 @@ pub mod Validation
 pub mod Attempts
 pub mod Selection
 pub mod Outcomes
+pub mod Cases

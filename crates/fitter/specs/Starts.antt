@@ -1,12 +1,14 @@
 -- Every start of a search, as spectrum_fitter.rs has it, operation by operation: the seeds and then the hint, for each
 -- of them the error starts of a table, and for each of those the shelf's shapes. Definitions only. Assumes nothing.
 use Prim.Native.Nat.{ℕ, _+_, _*_, _/_, _%_}
+use mathlib.Core.Path.{_≡_}
 use mathlib.Core.Bool.{_&&_, not, cond}
 use mathlib.Core.List.{List, [], _∷_, _++_}
 use lib.Dec.{eqb}
 use lib.ListN.{length, getD}
 use lib.Ieee.{Float, nan, neg, lt}
 use lib.Ieee.Scale.{finite}
+use Rattle.meaning.specs.Over.{over}
 use Rattle.meaning.specs.Reply.{Reply, give, Test, test, chain}
 use Rattle.meaning.specs.Rows.{inOrder, short}
 use Rattle.routines.specs.Constants.{zero, half, one, two, three}
@@ -76,23 +78,34 @@ shapeAt shapes j = record { retained = getD shapes (2 * j) nan; concentration = 
 unfoldable pub shelfStart : ErrorModel → Float → ErrorStart → Float → List Float → ℕ → List Float
 shelfStart error seed e share shapes j = plainStart error seed e ++ shelfList share (shapeAt shapes j)
 
+-- one for each pair of a shelf's shapes
+abbrev pub shapeStarts : ErrorModel → Float → ErrorStart → Float → List Float → List Float
+shapeStarts error seed e share shapes = inTurn (shelfStart error seed e share shapes) (length shapes / 2)
+
 -- one start, or one for each pair of a shelf's shapes
 unfoldable pub rowStarts : ErrorModel → GenomeModel → Float → ErrorStart → Float → List Float → List Float
 rowStarts error NegativeBinomial seed e share shapes = plainStart error seed e
-rowStarts error ShelfNegativeBinomial seed e share shapes =
-    inTurn (shelfStart error seed e share shapes) (length shapes / 2)
+rowStarts error ShelfNegativeBinomial seed e share shapes = shapeStarts error seed e share shapes
 
 unfoldable pub tableStarts : ErrorModel → GenomeModel → Float → List Float → Float → List Float → ℕ → List Float
 tableStarts error genome seed table share shapes i = rowStarts error genome seed (errorStartAt table i) share shapes
 
+-- those of one seed
+abbrev pub oneSeed : ErrorModel → GenomeModel → Float → List Float → Float → List Float → List Float
+oneSeed error genome seed table share shapes = inTurn (tableStarts error genome seed table share shapes) (length table / 3)
+
 unfoldable pub seedStarts : ErrorModel → GenomeModel → List Float → List Float → Float → List Float → ℕ → List Float
-seedStarts error genome seeds table share shapes i =
-    inTurn (tableStarts error genome (getD seeds i nan) table share shapes) (length table / 3)
+seedStarts error genome seeds table share shapes i = oneSeed error genome (getD seeds i nan) table share shapes
 
 unfoldable pub allStarts : ErrorModel → GenomeModel → List Float → List Float → Float → List Float → List Float
 allStarts error genome seeds table share shapes =
     inTurn (seedStarts error genome seeds table share shapes) (length seeds)
 
+-- ---- what a writer of `list` into lent memory states: r numbers, over what stood there
+abbrev pub Wrote : List Float → ℕ → List Float → List Float → Type 0
+Wrote list r before after = (r ≡ length list) × (after ≡ over list before)
+
+-- ---- the answer
 -- how many starts an error start has
 abbrev pub perRow : GenomeModel → ℕ → ℕ
 perRow NegativeBinomial shapes = 1

@@ -5,11 +5,9 @@ ghost use mathlib.Core.List.{[], _∷_, _++_};
 ghost use Prim.Native.Nat.{_/_, _<_, _≤_};
 ghost use lib.Ieee.{nan};
 ghost use lib.ListN.{length, getD};
-ghost use Rattle.meaning.specs.Over.{over};
-ghost use Rattle.fitter.specs.InTurn.{inTurn};
 ghost use Rattle.fitter.specs.Starts.{logitOf, hintOf, dispersionStart, ratioStart, paretoList, weibullList};
-ghost use Rattle.fitter.specs.Starts.{plainStart, shelfList, shelfStart, errorStartAt, shapeAt};
-ghost use Rattle.fitter.specs.Starts.{rowStarts, tableStarts, seedStarts, allStarts};
+ghost use Rattle.fitter.specs.Starts.{plainStart, shelfList, errorStartAt, shapeAt, Wrote};
+ghost use Rattle.fitter.specs.Starts.{shapeStarts, rowStarts, oneSeed, allStarts};
 use models::families::ErrorModel;
 use models::families::GenomeModel;
 use models::params::RATIO_HIGH;
@@ -70,7 +68,7 @@ fn ratio_start() -> f64
 
 fn put_pareto(rest: &mut [f64], dispersion: f64, tail: f64, single: f64, ratio: f64) -> usize
     requires { ⌜ 7 ≤ length (now rest) ⌝ }
-    ensures { λ r. ⌜ (r ≡ 7) × (now (rest .exit) ≡ over (paretoList dispersion tail single ratio) (now (rest .entry))) ⌝ }
+    ensures { λ r. ⌜ Wrote (paretoList dispersion tail single ratio) r (now (rest .entry)) (now (rest .exit)) ⌝ }
 {
     rest[0] = 0.0;
     rest[1] = -3.0;
@@ -91,7 +89,7 @@ fn put_weibull(
     ratio: f64,
 ) -> usize
     requires { ⌜ 8 ≤ length (now rest) ⌝ }
-    ensures { λ r. ⌜ (r ≡ 8) × (now (rest .exit) ≡ over (weibullList dispersion tail single shape ratio) (now (rest .entry))) ⌝ }
+    ensures { λ r. ⌜ Wrote (weibullList dispersion tail single shape ratio) r (now (rest .entry)) (now (rest .exit)) ⌝ }
 {
     rest[0] = 0.0;
     rest[1] = -3.0;
@@ -107,7 +105,7 @@ fn put_weibull(
 // A start without a shelf: 7 or 8 numbers.
 fn write_plain(rest: &mut [f64], error: ErrorModel, seed: f64, start: ErrorStart) -> usize
     requires { ⌜ length (plainStart error seed start) ≤ length (now rest) ⌝ }
-    ensures { λ r. ⌜ (r ≡ length (plainStart error seed start)) × (now (rest .exit) ≡ over (plainStart error seed start) (now (rest .entry))) ⌝ }
+    ensures { λ r. ⌜ Wrote (plainStart error seed start) r (now (rest .entry)) (now (rest .exit)) ⌝ }
 {
     let dispersion = dispersion_start(seed);
     let tail = ln(start.tail);
@@ -124,7 +122,7 @@ fn write_plain(rest: &mut [f64], error: ErrorModel, seed: f64, start: ErrorStart
 
 fn put_shelf(rest: &mut [f64], share: f64, retained: f64, concentration: f64) -> usize
     requires { ⌜ 3 ≤ length (now rest) ⌝ }
-    ensures { λ r. ⌜ (r ≡ 3) × (now (rest .exit) ≡ over (share ∷ retained ∷ concentration ∷ []) (now (rest .entry))) ⌝ }
+    ensures { λ r. ⌜ Wrote (share ∷ retained ∷ concentration ∷ []) r (now (rest .entry)) (now (rest .exit)) ⌝ }
 {
     rest[0] = share;
     rest[1] = retained;
@@ -135,7 +133,7 @@ fn put_shelf(rest: &mut [f64], share: f64, retained: f64, concentration: f64) ->
 // What a shelf adds: its share, and its shape inside the bounds.
 fn write_shelf(rest: &mut [f64], share: f64, shape: ShelfShape) -> usize
     requires { ⌜ length (shelfList share shape) ≤ length (now rest) ⌝ }
-    ensures { λ r. ⌜ (r ≡ length (shelfList share shape)) × (now (rest .exit) ≡ over (shelfList share shape) (now (rest .entry))) ⌝ }
+    ensures { λ r. ⌜ Wrote (shelfList share shape) r (now (rest .entry)) (now (rest .exit)) ⌝ }
 {
     let bounds = shelf_concentration_bounds(shape.retained);
     let part = logit(share / SHELF_MAX_SHARE);
@@ -154,8 +152,7 @@ fn write_shelf_start(
     shape: ShelfShape,
 ) -> usize
     requires { ⌜ length (plainStart error seed start ++ shelfList share shape) ≤ length (now rest) ⌝ }
-    ensures { λ r. ⌜ (r ≡ length (plainStart error seed start ++ shelfList share shape))
-        × (now (rest .exit) ≡ over (plainStart error seed start ++ shelfList share shape) (now (rest .entry))) ⌝ }
+    ensures { λ r. ⌜ Wrote (plainStart error seed start ++ shelfList share shape) r (now (rest .entry)) (now (rest .exit)) ⌝ }
 {
     let first = write_plain(rest, error, seed, start);
     first + write_shelf(&mut rest[first..], share, shape)
@@ -180,9 +177,8 @@ fn write_shapes(
     share: f64,
     shapes: &[f64],
 ) -> usize
-    requires { ⌜ length (inTurn (shelfStart error seed start share (now shapes)) (length (now shapes) / 2)) ≤ length (now rest) ⌝ }
-    ensures { λ r. ⌜ (r ≡ length (inTurn (shelfStart error seed start share (now (shapes .entry))) (length (now (shapes .entry)) / 2)))
-        × (now (rest .exit) ≡ over (inTurn (shelfStart error seed start share (now (shapes .entry))) (length (now (shapes .entry)) / 2)) (now (rest .entry))) ⌝ }
+    requires { ⌜ length (shapeStarts error seed start share (now shapes)) ≤ length (now rest) ⌝ }
+    ensures { λ r. ⌜ Wrote (shapeStarts error seed start share (now (shapes .entry))) r (now (rest .entry)) (now (rest .exit)) ⌝ }
 {
     let n = shapes.len() / 2;
     let mut at: usize = 0;
@@ -206,8 +202,7 @@ fn write_row(
     shapes: &[f64],
 ) -> usize
     requires { ⌜ length (rowStarts error genome seed start share (now shapes)) ≤ length (now rest) ⌝ }
-    ensures { λ r. ⌜ (r ≡ length (rowStarts error genome seed start share (now (shapes .entry))))
-        × (now (rest .exit) ≡ over (rowStarts error genome seed start share (now (shapes .entry))) (now (rest .entry))) ⌝ }
+    ensures { λ r. ⌜ Wrote (rowStarts error genome seed start share (now (shapes .entry))) r (now (rest .entry)) (now (rest .exit)) ⌝ }
 {
     match genome {
         GenomeModel::NegativeBinomial => write_plain(rest, error, seed, start),
@@ -236,9 +231,8 @@ fn write_table(
     share: f64,
     shapes: &[f64],
 ) -> usize
-    requires { ⌜ length (inTurn (tableStarts error genome seed (now table) share (now shapes)) (length (now table) / 3)) ≤ length (now rest) ⌝ }
-    ensures { λ r. ⌜ (r ≡ length (inTurn (tableStarts error genome seed (now (table .entry)) share (now (shapes .entry))) (length (now (table .entry)) / 3)))
-        × (now (rest .exit) ≡ over (inTurn (tableStarts error genome seed (now (table .entry)) share (now (shapes .entry))) (length (now (table .entry)) / 3)) (now (rest .entry))) ⌝ }
+    requires { ⌜ length (oneSeed error genome seed (now table) share (now shapes)) ≤ length (now rest) ⌝ }
+    ensures { λ r. ⌜ Wrote (oneSeed error genome seed (now (table .entry)) share (now (shapes .entry))) r (now (rest .entry)) (now (rest .exit)) ⌝ }
 {
     let n = table.len() / 3;
     let mut at: usize = 0;
@@ -271,8 +265,7 @@ pub(crate) fn write_starts(
     shapes: &[f64],
 ) -> usize
     requires { ⌜ length (allStarts error genome (now seeds ++ (hint ∷ [])) (now table) share (now shapes)) ≤ length (now rest) ⌝ }
-    ensures { λ r. ⌜ (r ≡ length (allStarts error genome (now (seeds .entry) ++ (hint ∷ [])) (now (table .entry)) share (now (shapes .entry))))
-        × (now (rest .exit) ≡ over (allStarts error genome (now (seeds .entry) ++ (hint ∷ [])) (now (table .entry)) share (now (shapes .entry))) (now (rest .entry))) ⌝ }
+    ensures { λ r. ⌜ Wrote (allStarts error genome (now (seeds .entry) ++ (hint ∷ [])) (now (table .entry)) share (now (shapes .entry))) r (now (rest .entry)) (now (rest .exit)) ⌝ }
 {
     let mut at: usize = 0;
     let mut i: usize = 0;

@@ -13,6 +13,7 @@ pub mod Shapes
 pub mod ShapesExpm1
 pub mod ShapesLn
 pub mod Products
+pub mod Differences
 pub mod Rows
 pub mod Patterns
 pub mod Commutes

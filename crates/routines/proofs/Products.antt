@@ -22,7 +22,7 @@ use Rattle.routines.proofs.Sizes.{in-units, neg-round}
 use Rattle.routines.proofs.Orders.{one-above-zero}
 
 -- ---- the size of a value that fits, rounded, is that size
-own-size : (s : Bool) (m : ℕ) (e : ℤ) → T (fits binary64 (fin s m e))
+pub own-size : (s : Bool) (m : ℕ) (e : ℤ) → T (fits binary64 (fin s m e))
     → HasValue (round binary64 false (m * up e) (down e)) false (m * up e) (down e)
 own-size s m e F =
     let u = in-units s m e F in
@@ -53,7 +53,7 @@ or-le a b t = go (ltb a b) refl t
 
 -- ---- a size a / c, as a float x, against what a product was rounded to
 module _ (m : ℕ) (e : ℤ) (x : Float) (own : HasValue x false (m * up e) (down e)) where
-  up-from : (r : Float) → T (le x r) → ((k : ℕ) (g : ℤ) → r ≡ fin false k g → m * up e * down g ≤ k * up g * down e)
+  pub up-from : (r : Float) → T (le x r) → ((k : ℕ) (g : ℤ) → r ≡ fin false k g → m * up e * down g ≤ k * up g * down e)
   unfolding le lt eq
   up-from r h k g i = go x own (subst (λ (y : Float). T (le x y)) i h)
     where
@@ -66,7 +66,7 @@ module _ (m : ℕ) (e : ℤ) (x : Float) (own : HasValue x false (m * up e) (dow
           carry-up (m * up e) (down e) (a * up b) (down b) (k * up g) (down g) (down-pos b) (v .1)
           (or-le (a * up b * down g) (k * up g * down b) t)
 
-  down-to : (r : Float) → T (le r x) → ((k : ℕ) (g : ℤ) → r ≡ fin false k g → k * up g * down e ≤ m * up e * down g)
+  pub down-to : (r : Float) → T (le r x) → ((k : ℕ) (g : ℤ) → r ≡ fin false k g → k * up g * down e ≤ m * up e * down g)
   unfolding le lt eq
   down-to r h k g i = go x own (subst (λ (y : Float). T (le y x)) i h)
     where
@@ -79,7 +79,7 @@ module _ (m : ℕ) (e : ℤ) (x : Float) (own : HasValue x false (m * up e) (dow
           carry-down (m * up e) (down e) (a * up b) (down b) (k * up g) (down g) (down-pos b) (v .1)
           (or-le (k * up g * down b) (a * up b * down g) t)
 
-  finite-below : (r : Float) → T (le r x) → r ≡ inf false → ⊥
+  pub finite-below : (r : Float) → T (le r x) → r ≡ inf false → ⊥
   unfolding le lt eq
   finite-below r h i = go x own (subst (λ (y : Float). T (le y x)) i h)
     where

@@ -1,0 +1,49 @@
+-- Document 01's cases marked P as one table: its rows, and what a row says of the calls. Definitions only. Assumes nothing.
+use Prim.Native.Nat.{ℕ}
+use mathlib.Core.Path.{_≡_}
+use mathlib.Core.Bool.{Bool, true, false, cond}
+use mathlib.Core.List.{List, [], _∷_}
+use lib.Ieee.{Float}
+use Rattle.meaning.specs.Reply.{give}
+use Rattle.routines.specs.Constants.{one}
+use Rattle.routines.specs.Starts.{dec}
+use Rattle.fitter.specs.Attempts.{validOf}
+use Rattle.fitter.specs.Recovering.{recoverBinsOf}
+use Rattle.fitter.specs.Selection.{chosen, selectOf}
+use Rattle.fitter.specs.Shares.{shelfShareOf}
+use Rattle.fitter.specs.declared.attempts.FitAttempt.{FitAttempt}
+
+abbrev pub Each : {A : Type 0} → (A → Type 0) → List A → Type 0
+Each P [] = Unit {0}
+Each P (x ∷ xs) = P x × Each P xs
+
+-- ---- recovered: a bin, a scale, and what it gives
+abbrev pub recovers : ℕ × Float × ℕ → Type 0
+recovers row = recoverBinsOf (row .0 ∷ 0 ∷ []) (row .1) 2 ≡ give (row .2 ∷ 0 ∷ [])
+
+abbrev pub recoveredRows : List (ℕ × Float × ℕ)
+recoveredRows = (3, dec 2 1, 2) ∷ (5, dec 25 10, 2) ∷ (1, dec 3 1, 0) ∷ (9, dec 11 10, 8) ∷ []
+
+-- ---- share: bins, valley, peak, and the share
+abbrev pub shares : List ℕ × ℕ × ℕ × Float → Type 0
+shares row = shelfShareOf (row .0) one (row .1) (row .2) ≡ give (row .3)
+
+abbrev pub shareRows : List (List ℕ × ℕ × ℕ × Float)
+shareRows =
+    (9 ∷ 1 ∷ 2 ∷ 6 ∷ 3 ∷ [], 2, 4, dec 2 12)
+    ∷ (9 ∷ 5 ∷ 1 ∷ 2 ∷ [], 2, 4, dec 4 10)
+    ∷ (10 ∷ 4 ∷ 2 ∷ 6 ∷ 8 ∷ 6 ∷ [], 3, 5, dec 1 100)
+    ∷ []
+
+-- ---- selection of two: their BICs, and whether the second is taken
+abbrev pub selects : Float × Float × Bool → Type 0
+selects row =
+    (a b : FitAttempt) → validOf a ≡ true → validOf b ≡ true → a .candidate .bic ≡ row .0 → b .candidate .bic ≡ row .1
+    → selectOf (a ∷ b ∷ []) ≡ cond (row .2) (chosen (b .candidate)) (chosen (a .candidate))
+
+abbrev pub selectionRows : List (Float × Float × Bool)
+selectionRows = (dec 100 1, dec 9999999995 100000000, false) ∷ (dec 100 1, dec 999999 10000, true) ∷ []
+
+-- the walk's rows join them with the cutoffs
+abbrev pub Table : Type 0
+Table = Each recovers recoveredRows × Each shares shareRows × Each selects selectionRows
