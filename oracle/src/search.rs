@@ -1,41 +1,24 @@
 //! The points that Nelder and Mead's search visits, from the starts of spectrum_fitter.rs.
 
 use crate::draw::Draw;
+use crate::layer3::rust::linked::mixture;
 use crate::layer3::Problem;
-use crate::port;
+use crate::linked::spectrum_fitter::{empirical_shelf_share, fit_starts};
 use crate::spectra;
 
-/// A tail exponent, the singletons' probability, a shape.
-const WEIBULL: [(f64, f64, f64); 3] = [(1.5, 0.8, 0.05), (2.5, 0.9, 0.5), (2.0, 0.95, 1.0)];
-const PARETO: [(f64, f64, f64); 2] = [(1.5, 0.8, 0.0), (2.5, 0.95, 0.0)];
-const DISPERSIONS: [f64; 3] = [2.0, 8.0, 15.0];
-const RATIO: f64 = 1.9;
+const SEEDS: [f64; 3] = [2.0, 8.0, 15.0];
 const SHAPES: [(f64, f64); 2] = [(0.5, 3.0), (0.75, 4.0)];
 
 /// How far each point of the first simplex is from the start, and the costs' spread at which the search ends.
 const STEP: f64 = 0.5;
 const SPREAD: f64 = 1e-4;
 
-fn logit(p: f64) -> f64 {
-    port::ln(p / (1.0 - p))
-}
-
-/// One of a configuration's starts, with a hint of the dispersion and a shelf share as a histogram may give them.
+/// One of the starts over a problem's spectrum; the valley is taken at a third of the peak.
 pub fn start(d: &mut Draw, p: &Problem) -> Vec<f64> {
-    let hint = d.between(1.1, 6.0);
-    let dispersion = d.pick(&[DISPERSIONS[0], DISPERSIONS[1], DISPERSIONS[2], hint]);
-    let (exponent, singletons, shape) = if p.weibull() { d.pick(&WEIBULL) } else { d.pick(&PARETO) };
-    let mut start = vec![0.0, -3.0, 0.0, port::ln(dispersion - 1.0), port::ln(exponent), logit(singletons)];
-    if p.weibull() {
-        start.push(port::ln(shape));
-    }
-    start.push(logit((RATIO - 1.5) / 0.5));
-    if p.with_shelf() {
-        let (share, (retained, concentration)) = (d.between(0.01, 0.4), d.pick(&SHAPES));
-        let (low, high) = (1.0 / retained, 20.0);
-        start.extend([logit(share / 0.5), logit((retained - 0.3) / 0.7), logit((concentration - low) / (high - low))]);
-    }
-    start
+    let (mixture, hint) = (mixture(p), d.between(1.1, 6.0));
+    let share = empirical_shelf_share(&p.bins, (p.peak / 3).max(2) as usize, p.peak as usize);
+    let starts = fit_starts(&mixture, hint, share, &SEEDS, &SHAPES, None);
+    starts[d.below(starts.len() as u64) as usize].clone()
 }
 
 /// A simulated spectrum with its peak at a sixth of the window, and a start over it.

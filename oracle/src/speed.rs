@@ -1,31 +1,25 @@
 //! The time of the calls of a search and of its cutoffs, beside the unaltered Rust, as Markdown tables. `measure/speed` builds it.
-//! Usage: calls DIVISOR CALL END: of the spectra and of the slices; one call, one window end, or `all`. Exits 1 if a bar is missed.
+//! Usage: speed DIVISOR CALL END: of the spectra and of the slices; one call, one window end, or `all`. Exits 1 if a bar is missed.
 #![allow(dead_code)]
 
-#[path = "../../../oracle/src/argmin.rs"]
 mod argmin;
-#[path = "../../../oracle/src/draw.rs"]
+mod call;
 mod draw;
+#[path = "speed/inputs.rs"]
 mod inputs;
 mod layer3;
-#[path = "../../../oracle/src/linked.rs"]
+mod layer4;
 mod linked;
-#[path = "../../../oracle/src/port.rs"]
 mod port;
-#[cfg(prepared)]
-#[path = "../../../oracle/src/prepared.rs"]
-mod prepared;
+#[path = "speed/race.rs"]
 mod race;
+#[path = "speed/rows.rs"]
 mod rows;
-#[path = "../../../oracle/src/rules.rs"]
 mod rules;
-#[path = "../../../oracle/src/search.rs"]
 mod search;
-#[path = "../../../oracle/src/spectra.rs"]
 mod spectra;
-#[path = "../../../oracle/src/unaltered.rs"]
+mod tally;
 mod unaltered;
-#[path = "../../../oracle/src/words.rs"]
 mod words;
 
 use inputs::{cell, Cell, FAMILIES};
@@ -86,7 +80,7 @@ fn table(row: &Row, cells: &[Cell], divisor: usize) -> usize {
 
 fn main() {
     let words: Vec<String> = std::env::args().skip(1).collect();
-    let [divisor, call, end] = &words[..] else { panic!("calls DIVISOR CALL END") };
+    let [divisor, call, end] = &words[..] else { panic!("speed DIVISOR CALL END") };
     let divisor: usize = divisor.parse().expect("the divisor is a number");
     let asked = |which: &str, it: &str| which == "all" || which == it;
     let rows: Vec<Row> = rows().into_iter().filter(|row| asked(call, row.title)).collect();

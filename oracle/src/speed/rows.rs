@@ -42,17 +42,6 @@ fn cost(cell: &Cell, divisor: usize) -> Times {
     against(cell, divisor, |i| _ = black_box(port::cost(&i.problem, &mut table)), rust_cost)
 }
 
-#[cfg(prepared)]
-fn cost_prepared(cell: &Cell, divisor: usize) -> Times {
-    let ready = crate::prepared::window(cell.window_end);
-    let mut table = vec![0.0; room(cell)];
-    for i in &cell.inputs {
-        let prepared = crate::prepared::cost(&i.problem, &ready, &mut table);
-        assert!(prepared.number == 0 && prepared.value.to_bits() == i.cost.to_bits(), "the prepared cost differs");
-    }
-    against(cell, divisor, |i| _ = black_box(crate::prepared::cost(&i.problem, &ready, &mut table)), rust_cost)
-}
-
 fn unpack(cell: &Cell, divisor: usize) -> Times {
     let mut table = vec![0.0; room(cell)];
     against(
@@ -74,17 +63,11 @@ fn rust_heights(i: &Input, heights: &mut [f64]) {
     }
 }
 
-#[cfg(not(heights_to))]
 fn our_heights(i: &Input, heights: &mut [f64]) {
     for (count, three) in (1..).zip(heights.chunks_exact_mut(3)) {
         let at = port::component_heights(i.fit, count);
         three.copy_from_slice(&[at.error, at.single, at.repeat]);
     }
-}
-
-#[cfg(heights_to)]
-fn our_heights(i: &Input, heights: &mut [f64]) {
-    black_box(crate::heights::to(i.fit, i.fit.fit_window_end, heights));
 }
 
 fn heights(cell: &Cell, divisor: usize) -> Times {
@@ -112,16 +95,6 @@ pub fn rows() -> Vec<Row> {
             ends: GROWTH,
             bar: |end| Some(if end == 150 { 0.75 } else { 0.70 }),
             race: cost,
-            ..ROW
-        },
-        #[cfg(prepared)]
-        Row {
-            title: "cost_prepared",
-            asked: "the cost of a list over a prepared window",
-            ends: GROWTH,
-            bar: |end| [(150, 0.62), (600, 0.50), (2000, 0.42)].into_iter().find(|&(at, _)| at == end).map(|(_, bar)| bar),
-            goal: |end| [(150, 0.5), (600, 0.4), (2000, 0.33)].into_iter().find(|&(at, _)| at == end).map(|(_, goal)| goal),
-            race: cost_prepared,
             ..ROW
         },
         Row { title: "unpack", asked: "the fit of a list", bar: |_| Some(0.8), race: unpack, ..ROW },
