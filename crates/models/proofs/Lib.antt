@@ -27,4 +27,5 @@ pub mod HeightCutoffs
 pub mod Crossings
 pub mod Floors
 pub mod Cases
+pub mod Witnesses
 pub mod Says
