@@ -1,6 +1,6 @@
 -- Document 01's cases marked P, all at once, and that bins which are all zero are no refusal. Assumes nothing.
-use mathlib.Core.Path.{_≡_, refl, ap, _∙_}
-use mathlib.Core.Bool.{Bool, cond}
+use mathlib.Core.Path.{_≡_, refl, _∙_}
+use mathlib.Core.Bool.{Bool}
 use mathlib.Core.List.{[], _∷_}
 use lib.Ieee.{Float, round, ofBits, ofInt, toUnsigned, add, mul, div, neg, lt, le}
 use Rattle.meaning.specs.Fold.{fold}
@@ -9,13 +9,10 @@ use Rattle.routines.specs.Constants.{one}
 use Rattle.routines.specs.Starts.{dec}
 use Rattle.routines.specs.Whole.{roundOf}
 use Rattle.models.specs.Recovery.{usedScaleOf, roundedQuotientOf}
-use Rattle.fitter.specs.Attempts.{validOf}
 use Rattle.fitter.specs.Cases.{Each, recovers, recoveredRows, shares, shareRows, selects, selectionRows, Table}
 use Rattle.fitter.specs.Recovering.{recovered, recoverBinsOf}
-use Rattle.fitter.specs.Selection.{chosen, replacesOf}
+use Rattle.fitter.specs.Selection.{replacesOf}
 use Rattle.fitter.specs.Shares.{massOf, clampOf, shareOf, shelfShareOf}
-use Rattle.fitter.specs.declared.attempts.FitAttempt.{FitAttempt}
-use Rattle.fitter.specs.declared.selection.Selected.{Selected}
 use Rattle.fitter.proofs.Replaced.{keeps-the-first, takes-the-second}
 use Rattle.fitter.proofs.Selecting.{of-two}
 

@@ -6,7 +6,7 @@ use native.Mathlib.Omega.{arith}
 use borrow.Author.Tests.{ltb-true, ltb-false}
 use lib.IntN.{ℤ}
 use lib.Dec.{T, ltb, eqb}
-use lib.Ieee.{Float, nan, inf, fin, binary64, up, down, unlike, ofBits, round, neg, add, sub, mul, lt, eq, sum, fits}
+use lib.Ieee.{Float, nan, inf, fin, binary64, up, down, ofBits, round, neg, add, sub, mul, lt, eq, sum, fits}
 use Rattle.routines.specs.Constants as float
 use Rattle.routines.specs.Constants.{one}
 use Rattle.routines.specs.Ops.{_⊕_, _⊖_, _⊗_}
@@ -115,7 +115,8 @@ step best next = tolerance ⊗ (one ⊕ maxOf (absOf best) (absOf next))
 step-clear : (best next : Float) → signClear (step best next) ≡ true
 step-clear best next =
     mul-clear tolerance (one ⊕ maxOf (absOf best) (absOf next)) (round-clear 1 1000000000)
-    (add-clear one (maxOf (absOf best) (absOf next)) one-clear (max-clear (absOf best) (absOf next) (abs-clear best) (abs-clear next)))
+    (add-clear one (maxOf (absOf best) (absOf next)) one-clear
+    (max-clear (absOf best) (absOf next) (abs-clear best) (abs-clear next)))
   where
     one-clear : signClear one ≡ true
     one-clear = unfold ofBits in refl

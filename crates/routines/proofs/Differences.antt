@@ -88,7 +88,8 @@ module _ (m : ℕ) (e : ℤ) (n : ℕ) (d : ℤ) where
       rounded-are binary64 true (less - own) all (λ (r : Float). lt (fin false m e) r ≡ false) (unfold lt in refl)
       (λ (k : ℕ) (g : ℤ). unfold lt in refl)
 
-  pub not-above : (s : Bool) → T (fits binary64 (fin s m e)) → lt (fin s m e) (sub binary64 (fin s m e) (fin false n d)) ≡ false
+  pub not-above : (s : Bool) → T (fits binary64 (fin s m e))
+      → lt (fin s m e) (sub binary64 (fin s m e) (fin false n d)) ≡ false
   unfolding sub add neg sum
   not-above true F = from-below F
   not-above false F = go (ltb own less)
@@ -162,7 +163,8 @@ module _ (X E K G N D : ℕ) (HE : 0 < E) (HG : 0 < G) (HD : 0 < D) where
   through true true true h k = lt-ltb _ _ (downward (ltb-true _ _ h) (ltb-false _ _ k))
 
 -- y is finite
-pub lt-through : (x r : Float) (t : Bool) (n : ℕ) (d : ℤ) → lt x r ≡ true → lt (fin t n d) r ≡ false → lt x (fin t n d) ≡ true
+pub lt-through : (x r : Float) (t : Bool) (n : ℕ) (d : ℤ) → lt x r ≡ true → lt (fin t n d) r ≡ false
+    → lt x (fin t n d) ≡ true
 unfolding lt
 lt-through nan r t n d h k = absurd (false≢true h)
 lt-through (inf true) r t n d h k = refl

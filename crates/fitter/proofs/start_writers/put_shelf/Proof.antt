@@ -9,18 +9,6 @@ use borrow.Author.Needs.{needs}
 use Rattle.fitter.proofs.start_writers.put_shelf.Statement.{statement}
 use Rattle.fitter.proofs.start_writers.put_shelf.Tie as tie
 
-slice-write-rest : tie.Need-slice-write-rest
-slice-write-rest c = search needs
-
-slice-write-rest-2 : tie.Need-slice-write-rest-2
-slice-write-rest-2 c = simp length-set (omega arith)
-
-slice-write-rest-3 : tie.Need-slice-write-rest-3
-slice-write-rest-3 c = search needs
-
-same-length : tie.Need-same-length
-same-length c = search needs
-
 returns : tie.Need-returns
 unfolding over
 returns c = (
@@ -33,8 +21,8 @@ pub put-shelf-spec : {M : Type 1} → statement M
 put-shelf-spec =
     tie.close
     (tie.spec
-    slice-write-rest
-    slice-write-rest-2
-    slice-write-rest-3
-    same-length
+    (λ c. search needs)
+    (λ c. simp length-set (omega arith))
+    (λ c. search needs)
+    (λ c. search needs)
     returns)

@@ -9,33 +9,6 @@ use borrow.Author.Needs.{needs}
 use Rattle.fitter.proofs.start_writers.put_weibull.Statement.{statement}
 use Rattle.fitter.proofs.start_writers.put_weibull.Tie as tie
 
-slice-write-rest : tie.Need-slice-write-rest
-slice-write-rest c = search needs
-
-slice-write-rest-2 : tie.Need-slice-write-rest-2
-slice-write-rest-2 c = simp length-set (omega arith)
-
-slice-write-rest-3 : tie.Need-slice-write-rest-3
-slice-write-rest-3 c = simp length-set (omega arith)
-
-slice-write-rest-4 : tie.Need-slice-write-rest-4
-slice-write-rest-4 c = simp length-set (omega arith)
-
-slice-write-rest-5 : tie.Need-slice-write-rest-5
-slice-write-rest-5 c = simp length-set (omega arith)
-
-slice-write-rest-6 : tie.Need-slice-write-rest-6
-slice-write-rest-6 c = simp length-set (omega arith)
-
-slice-write-rest-7 : tie.Need-slice-write-rest-7
-slice-write-rest-7 c = simp length-set (omega arith)
-
-slice-write-rest-8 : tie.Need-slice-write-rest-8
-slice-write-rest-8 c = search needs
-
-same-length : tie.Need-same-length
-same-length c = search needs
-
 returns : tie.Need-returns
 unfolding over
 returns c = (
@@ -48,13 +21,13 @@ pub put-weibull-spec : {M : Type 1} → statement M
 put-weibull-spec =
     tie.close
     (tie.spec
-    slice-write-rest
-    slice-write-rest-2
-    slice-write-rest-3
-    slice-write-rest-4
-    slice-write-rest-5
-    slice-write-rest-6
-    slice-write-rest-7
-    slice-write-rest-8
-    same-length
+    (λ c. search needs)
+    (λ c. simp length-set (omega arith))
+    (λ c. simp length-set (omega arith))
+    (λ c. simp length-set (omega arith))
+    (λ c. simp length-set (omega arith))
+    (λ c. simp length-set (omega arith))
+    (λ c. simp length-set (omega arith))
+    (λ c. search needs)
+    (λ c. search needs)
     returns)
