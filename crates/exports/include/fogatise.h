@@ -361,6 +361,19 @@ fog_cutoff fog_hole_cutoff(fog_fit fit, double budget);
  */
 fog_sure_cutoff fog_hole_cutoff_sure(fog_fit fit, double budget);
 
+/*
+ * The crossover: the first count where the single-copy component stands above the error component, below the rounded mean and the window
+ * end, and 2 at least; none where there is no such count, where the mean is not finite or is below 2, or the window end is below 2.
+ * Refusals 2 and 5.
+ */
+fog_cutoff fog_crossover(fog_fit fit);
+
+/*
+ * The error floor: one past the last count of the window where the error component stands at least as high as the single-copy component at
+ * its own mode, 65,535 at most and 2 at least. It is never none. Refusals 2 and 5.
+ */
+fog_cutoff fog_error_floor_cutoff(fog_fit fit);
+
 /* ---- from histogram to starts */
 
 /*

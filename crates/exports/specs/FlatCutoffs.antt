@@ -23,3 +23,9 @@ saySure (broken place) = record { number = 3; walk = 0; sure = 0; cutoff = 0 }
 saySure (give (sure c)) = record { number = 0; walk = 1; sure = 1; cutoff = orZero c }
 saySure (give (notSure c)) = record { number = 0; walk = 1; sure = 0; cutoff = orZero c }
 saySure (give noWalk) = record { number = 0; walk = 0; sure = 0; cutoff = 0 }
+
+-- a floor is always there
+abbrev pub sayFloor : Reply ℕ → FlatCutoff
+sayFloor (refuse n) = record { number = n; cutoff = 0 }
+sayFloor (broken place) = record { number = 3; cutoff = 0 }
+sayFloor (give c) = record { number = 0; cutoff = c }

@@ -1,8 +1,9 @@
 // The cutoffs of a fit.
 ghost use mathlib.Core.Path.{_≡_};
 ghost use Rattle.models.specs.Cutoffs.{cutoffSays, sureSays, holeCutoffOf, holeCutoffSureOf};
+ghost use Rattle.models.specs.HeightCutoffs.{crossoverOf, floorSays, errorFloorOf};
 ghost use Rattle.models.specs.Walk.{partSays};
-ghost use Rattle.exports.specs.FlatCutoffs.{orZero, sayCutoff, saySure};
+ghost use Rattle.exports.specs.FlatCutoffs.{orZero, sayCutoff, saySure, sayFloor};
 ghost use Rattle.exports.specs.FlatFits.{fitOf};
 use crate::fits::FlatFit;
 use crate::fits::fit_of;
@@ -10,6 +11,9 @@ use models::cutoffs::Cutoff;
 use models::cutoffs::SureCutoff;
 use models::cutoffs::hole_cutoff;
 use models::cutoffs::hole_cutoff_sure;
+use models::height_cutoffs::FloorAnswer;
+use models::height_cutoffs::crossover;
+use models::height_cutoffs::error_floor_cutoff;
 use models::walk::CutoffPart;
 
 // A cutoff is 2 at least, so 0 stands for none.
@@ -93,4 +97,27 @@ pub extern "C" fn fog_hole_cutoff_sure(fit: FlatFit, budget: f64) -> FlatSureCut
     ensures { λ r. ⌜ r ≡ saySure (holeCutoffSureOf (fitOf fit) budget) ⌝ }
 {
     flat_sure(hole_cutoff_sure(fit_of(fit), budget))
+}
+
+fn flat_floor(answer: FloorAnswer) -> FlatCutoff
+    ensures { λ r. ⌜ r ≡ sayFloor (floorSays answer) ⌝ }
+{
+    match answer {
+        FloorAnswer::At(cutoff) => FlatCutoff { number: 0, cutoff },
+        FloorAnswer::Refused(number) => FlatCutoff { number, cutoff: 0 },
+    }
+}
+
+#[no_mangle]
+pub extern "C" fn fog_crossover(fit: FlatFit) -> FlatCutoff
+    ensures { λ r. ⌜ r ≡ sayCutoff (crossoverOf (fitOf fit)) ⌝ }
+{
+    flat_cutoff(crossover(fit_of(fit)))
+}
+
+#[no_mangle]
+pub extern "C" fn fog_error_floor_cutoff(fit: FlatFit) -> FlatCutoff
+    ensures { λ r. ⌜ r ≡ sayFloor (errorFloorOf (fitOf fit)) ⌝ }
+{
+    flat_floor(error_floor_cutoff(fit_of(fit)))
 }
