@@ -22,7 +22,8 @@ use Rattle.routines.proofs.Logarithms.{lgamma-with-is}
 use Rattle.helpers.specs.Hoists.{lobeOf, densityOf, densityWith, poissonOf, binomialOf, shelfLogsOf}
 use Rattle.helpers.specs.Lobes.{nearlyPoisson, sizeOf, logQOf, lnDpoisOf, lnDnbinomOf}
 use Rattle.helpers.specs.LogSums.{lse2Of}
-use Rattle.helpers.specs.Masses.{recurrence, recurrenceStep, poissonRatio, binomialRatio, poissonMassOf, binomialMassOf, logNbMassTo, singleCopyMassTo}
+use Rattle.helpers.specs.Masses.{recurrence, recurrenceStep, poissonRatio, binomialRatio}
+use Rattle.helpers.specs.Masses.{poissonMassOf, binomialMassOf, logNbMassTo, singleCopyMassTo}
 use Rattle.helpers.specs.Mixtures.{mixAtOf, mixMassOf}
 use Rattle.helpers.specs.Pairs.{ratioWith, lobeRatio, lobeMassOf}
 use Rattle.helpers.specs.Prepared.{lnAt, gammaAt, gammaWith}
@@ -54,7 +55,8 @@ gamma-with-is ready n log h e = go (ltb (2 * n + 1) (length ready)) refl
     go false b =
         let short : length ready ≤ 2 * n + 1 = ltb-false (2 * n + 1) (length ready) b in
         let past : length ready ≤ 2 * (n + 1) = omega arith in
-        let plain : log ≡ lnOf (ofCount n ⊕ one) = e ∙ List·getD-eq-default ready _ past ∙ ap lnOf (sym (count-more n h)) in
+        let plain : log ≡ lnOf (ofCount n ⊕ one) =
+        e ∙ List·getD-eq-default ready _ past ∙ ap lnOf (sym (count-more n h)) in
         ap (λ (x : Float). getD ready (2 * n + 1) (lgammaWith (ofCount n ⊕ one) x)) plain
         ∙ ap (getD ready (2 * n + 1)) (lgamma-with-is (ofCount n ⊕ one))
 
@@ -70,7 +72,8 @@ recurrence-same f g a b top e h =
     ap (λ (x : Float). recurrence f x top .0) e
     ∙ ap (λ (x : Float × Float). x .0)
     (fold-same (recurrenceStep f) (recurrenceStep g) 1 (top + 1) (inf true, b) (omega arith)
-    (λ (k : ℕ) (x : Float × Float) (l : 1 ≤ k) (m : k < top + 1). ap (λ (r : Float). (lse2Of (x .0) (x .1), x .1 ⊕ r)) (h k (omega (arith, m)))))
+    (λ (k : ℕ) (x : Float × Float) (l : 1 ≤ k) (m : k < top + 1).
+    ap (λ (r : Float). (lse2Of (x .0) (x .1), x .1 ⊕ r)) (h k (omega (arith, m)))))
 
 module _ (ready : List Float) (top : ℕ) (held : Ready ready (top + 1)) (mean dispersion : Float) where
   next-log : (k : ℕ) → k ≤ top → lnAt ready (k + 1) ≡ lnOf (ofCount (k + 1))
@@ -80,13 +83,17 @@ module _ (ready : List Float) (top : ℕ) (held : Ready ready (top + 1)) (mean d
   unfolding lobeMassOf lobeOf logNbMassTo poissonMassOf binomialMassOf ratioWith densityOf lnDpoisOf
   lobe-mass-is = go (le dispersion nearlyPoisson) (density-is one mean dispersion)
     where
-      go : (b : Bool) → densityOf (cond b (poissonOf mean) (binomialOf mean dispersion)) one ≡ lnDnbinomOf one mean dispersion
-          → recurrence (lobeRatio (cond b (poissonOf mean) (binomialOf mean dispersion)) ready) (densityOf (cond b (poissonOf mean) (binomialOf mean dispersion)) one) top .0
-          ≡ cond b (recurrence (poissonRatio mean) (lnDpoisOf one mean) top .0) (recurrence (binomialRatio mean dispersion) (lnDnbinomOf one mean dispersion) top .0)
-      go true e = recurrence-same _ _ _ _ top refl (λ (k : ℕ) (h : k ≤ top). ap (λ (x : Float). lnOf mean ⊖ x) (next-log k h))
+      go : (b : Bool) → let l = cond b (poissonOf mean) (binomialOf mean dispersion) in
+          densityOf l one ≡ lnDnbinomOf one mean dispersion
+          → recurrence (lobeRatio l ready) (densityOf l one) top .0
+          ≡ cond b (recurrence (poissonRatio mean) (lnDpoisOf one mean) top .0)
+          (recurrence (binomialRatio mean dispersion) (lnDnbinomOf one mean dispersion) top .0)
+      go true e =
+          recurrence-same _ _ _ _ top refl (λ (k : ℕ) (h : k ≤ top). ap (λ (x : Float). lnOf mean ⊖ x) (next-log k h))
       go false e =
           recurrence-same _ _ _ _ top e
-          (λ (k : ℕ) (h : k ≤ top). ap (λ (x : Float). lnOf (ofCount k ⊕ sizeOf mean dispersion) ⊖ x ⊕ logQOf dispersion) (next-log k h))
+          (λ (k : ℕ) (h : k ≤ top).
+          ap (λ (x : Float). lnOf (ofCount k ⊕ sizeOf mean dispersion) ⊖ x ⊕ logQOf dispersion) (next-log k h))
 
 -- ---- the single-copy component at a whole count, and its mass
 module _ (shelf : ShelfPart) (table : List Float) where
@@ -97,14 +104,18 @@ module _ (shelf : ShelfPart) (table : List Float) where
       back : getD table n (inf true) ≡ entryAtOf (ofCount n) table
       back = unfold entryAtOf in ap (λ (i : ℕ). getD table i (inf true)) (sym (count-back 64 n h (omega arith)))
 
-      go : (shelf : ShelfPart) → mixAtOf lobe n shelf (shelfLogsOf shelf) table ≡ mixSingleCopyOf lobe (ofCount n) shelf table
+      go : (shelf : ShelfPart)
+          → mixAtOf lobe n shelf (shelfLogsOf shelf) table ≡ mixSingleCopyOf lobe (ofCount n) shelf table
       go Absent = unfold mixSingleCopyOf in refl
-      go (Present s) = unfold mixSingleCopyOf in ap (λ (x : Float). lse2Of (lnOf (one ⊖ s .share) ⊕ lobe) (lnOf (s .share) ⊕ x)) back
+      go (Present s) =
+          unfold mixSingleCopyOf in
+          ap (λ (x : Float). lse2Of (lnOf (one ⊖ s .share) ⊕ lobe) (lnOf (s .share) ⊕ x)) back
 
   pub mix-mass-is : (mean dispersion lobe : Float) (top : ℕ) → lobe ≡ logNbMassTo mean dispersion top
       → mixMassOf lobe shelf (shelfLogsOf shelf) table top ≡ singleCopyMassTo mean dispersion shelf table top
   mix-mass-is mean dispersion lobe top e = go shelf
     where
-      go : (shelf : ShelfPart) → mixMassOf lobe shelf (shelfLogsOf shelf) table top ≡ singleCopyMassTo mean dispersion shelf table top
+      go : (shelf : ShelfPart)
+          → mixMassOf lobe shelf (shelfLogsOf shelf) table top ≡ singleCopyMassTo mean dispersion shelf table top
       go Absent = unfold singleCopyMassTo in e
       go (Present s) = unfold singleCopyMassTo in rw e

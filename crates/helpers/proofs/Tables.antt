@@ -8,8 +8,7 @@ use native.Mathlib.Numerals.{add-one}
 use native.Mathlib.Omega.{arith}
 use borrow.Author.Tests.{ltb-false, le-ltb}
 use lib.ListN.{length, set, length-append}
-use lib.Ieee.{Float, nan, inf, fin, binary64, up, down, lt, ofInt, toUnsigned}
-use lib.Ieee.Back.{round-whole}
+use lib.Ieee.{Float, nan, inf, fin, up, down, lt, toUnsigned}
 use lib.Ieee.Exact.{HasValue}
 use lib.Ieee.Fits.{down-pos}
 use Rattle.meaning.specs.Over.{over}
@@ -18,6 +17,7 @@ use Rattle.meaning.proofs.Folds.{fold-more, fold-none}
 use Rattle.meaning.proofs.Overs.{over-next, over-length, over-none}
 use Rattle.routines.specs.Ops.{_⊕_, ofCount}
 use Rattle.routines.specs.Pick.{minOf}
+use Rattle.routines.proofs.Counts.{count-is}
 use Rattle.helpers.specs.Shelves.{tableStart, tableStep, tableOf, entryOf, nextEntry, lastOf, shelfTrialsOf, shelfLogTableOf, tableAfter}
 use Rattle.helpers.specs.declared.shelves.Shelf.{Shelf}
 
@@ -51,10 +51,6 @@ pub table-room : (n a b : Float) (k : ℕ) (held now : List Float) → now ≡ o
 table-room n a b k held now p h = ap length p ∙ over-length (tableOf n a b k) held (subst (λ (i : ℕ). i ≤ length held) (sym (table-length n a b k)) h)
 
 -- ---- the last entry lies in the window
-count-value : (top : ℕ) → top ≤ 2 ^ 53 → HasValue (ofCount top) false top 1
-unfolding ofInt
-count-value top h = round-whole binary64 false top h
-
 -- what is not above a whole number is cut to one that is not above it either
 not-above : (x t : Float) (n : ℕ) → HasValue x false n 1 → lt x t ≡ false → toUnsigned 64 t ≤ n
 unfolding lt toUnsigned
@@ -103,12 +99,12 @@ picked : (t : Float) (top : ℕ) → top ≤ 65535 → toUnsigned 64 (cond (lt (
 picked t top h = go (lt (ofCount top) t) refl
   where
     go : (b : Bool) → lt (ofCount top) t ≡ b → toUnsigned 64 (cond b (ofCount top) t) ≤ top
-    go true e = of-count (ofCount top) top (count-value top (wide top h))
-    go false e = not-above (ofCount top) t top (count-value top (wide top h)) e
+    go true e = of-count (ofCount top) top (count-is top (wide top h))
+    go false e = not-above (ofCount top) t top (count-is top (wide top h)) e
 
 pub last-few : (trials : Float) (top : ℕ) → top ≤ 65535 → lastOf trials top ≤ top
 unfolding lastOf minOf
-last-few nan top h = of-count (ofCount top) top (count-value top (wide top h))
+last-few nan top h = of-count (ofCount top) top (count-is top (wide top h))
 last-few (inf s) top h = picked (inf s) top h
 last-few (fin s m e) top h = picked (fin s m e) top h
 

@@ -1,6 +1,5 @@
--- For speed alone: a slice in which ln n and lgamma(n + 1) may stand ready, at 2 n and behind it, for n from 0 on. What
--- is
--- not there is worked out; over the empty slice each of these is the plain form (proofs/Ready.antt).
+-- For speed alone: a slice in which ln n and lgamma(n + 1) may stand ready, at 2 n and behind it, for n from 0 on.
+-- What is not there is worked out; over the empty slice each of these is the plain form (proofs/Ready.antt).
 -- Definitions only. Assumes nothing.
 use Prim.Native.Nat.{ℕ, _+_, _*_}
 use mathlib.Core.List.{List}

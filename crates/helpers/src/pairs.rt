@@ -1,6 +1,5 @@
-// Two lobes of one dispersion, and their window masses in one loop: for speed alone. proofs/Ready.antt shows each equal
-// to
-// the plain form.
+// Two lobes of one dispersion, and their window masses in one loop: for speed alone. proofs/Ready.antt shows each
+// equal to the plain form.
 // Ported from src/preprocessing/math_helpers.rs of bacpop/sparrowhawk-asm, f1f8af1232, Apache-2.0; ported and changed.
 ghost use mathlib.Core.Path.{_≡_};
 ghost use Rattle.helpers.specs.Pairs.{lobesOf, ratioWith, lobeMassesOf};

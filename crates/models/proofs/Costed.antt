@@ -72,7 +72,8 @@ module _ (p : Params) where
   pub stopped-table : (entries held : List Float) → started p ≡ false → held ≡ tableWith p entries held
   stopped-table entries held h = rw h
 
-  pub started-cost : (bins : List ℕ) (scale : Float) (end : ℕ) (y : Float) (ready t entries : List Float) → started p ≡ true
+  pub started-cost : (bins : List ℕ) (scale : Float) (end : ℕ) (y : Float) (ready t entries : List Float)
+      → started p ≡ true
       → y ≡ evaluatedAt bins scale end p ready t → t ≡ entries → y ≡ costReady bins scale end p ready entries
   started-cost bins scale end y ready t entries h e o = rw h (e ∙ ap (evaluatedAt bins scale end p ready) o)
 

@@ -15,9 +15,11 @@ use Rattle.helpers.specs.Hoists.{lobeOf, densityWith}
 use Rattle.helpers.specs.Lobes.{lnDnbinomOf}
 use Rattle.helpers.specs.Prepared.{lnAt, gammaAt, gammaWith}
 use Rattle.helpers.proofs.Densities.{density-is}
-use Rattle.helpers.proofs.Ready.{Ready, nothing-ready, gamma-with-is, density-with-is, lobe-mass-is, mix-at-is, mix-mass-is}
+use Rattle.helpers.proofs.Ready.{Ready, nothing-ready, gamma-with-is, density-with-is}
+use Rattle.helpers.proofs.Ready.{lobe-mass-is, mix-at-is, mix-mass-is}
 use Rattle.models.specs.Errors.{survivalOf, lnTailOf, logProbabilityOf, logWindowMassTo}
-use Rattle.models.specs.Hoists.{survivalWith, probabilityWith, windowMassWith, steadyOf, massesAt, aheadOf, afterOf, pointFrom, pointAt, pointTermAt, likelihoodAt}
+use Rattle.models.specs.Hoists.{survivalWith, probabilityWith, windowMassWith, steadyOf, massesAt, aheadOf}
+use Rattle.models.specs.Hoists.{afterOf, pointFrom, pointAt, pointTermAt, likelihoodAt}
 use Rattle.models.specs.Likelihoods.{pointWith, pointOf, pointTerm, likelihoodOf}
 use Rattle.models.specs.Masses.{windowMassesOf}
 use Rattle.models.specs.Spectra.{recoveredAt, seenTerm, observedStep, overObserved}
@@ -32,7 +34,8 @@ wide : (n : ℕ) → n ≤ 65536 → n ≤ 2 ^ 53
 wide n h = omega arith
 
 up-and-down : (n : ℕ) → n ≤ 65535 → ofCount n ⊕ one ⊖ one ≡ ofCount n
-up-and-down n h = ap (λ (x : Float). x ⊖ one) (count-more n (wide n (omega arith))) ∙ count-less n (wide (n + 1) (omega arith))
+up-and-down n h =
+    ap (λ (x : Float). x ⊖ one) (count-more n (wide n (omega arith))) ∙ count-less n (wide (n + 1) (omega arith))
 
 -- ---- what one count leaves ready for the next
 module _ (e : ErrorParams) (ready : List Float) where
@@ -43,15 +46,16 @@ module _ (e : ErrorParams) (ready : List Float) where
     pub next-stands : next ≡ aheadOf e ready (next .bin)
     next-stands = standing (k ∙ ap (λ (x : Float). afterOf x e ready i) (ap (λ (a : Ahead). a .log) h))
 
-pub step-is : (p : Params) (m : WindowMasses) (s : Steady) (ready table : List Float) (i : ℕ) (here next : Ahead) (gamma : Float)
-    → i ≤ 65535 → here ≡ aheadOf (p .«error_params») ready i → next ≡ afterOf (here .log) (p .«error_params») ready i
+pub step-is : (p : Params) (m : WindowMasses) (s : Steady) (ready table : List Float) (i : ℕ) (here next : Ahead)
+    (gamma : Float) → i ≤ 65535 → here ≡ aheadOf (p .«error_params») ready i → next ≡ afterOf (here .log) (p .«error_params») ready i
     → gamma ≡ gammaWith ready (i + 1) (next .log)
     → pointFrom p m s table (i + 1) (here .survival) (next .survival) gamma ≡ pointAt p m s ready table i
 step-is p m s ready table i here next gamma few h k g =
     let e = p .«error_params» in
     let log : here .log ≡ lnAt ready (i + 1) = ap (λ (a : Ahead). a .log) h in
     let high : here .survival ≡ survivalWith e (lnAt ready i) = ap (λ (a : Ahead). a .survival) h in
-    let low : next .survival ≡ survivalWith e (lnAt ready (i + 1)) = ap (λ (a : Ahead). a .survival) k ∙ ap (survivalWith e) log in
+    let low : next .survival ≡ survivalWith e (lnAt ready (i + 1)) =
+    ap (λ (a : Ahead). a .survival) k ∙ ap (survivalWith e) log in
     let gammas : gamma ≡ gammaAt ready (i + 1) =
     g ∙ gamma-with-is ready (i + 1) (next .log) (wide (i + 1) (omega arith)) (ap (λ (a : Ahead). a .log) k) in
     ap (λ (x : Float). pointFrom p m s table (i + 1) x (next .survival) gamma) high
@@ -85,7 +89,8 @@ module _ (ready : List Float) (end : ℕ) (few : end ≤ 65535) (held : Ready re
       rw (here, next, count-equals-one (i + 1) (wide (i + 1) (omega arith)))
 
   -- ---- the masses
-  pub masses-are : (p : Params) (table : List Float) → massesAt p (steadyOf p) ready table end ≡ windowMassesOf p table end
+  pub masses-are : (p : Params) (table : List Float)
+      → massesAt p (steadyOf p) ready table end ≡ windowMassesOf p table end
   unfolding massesAt windowMassesOf
   masses-are p table =
       let lobe = lobe-mass-is ready end held (p .mean) (p .dispersion) in
@@ -116,7 +121,8 @@ module _ (ready : List Float) (end : ℕ) (few : end ≤ 65535) (held : Ready re
         → likelihoodAt bins scale end p m (steadyOf p) ready table ≡ likelihoodOf bins scale end p m table
     unfolding likelihoodAt likelihoodOf overObserved
     likelihood-is bins scale =
-        fold-same (observedStep bins scale (pointTermAt p m (steadyOf p) ready table)) (observedStep bins scale (pointTerm p m table)) 0 end (neg zero) zero-le
+        fold-same (observedStep bins scale (pointTermAt p m (steadyOf p) ready table))
+        (observedStep bins scale (pointTerm p m table)) 0 end (neg zero) zero-le
         (λ (i : ℕ) (total : Float) (l : 0 ≤ i) (h : i < end).
         ap (λ (x : Float). let n = recoveredAt bins scale i in seenTerm n total (ofCount n ⊗ x)) (point-is i h))
 

@@ -1,6 +1,5 @@
 -- What stands ready changes no number: the cost over no slice, and over a slice as `prepare_window` leaves it, is the
--- cost.
--- Assumes nothing.
+-- cost. Assumes nothing.
 use Prim.Native.Nat.{ℕ, zero, suc, _+_, _*_, _≤_, _<_}
 use mathlib.Core.Path.{_≡_, refl, sym, ap, _∙_, subst}
 use mathlib.Core.Bool.{Bool, true, false, cond}
@@ -10,6 +9,7 @@ use native.Mathlib.Nat.{eq-or-lt-of-le}
 use native.Mathlib.Numerals.{add-one}
 use native.Mathlib.Omega.{arith}
 use borrow.Author.Tests.{lt-ltb, le-ltb, eq-eqb, ne-eqb}
+use lib.Dec.{ltb}
 use lib.ListN.{length, getD, drop, set, length-append, List·getD-append}
 use lib.Seq.{getD-append-add, append-snoc}
 use lib.Ieee.{Float, inf}
@@ -30,7 +30,8 @@ use Rattle.helpers.proofs.Ready.{Ready, nothing-ready}
 use Rattle.models.specs.Costs.{started, evaluatedOf, costWith, tableWith, costAt, tableAt, costOf, costTable}
 use Rattle.models.specs.Masses.{entriesOf, windowMassesOf}
 use Rattle.models.specs.Params.{paramsOf}
-use Rattle.models.specs.Prepared.{readyRows, readyDemand, prepareOf, evaluatedAt, costReady, preparedCostAt, preparedTests, preparedCostOf, preparedCostTable}
+use Rattle.models.specs.Prepared.{readyRows, readyDemand, prepareOf, evaluatedAt, costReady, preparedCostAt}
+use Rattle.models.specs.Prepared.{preparedTests, preparedCostOf, preparedCostTable}
 use Rattle.models.specs.Recovery.{usedScaleOf}
 use Rattle.models.specs.Refusals.{fitTests}
 use Rattle.models.specs.Tables.{entriesIn}
@@ -49,7 +50,8 @@ module _ (bins : List ℕ) (scale : Float) (end : ℕ) (p : Params) (ready : Lis
       let masses = windowMassesOf p table end in
       rw (masses-are ready end few held p table, likelihood-is ready end few held p masses table bins scale)
 
-  pub cost-ready-is : (entries : List Float) → costReady bins scale end p ready entries ≡ costWith bins scale end p entries
+  pub cost-ready-is : (entries : List Float)
+      → costReady bins scale end p ready entries ≡ costWith bins scale end p entries
   cost-ready-is entries = ap (λ (x : Float). cond (started p) x (inf false)) (evaluated-is entries)
 
 -- nothing ready
@@ -88,7 +90,8 @@ row-at (suc k) n j d h l = go (λ (m : n < k). row-at k n j d m l) (eq-or-lt-of-
         let shorter : length (readyRows k) ≡ 2 * k = rows-length k in
         List·getD-append (readyRows k) _ d (2 * n + j) (omega arith) ∙ again m
     go again (inl e) =
-        let place : 2 * n + j ≡ length (readyRows k) + j = ap (λ (z : ℕ). 2 * z + j) e ∙ ap (λ (z : ℕ). z + j) (sym (rows-length k)) in
+        let shorter : length (readyRows k) ≡ 2 * k = rows-length k in
+        let place : 2 * n + j ≡ length (readyRows k) + j = omega (arith, e) in
         ap (λ (z : ℕ). getD (readyRows (suc k)) z d) place
         ∙ getD-append-add (readyRows k) _ j d
         ∙ inside j l
@@ -122,7 +125,8 @@ pub rows-more : (held now : List Float) (n : ℕ) (x y : Float) → now ≡ over
 unfolding readyRows
 rows-more held now n x y e h p q =
     let l : length (readyRows n) ≡ 2 * n = rows-length n in
-    let longer : length (readyRows n ++ (x ∷ [])) ≡ 2 * n + 1 = length-append (readyRows n) (x ∷ []) ∙ ap (λ (z : ℕ). z + 1) l in
+    let longer : length (readyRows n ++ (x ∷ [])) ≡ 2 * n + 1 =
+    length-append (readyRows n) (x ∷ []) ∙ ap (λ (z : ℕ). z + 1) l in
     ap (λ (z : List Float). set (set z (2 * n) x) (2 * n + 1) y) e
     ∙ ap (λ (z : List Float). set z (2 * n + 1) y) (over-next (readyRows n) held (2 * n) x l (omega arith))
     ∙ over-next (readyRows n ++ (x ∷ [])) held (2 * n + 1) y longer h
@@ -179,67 +183,52 @@ chain-split [] us r = refl
 chain-split (test true n ∷ ts) us r = refl
 chain-split (test false n ∷ ts) us r = chain-split ts us r
 
-module _ (bins : List ℕ) (scale : Float) (end peak : ℕ) (error : ErrorModel) (genome : GenomeModel) (list : List Float) where
+module _ (bins : List ℕ) (scale : Float) (end peak : ℕ) (error : ErrorModel) (genome : GenomeModel)
+    (list : List Float) where
   abbrev tests : ℕ → List Test
   tests room = fitTests bins scale end peak error genome (length list) room
 
   abbrev p : Params
   p = paramsOf error genome (ofCount peak) list
 
-  -- ---- THE THEOREM: over a slice as `prepare_window` leaves it, whatever it held before
-  module _ (held xs : List Float) (e : prepareOf end (length held) ≡ give xs) where
-    abbrev ready : List Float
-    ready = laid (prepareOf end (length held)) held
+  abbrev entries : List Float
+  entries = entriesOf (p .shelf) (p .mean) end
 
-    pub prepared-is-cost : (room : ℕ)
-        → preparedCostOf bins scale end peak error genome list ready room ≡ costOf bins scale end peak error genome list room
-    unfolding preparedCostOf preparedTests preparedCostAt costOf costAt
-    prepared-is-cost room =
-        let f = filled end held xs e in
-        let entries = entriesOf (p .shelf) (p .mean) end in
-        chain-split (tests room) (short (length ready) (readyDemand end)) _
-        ∙ ap (λ (b : Bool). chain (tests room) (chain (test b 10 ∷ []) (give (costReady bins (usedScaleOf scale) end p ready entries))))
-        (le-ltb (length ready) (readyDemand end) (f .long))
-        ∙ ap (λ (x : Float). chain (tests room) (give x)) (cost-ready-is bins (usedScaleOf scale) end p ready (f .end-few) (f .held) entries)
-
-    pub prepared-table-is-cost's : (table : List Float)
-        → preparedCostTable bins scale end peak error genome list ready table ≡ costTable bins scale end peak error genome list table
-    unfolding preparedCostTable costTable
-    prepared-table-is-cost's table =
-        ap (λ (r : Reply Float). onGive r (tableAt end p table) table) (prepared-is-cost (length table))
-
-  -- ---- what cost_prepared answers
   module _ (ready : List Float) where
     abbrev answer : ℕ → Reply Float
     answer room = preparedCostOf bins scale end peak error genome list ready room
 
+    abbrev value : Float
+    value = preparedCostAt bins (usedScaleOf scale) end p ready
+
+    -- cost's tests, then whether the slice is too short
+    answer-is : (room : ℕ) (b : Bool) → ltb (length ready) (readyDemand end) ≡ b
+        → answer room ≡ chain (tests room) (chain (test b 10 ∷ []) (give value))
+    unfolding preparedCostOf preparedTests
+    answer-is room b h =
+        chain-split (tests room) (short (length ready) (readyDemand end)) (give value)
+        ∙ ap (λ (t : Bool). chain (tests room) (chain (test t 10 ∷ []) (give value))) h
+
+    -- ---- what cost_prepared answers
     module _ (room n : ℕ) (e : n ≡ firstOf (tests room)) where
       pub prepared-refused : 0 < n → refuse n ≡ answer room
-      unfolding preparedCostOf preparedTests
-      prepared-refused h =
-          tests-refused bins scale end peak error genome list room n e _ h
-          ∙ sym (chain-split (tests room) (short (length ready) (readyDemand end)) _)
+      prepared-refused h = tests-refused bins scale end peak error genome list room n e _ h ∙ sym (answer-is room _ refl)
 
       pub prepared-short : n ≡ 0 → length ready < readyDemand end → refuse 10 ≡ answer room
-      unfolding preparedCostOf preparedTests
       prepared-short z h =
           tests-passed bins scale end peak error genome list room n e (refuse 10) z
-          ∙ ap (λ (b : Bool). chain (tests room) (chain (test b 10 ∷ []) (give (preparedCostAt bins (usedScaleOf scale) end p ready))))
-          (sym (lt-ltb (length ready) (readyDemand end) h))
-          ∙ sym (chain-split (tests room) (short (length ready) (readyDemand end)) _)
+          ∙ sym (answer-is room true (lt-ltb (length ready) (readyDemand end) h))
 
-      pub prepared-given : (v used : Float) (q : Params) → n ≡ 0 → readyDemand end ≤ length ready → used ≡ usedScaleOf scale → q ≡ p
-          → v ≡ costReady bins used end q ready (entriesIn (q .shelf) (q .mean) end room) → give v ≡ answer room
-      unfolding preparedCostOf preparedTests preparedCostAt
+      pub prepared-given : (v used : Float) (q : Params) → n ≡ 0 → readyDemand end ≤ length ready
+          → used ≡ usedScaleOf scale → q ≡ p → v ≡ costReady bins used end q ready (entriesIn (q .shelf) (q .mean) end room)
+          → give v ≡ answer room
+      unfolding preparedCostAt
       prepared-given v used q z l u d h =
           let all = entries-all bins scale end peak error genome list room n e z in
-          let value : v ≡ costReady bins (usedScaleOf scale) end p ready (entriesOf (p .shelf) (p .mean) end) =
-          h ∙ rw (u, d) (ap (costReady bins (usedScaleOf scale) end p ready) all) in
-          ap give value
-          ∙ tests-passed bins scale end peak error genome list room n e _ z
-          ∙ ap (λ (b : Bool). chain (tests room) (chain (test b 10 ∷ []) (give (costReady bins (usedScaleOf scale) end p ready (entriesOf (p .shelf) (p .mean) end)))))
-          (sym (le-ltb (length ready) (readyDemand end) l))
-          ∙ sym (chain-split (tests room) (short (length ready) (readyDemand end)) _)
+          let same : v ≡ value = h ∙ rw (u, d) (ap (costReady bins (usedScaleOf scale) end p ready) all) in
+          ap give same
+          ∙ tests-passed bins scale end peak error genome list room n e (give value) z
+          ∙ sym (answer-is room false (le-ltb (length ready) (readyDemand end) l))
 
     module _ (held : List Float) where
       abbrev stands : List Float
@@ -249,10 +238,32 @@ module _ (bins : List ℕ) (scale : Float) (end peak : ℕ) (error : ErrorModel)
       unfolding preparedCostTable
       prepared-kept n r = rw (sym r)
 
-      pub prepared-table : (n : ℕ) (e : n ≡ firstOf (tests (length held))) (t : List Float) (q : Params) (v : Float) → n ≡ 0
-          → give v ≡ answer (length held) → q ≡ p
+      pub prepared-table : (n : ℕ) (e : n ≡ firstOf (tests (length held))) (t : List Float) (q : Params) (v : Float)
+          → n ≡ 0 → give v ≡ answer (length held) → q ≡ p
           → t ≡ tableWith q (entriesIn (q .shelf) (q .mean) end (length held)) held → t ≡ stands
       unfolding preparedCostTable tableAt
       prepared-table n e t q v z r d o =
-          rw (sym r)
-          (o ∙ rw d (ap (λ (x : List Float). tableWith p x held) (entries-all bins scale end peak error genome list (length held) n e z)))
+          let all = entries-all bins scale end peak error genome list (length held) n e z in
+          rw (sym r) (o ∙ rw d (ap (λ (x : List Float). tableWith p x held) all))
+
+  -- ---- THE THEOREM: over a slice as `prepare_window` leaves it, whatever it held before
+  module _ (held xs : List Float) (e : prepareOf end (length held) ≡ give xs) where
+    abbrev ready : List Float
+    ready = laid (prepareOf end (length held)) held
+
+    pub prepared-is-cost : (room : ℕ)
+        → preparedCostOf bins scale end peak error genome list ready room
+        ≡ costOf bins scale end peak error genome list room
+    unfolding preparedCostAt costOf costAt
+    prepared-is-cost room =
+        let f = filled end held xs e in
+        answer-is ready room false (le-ltb (length ready) (readyDemand end) (f .long))
+        ∙ ap (λ (x : Float). chain (tests room) (give x))
+        (cost-ready-is bins (usedScaleOf scale) end p ready (f .end-few) (f .held) entries)
+
+    pub prepared-table-is-cost's : (table : List Float)
+        → preparedCostTable bins scale end peak error genome list ready table
+        ≡ costTable bins scale end peak error genome list table
+    unfolding preparedCostTable costTable
+    prepared-table-is-cost's table =
+        ap (λ (r : Reply Float). onGive r (tableAt end p table) table) (prepared-is-cost (length table))

@@ -1,9 +1,7 @@
 -- For speed alone: what does not change with the count, worked out once an evaluation; and what one count leaves ready
--- for
--- the next in the likelihood's loop, over a slice in which logarithms and lgammas may stand ready.
+-- for the next in the likelihood's loop, over a slice in which logarithms and lgammas may stand ready.
 -- Nothing here has to be held beside the Rust: `masses-are` and `likelihood-is` in proofs/Points.antt show that it
--- changes
--- no number; of the walk, `probability-is` in proofs/Walks.antt does. Definitions only. Assumes nothing.
+-- changes no number; of the walk, `probability-is` in proofs/Walks.antt does. Definitions only. Assumes nothing.
 use Prim.Native.Nat.{ℕ, _+_}
 use mathlib.Core.Bool.{cond}
 use mathlib.Core.List.{List}

@@ -1,6 +1,6 @@
 -- The cost over a slice in which ln n and lgamma(n + 1) stand ready, and how such a slice is filled. Over a slice as
--- `prepare_window` leaves it the cost is `costOf` (`prepared-is-cost`, proofs/ReadyCost.antt); over another one it is what
--- stands here. Definitions only. Assumes nothing.
+-- `prepare_window` leaves it the cost is `costOf` (`prepared-is-cost`, proofs/ReadyCost.antt); over another one it is
+-- what stands here. Definitions only. Assumes nothing.
 use Prim.Native.Nat.{ℕ, zero, suc, _+_, _*_}
 use mathlib.Core.Bool.{false, _&&_, cond}
 use mathlib.Core.List.{List, [], _∷_, _++_}
@@ -58,12 +58,14 @@ unfoldable pub preparedTests : List ℕ → Float → ℕ → ℕ → ErrorModel
 preparedTests bins scale end peak error genome listed room filled =
     inOrder (fitTests bins scale end peak error genome listed room ∷ short filled (readyDemand end) ∷ [])
 
-unfoldable pub preparedCostOf : List ℕ → Float → ℕ → ℕ → ErrorModel → GenomeModel → List Float → List Float → ℕ → Reply Float
+unfoldable pub preparedCostOf : List ℕ → Float → ℕ → ℕ → ErrorModel → GenomeModel → List Float → List Float → ℕ
+    → Reply Float
 preparedCostOf bins scale end peak error genome list ready room =
     chain (preparedTests bins scale end peak error genome (length list) room (length ready))
     (give (preparedCostAt bins (usedScaleOf scale) end (paramsOf error genome (ofCount peak) list) ready))
 
-unfoldable pub preparedCostTable : List ℕ → Float → ℕ → ℕ → ErrorModel → GenomeModel → List Float → List Float → List Float → List Float
+unfoldable pub preparedCostTable : List ℕ → Float → ℕ → ℕ → ErrorModel → GenomeModel → List Float → List Float
+    → List Float → List Float
 preparedCostTable bins scale end peak error genome list ready held =
     onGive (preparedCostOf bins scale end peak error genome list ready (length held))
     (tableAt end (paramsOf error genome (ofCount peak) list) held) held

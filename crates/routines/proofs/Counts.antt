@@ -1,14 +1,15 @@
 -- Whole numbers up to 2 ^ 53 as `f64`: sums, differences, what is left over 1, rounding, the way back and a comparison
 -- are those of the numbers. Assumes nothing.
 use mathlib.Core.Path.{_≡_, refl, sym, ap, _∙_}
-use mathlib.Core.Bool.{Bool, true, false, _&&_, _||_, Bool·beq, cond, true≢false}
-use Prim.Native.Nat.{ℕ, zero, suc, _+_, _*_, _^_, _≤_, _<_}
+use mathlib.Core.Bool.{Bool, true, false, _&&_, true≢false}
+use Prim.Native.Nat.{ℕ, _+_, _*_, _^_, _≤_, _<_}
 use native.Mathlib.Nat.{zero-lt-suc, add-comm, mul-one, mul-pos, eq-of-mul-eq-mul-right}
 use native.Mathlib.Omega.{arith}
 use borrow.Author.Tests.{le-ltb, eq-eqb, ne-eqb, eqb-true, eqb-false}
-use lib.IntN.{ℤ, pos}
+use lib.IntN.{ℤ}
 use lib.Dec.{eqb, le→leb}
-use lib.Ieee.{Float, nan, inf, fin, Format, binary64, up, down, round, sum, add, sub, neg, div, eq, ofBits, ofInt, toUnsigned, inFloat}
+use lib.Ieee.{Float, nan, inf, fin, Format, binary64, up, down, round, sum, add, sub, neg, div, eq}
+use lib.Ieee.{ofBits, ofInt, toUnsigned, inFloat}
 use lib.Ieee.Back.{round-whole, unsigned-back}
 use lib.Ieee.Exact.{HasValue}
 use lib.Ieee.Fits.{down-pos}
@@ -85,8 +86,8 @@ module _ (f : Format) where
       ∙ opened false true m k e d
       ∙ less (m * up e * down d) (k * up d * down e) (a * (down e * down d)) (down e * down d)
       (cross (m * up e) (down e) (k * up d) (down d) a b (v .1) (w .1))
-      ∙ round-same f false (a * (down e * down d)) (down e * down d) a 1 (mul-pos (down-pos e) (down-pos d)) (zero-lt-suc 0)
-      (mul-one (a * (down e * down d)))
+      ∙ round-same f false (a * (down e * down d)) (down e * down d) a 1 (mul-pos (down-pos e) (down-pos d))
+      (zero-lt-suc 0) (mul-one (a * (down e * down d)))
     where
       cross : (x p y q a b : ℕ) → x * 1 ≡ (b + a) * p → y * 1 ≡ b * q → y * p + a * (p * q) ≡ x * q
       cross x p y q a b h k =
@@ -161,14 +162,18 @@ level-is (fin false m e) (fin false k d) a b v w =
     whichever true h = eq-eqb _ _ (left ∙ ap (λ (n : ℕ). n * (down e * down d)) (eqb-true a b h) ∙ sym right)
     whichever false h =
         ne-eqb _ _ (λ (z : m * up e * down d ≡ k * up d * down e).
-        eqb-false a b h (eq-of-mul-eq-mul-right (down e * down d) (mul-pos (down-pos e) (down-pos d)) a b (sym left ∙ z ∙ right)))
+        eqb-false a b h
+        (eq-of-mul-eq-mul-right (down e * down d) (mul-pos (down-pos e) (down-pos d)) a b (sym left ∙ z ∙ right)))
 
 -- what equals 1 is 1
 one-found : (x : Float) → eq x one ≡ true → Is x 1
 unfolding eq ofBits
 one-found nan h = absurd (true≢false (sym h))
 one-found (inf s) h = absurd (true≢false (sym h))
-one-found (fin true m e) h = absurd (never (m * up e) (down e) (eqb (m * up e * 1) (1 * down e)) (eqb (m * up e * 1) 0) h (eqb-true _ _) (eqb-true _ _) (down-pos e))
+one-found (fin true m e) h =
+    absurd
+    (never (m * up e) (down e) (eqb (m * up e * 1) (1 * down e)) (eqb (m * up e * 1) 0) h (eqb-true _ _) (eqb-true _ _)
+    (down-pos e))
   where
     never : (x p : ℕ) (a b : Bool) → (a && b) ≡ true → (a ≡ true → x * 1 ≡ 1 * p) → (b ≡ true → x * 1 ≡ 0) → 0 < p → ⊥
     never x p true true h k l q =
@@ -213,4 +218,5 @@ count-back w n h k = unsigned-back binary64 w n (le→leb n (2 ^ 53) h) k .1
 pub count-over-one : (d : Float) (n : ℕ) → eq d one ≡ true → n ≤ 2 ^ 53 → roundOf (ofCount n ⊘ d) ≡ ofCount n
 unfolding ofInt
 count-over-one d n e h =
-    ap roundOf (over-one binary64 (ofCount n) d n (count-is n h) (one-found d e)) ∙ whole-stays (ofCount n) n (count-is n h)
+    ap roundOf (over-one binary64 (ofCount n) d n (count-is n h) (one-found d e))
+    ∙ whole-stays (ofCount n) n (count-is n h)

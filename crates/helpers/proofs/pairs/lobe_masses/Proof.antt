@@ -1,6 +1,6 @@
 -- `helpers::pairs::lobe_masses` meets its contract: the terms of both lobes are added up side by side. Assumes nothing.
 use borrow.Author.Needs.{needs}
-use mathlib.Core.Path.{_≡_, refl}
+use mathlib.Core.Path.{refl}
 use Prim.Native.Nat.{_+_, _-_}
 use native.Mathlib.Omega.{arith}
 use lib.Ieee.{div, neg, ofBits}
