@@ -5,10 +5,12 @@ use mathlib.Core.Path.{_≡_, refl}
 use native.Mathlib.Omega.{arith}
 use lib.Ieee.{Float, ofBits, ofInt}
 use Rattle.routines.specs.Constants.{one}
+use Rattle.routines.specs.Hoists.{lgammaWith}
 use Rattle.routines.specs.Lgamma.{lgammaOf}
 use Rattle.routines.specs.Ln.{lnOf}
 use Rattle.routines.specs.Ops.{ofCount}
 use Rattle.routines.proofs.Counts.{count-more, count-less}
+use Rattle.routines.proofs.Logarithms.{lgamma-with-is}
 use Rattle.models.specs.Errors.{lnTailOf, survivalOf, logProbabilityOf}
 use Rattle.models.specs.HeightTerms.{errorHeightFrom, errorHeightOf, singleHeightOf, repeatHeightOf, heightsFrom, heightsOf}
 use Rattle.models.specs.Hoists.{survivalWith, logProbabilityBetween}
@@ -30,6 +32,9 @@ exact n h = omega arith
 
 wide : (n : ℕ) → n ≤ 65535 → n ≤ 2 ^ 53
 wide n h = omega arith
+
+pub with-log : (x log : Float) → log ≡ lnOf x → lgammaWith x log ≡ lgammaOf x
+with-log x log e = rw (e) (lgamma-with-is x)
 
 module _ (n : ℕ) (h : n ≤ 65535) where
   pub next-survival : (p : ErrorParams) (x log : Float) → x ≡ survivalWith p log → log ≡ lnOf (ofCount n)

@@ -1,16 +1,20 @@
 -- For speed alone: what the heights of a fit have in common at every count, and each height from it.
 -- Nothing here has to be held beside the Rust: `terms-heights` in proofs/HeightTerms.antt shows that the terms of a fit
 -- give the heights of specs/Heights.antt. Definitions only. Assumes nothing.
+use Prim.Native.Nat.{ℕ}
 use lib.ListN.{getD}
 use lib.Ieee.{Float, nan}
 use Rattle.routines.specs.Constants.{one}
 use Rattle.routines.specs.Exp.{expOf}
 use Rattle.routines.specs.Lgamma.{lgammaOf}
-use Rattle.routines.specs.Ops.{_⊕_, _⊖_, _⊗_}
+use Rattle.routines.specs.Ln.{lnOf}
+use Rattle.routines.specs.Ops.{_⊕_, _⊖_, _⊗_, ofCount}
 use Rattle.helpers.specs.Hoists.{densityWith, lobeOf}
 use Rattle.helpers.specs.SingleCopies.{singleCopyOf, singleDensityWith}
 use Rattle.models.specs.Errors.{lnTailOf, survivalOf}
 use Rattle.models.specs.Hoists.{logProbabilityBetween}
+use Rattle.models.specs.declared.deviances.Ready.{Ready}
+use Rattle.models.specs.declared.errors.ErrorParams.{ErrorParams}
 use Rattle.models.specs.declared.fit.SpectrumFit.{SpectrumFit}
 use Rattle.models.specs.declared.height_terms.HeightTerms.{HeightTerms}
 use Rattle.models.specs.declared.heights.Heights.{Heights}
@@ -71,3 +75,7 @@ heightsFrom t count here next gamma =
 unfoldable pub heightsOf : HeightTerms → Float → Heights
 heightsOf t count =
     record { error = errorHeightOf t count; single = singleHeightOf t count; repeat = repeatHeightOf t count }
+
+-- ---- over the counts of a window: what a count leaves ready for the next
+abbrev pub readyOf : ErrorParams → ℕ → Ready
+readyOf p count = record { count = count; log = lnOf (ofCount count); survival = survivalOf p (ofCount count) }

@@ -1,40 +1,112 @@
 -- `models::deviances::add_deviance` meets its contract. Assumes nothing.
+use Prim.Native.Nat.{_+_, _≤_}
+use mathlib.Core.Path.{ap, _∙_}
+use native.Mathlib.Omega.{arith}
 use borrow.Author.Tests.{eq-eqb, ne-eqb}
+use lib.Ieee.{Float}
+use Rattle.routines.specs.Ops.{_⊕_, ofCount}
+use Rattle.models.specs.Deviances.{expectedOf, devianceTerm}
 use Rattle.models.specs.Spectra.{seenTerm}
+use Rattle.models.specs.declared.deviances.Ready.{Ready}
+use Rattle.models.specs.declared.heights.Heights.{Heights}
+use Rattle.models.proofs.Survivals.{with-log, next-survival, heights-from-is}
 use borrow.Author.Needs.{needs}
 use Rattle.models.proofs.deviances.add_deviance.Statement.{statement}
 use Rattle.models.proofs.deviances.add_deviance.Tie as tie
 
 returns : tie.Need-returns
 unfolding seenTerm
-returns c = simp (eq-eqb _ _ (c .if1 .taken))
+returns c = (simp (eq-eqb _ _ (c .if1 .taken)), c .before .pre .0)
+
+add-count : tie.Need-add-count
+add-count c = omega arith
+
+ready-at-requires : tie.Need-ready-at-requires
+ready-at-requires c κs = c .before .before .pre .0
+
+add-ln : tie.Need-add-ln
+add-ln c = omega arith
+
+int-to-float-ln : tie.Need-int-to-float-ln
+int-to-float-ln c = search needs
+
+ln-requires : tie.Need-ln-requires
+ln-requires c κs = search needs
+
+survival-with-requires : tie.Need-survival-with-requires
+survival-with-requires c κs = search needs
+
+add-lgamma-with : tie.Need-add-lgamma-with
+add-lgamma-with c = omega arith
+
+int-to-float-lgamma-with : tie.Need-int-to-float-lgamma-with
+int-to-float-lgamma-with c = search needs
+
+lgamma-with-requires : tie.Need-lgamma-with-requires
+lgamma-with-requires c κs = search needs
+
+int-to-float-heights-from : tie.Need-int-to-float-heights-from
+int-to-float-heights-from c = search needs
+
+heights-from-requires : tie.Need-heights-from-requires
+heights-from-requires c κs = search needs
 
 int-to-float-deviance-term : tie.Need-int-to-float-deviance-term
 int-to-float-deviance-term c = search needs
 
-int-to-float-expected-at : tie.Need-int-to-float-expected-at
-int-to-float-expected-at c = search needs
-
-expected-at-requires : tie.Need-expected-at-requires
-expected-at-requires c κs = search needs
+expected-of-requires : tie.Need-expected-of-requires
+expected-of-requires c κs = search needs
 
 deviance-term-requires : tie.Need-deviance-term-requires
 deviance-term-requires c κs = search needs
 
+add-t14 : tie.Need-add-t14
+add-t14 c = omega arith
+
 returns-2 : tie.Need-returns-2
 unfolding seenTerm
 returns-2 c =
-    let expected = c .before in
-    simp (ne-eqb _ _ (expected .before .before .before .if1 .left))
-    (rw (c .deviance-term .ensures, expected .expected-at .ensures))
+    let term = c .before in
+    let expected = term .before in
+    let heights = expected .before .before in
+    let gamma = heights .before .before in
+    let next = gamma .before .before in
+    let log = next .before in
+    let here = log .before .before in
+    let start = here .before .before .before in
+    let a = start .args in
+    let few : a .i + 1 ≤ 65535 = omega (arith, start .pre .1) in
+    let ready = here .ready-at .ensures in
+    let survives =
+    next-survival (a .i + 1) few _ _ _ (next .survival-with .ensures) (ap (λ (r : Ready). r .log) ready) in
+    let same =
+    heights .heights-from .ensures
+    ∙ heights-from-is (a .i + 1) few _ _ (a .t) (ap (λ (r : Ready). r .survival) ready) survives _
+    (gamma .lgamma-with .ensures ∙ with-log _ _ (log .ln .ensures)) in
+    let wanted = expected .expected-of .ensures ∙ ap (λ (h : Heights). expectedOf h (a .scale)) same in (
+      simp (ne-eqb _ _ (here .before .before .if1 .left))
+          (ap (λ (x : Float). a .reached .total ⊕ x) (term .deviance-term .ensures ∙ ap (devianceTerm (ofCount (a .n))) wanted)),
+      rw (log .ln .ensures, survives),
+    )
 
 pub add-deviance-spec : {M : Type 1} → statement M
 add-deviance-spec =
     tie.close
     (tie.spec
     returns
+    add-count
+    ready-at-requires
+    add-ln
+    int-to-float-ln
+    ln-requires
+    survival-with-requires
+    add-lgamma-with
+    int-to-float-lgamma-with
+    lgamma-with-requires
+    int-to-float-heights-from
+    heights-from-requires
     int-to-float-deviance-term
-    int-to-float-expected-at
-    expected-at-requires
+    expected-of-requires
     deviance-term-requires
+    add-t14
     returns-2)

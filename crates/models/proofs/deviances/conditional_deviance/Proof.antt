@@ -1,5 +1,5 @@
--- `models::deviances::conditional_deviance` meets its contract. Assumes nothing.
-use mathlib.Core.Path.{_≡_, refl, ap, _∙_, fun-ext}
+-- `models::deviances::conditional_deviance` meets its contract. What the loop carries stands ready for its count, or for an earlier one. Assumes nothing.
+use mathlib.Core.Path.{_≡_, refl, sym, ap, _∙_, fun-ext}
 use mathlib.Core.List.{List}
 use Prim.Native.Nat.{ℕ, _+_, _-_}
 use native.Mathlib.Omega.{arith}
@@ -8,8 +8,9 @@ use Rattle.meaning.proofs.Loops.{Folded, begins, goes-on, ends}
 use Rattle.routines.specs.Constants.{zero}
 use Rattle.routines.specs.Ops.{ofCount}
 use Rattle.models.specs.Deviances.{expectedOf, devianceTerm, devianceOf}
-use Rattle.models.specs.HeightTerms.{heightTermsOf, heightsOf}
+use Rattle.models.specs.HeightTerms.{heightTermsOf, heightsOf, readyOf}
 use Rattle.models.specs.Spectra.{observedStep, overObserved, seenTerm}
+use Rattle.models.specs.declared.deviances.Ready.{Ready}
 use Rattle.models.specs.declared.fit.SpectrumFit.{SpectrumFit}
 use Rattle.models.specs.declared.height_terms.HeightTerms.{HeightTerms}
 use Rattle.models.proofs.HeightTerms.{terms-heights}
@@ -28,18 +29,27 @@ from-terms bins scale top fit =
     ap (overObserved bins scale top) (fun-ext (λ (n : ℕ). fun-ext (λ (i : ℕ). rw (terms-heights))))
 
 abbrev Inv-loop : tie.InvT-loop
-Inv-loop bins scale top t total₀ i₀ total i =
-    Folded (observedStep bins scale (termFrom t scale)) (neg zero) 0 top total i
+Inv-loop bins scale top t reached₀ i₀ reached i =
+    (reached .ready ≡ readyOf (t .«error_params») (reached .ready .count)) ×
+    Folded (observedStep bins scale (termFrom t scale)) (neg zero) 0 top (reached .total) i
 
 abbrev μ-loop : tie.MeasureT-loop
-μ-loop bins scale top t total₀ i₀ total i = top - i
+μ-loop bins scale top t reached₀ i₀ reached i = top - i
 
 height-terms-requires : tie.Need-height-terms-requires Inv-loop μ-loop
 height-terms-requires c κs = search needs
 
+ready-of-requires : tie.Need-ready-of-requires Inv-loop μ-loop
+ready-of-requires c κs = search needs
+
 loop-holds : tie.Need-loop-holds Inv-loop μ-loop
 unfolding neg ofBits
-loop-holds c = begins _ _ _ _ _ (omega arith) refl
+loop-holds c =
+    let first = c .ready-of .ensures in
+    let p = c .before .height-terms .result .«error_params» in (
+      first ∙ ap (λ (r : Ready). readyOf p (r .count)) (sym first),
+      begins _ _ _ _ _ (omega arith) refl,
+    )
 
 cast-recovered-at : tie.Need-cast-recovered-at Inv-loop μ-loop
 cast-recovered-at c = search needs
@@ -47,14 +57,8 @@ cast-recovered-at c = search needs
 recovered-at-requires : tie.Need-recovered-at-requires Inv-loop μ-loop
 recovered-at-requires c κs = search needs
 
-cast-add-deviance : tie.Need-cast-add-deviance Inv-loop μ-loop
-cast-add-deviance c = search needs
-
-add-add-deviance : tie.Need-add-add-deviance Inv-loop μ-loop
-add-add-deviance c = omega arith
-
 add-deviance-requires : tie.Need-add-deviance-requires Inv-loop μ-loop
-add-deviance-requires c κs = search needs
+add-deviance-requires c κs = (c .before .before .loop .inv .0, omega arith)
 
 add-i : tie.Need-add-i Inv-loop μ-loop
 add-i c = omega arith
@@ -65,19 +69,22 @@ loop-less c = omega arith
 loop-again : tie.Need-loop-again Inv-loop μ-loop
 loop-again c =
     let at = c .before .before .before in
-    let args = at .before .before .before .args in
-    let t = at .before .height-terms .result in
-    goes-on _ _ _ _ (at .loop .inv) _ (omega arith)
-    (c .add-deviance .ensures
-    ∙ ap (λ (n : ℕ). seenTerm n (at .loop .total) (termFrom t (args .scale) n (at .loop .i)))
-    (c .before .recovered-at .ensures))
+    let terms = at .before .before in
+    let turn = at .loop in
+    let scale = terms .before .before .args .scale in (
+      c .add-deviance .ensures .1,
+      goes-on _ _ _ _ (turn .inv .1) _ (omega arith)
+          (c .add-deviance .ensures .0
+          ∙ ap (λ (n : ℕ). seenTerm n (turn .reached .total) (termFrom (terms .height-terms .result) scale n (turn .i)))
+          (c .before .recovered-at .ensures)),
+    )
 
 returns : tie.Need-returns Inv-loop μ-loop
 unfolding overObserved
 returns c =
     let at = c .before in
-    ends _ _ _ _ (at .loop .inv) (omega arith)
-    ∙ rw (at .before .height-terms .ensures) (from-terms _ _ _ _)
+    ends _ _ _ _ (at .loop .inv .1) (omega arith)
+    ∙ rw (at .before .before .height-terms .ensures) (from-terms _ _ _ _)
 
 pub conditional-deviance-spec : {M : Type 1} → statement M
 conditional-deviance-spec =
@@ -86,11 +93,10 @@ conditional-deviance-spec =
     Inv-loop
     μ-loop
     height-terms-requires
+    ready-of-requires
     loop-holds
     cast-recovered-at
     recovered-at-requires
-    cast-add-deviance
-    add-add-deviance
     add-deviance-requires
     add-i
     loop-less

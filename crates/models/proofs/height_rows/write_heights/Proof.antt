@@ -7,11 +7,8 @@ use lib.Ieee.{Float}
 use lib.ListN.{length, length-set}
 use Rattle.meaning.specs.Over.{over}
 use Rattle.meaning.proofs.Overs.{over-none}
-use Rattle.routines.specs.Hoists.{lgammaWith}
-use Rattle.routines.specs.Lgamma.{lgammaOf}
 use Rattle.routines.specs.Ln.{lnOf}
 use Rattle.routines.specs.Ops.{ofCount}
-use Rattle.routines.proofs.Logarithms.{lgamma-with-is}
 use Rattle.models.specs.Errors.{survivalOf}
 use Rattle.models.specs.Heights.{heightRows}
 use Rattle.models.specs.HeightTerms.{heightsOf}
@@ -19,7 +16,7 @@ use Rattle.models.specs.declared.errors.ErrorParams.{ErrorParams}
 use Rattle.models.specs.declared.height_terms.HeightTerms.{HeightTerms}
 use Rattle.models.specs.declared.heights.Heights.{Heights}
 use Rattle.models.proofs.HeightRows.{rows-more}
-use Rattle.models.proofs.Survivals.{first-survival, first-log, next-survival, heights-from-is}
+use Rattle.models.proofs.Survivals.{first-survival, first-log, with-log, next-survival, heights-from-is}
 use borrow.Author.Needs.{needs}
 use Rattle.models.proofs.height_rows.write_heights.Statement.{statement}
 use Rattle.models.proofs.height_rows.write_heights.Tie as tie
@@ -37,9 +34,6 @@ record Written (t : HeightTerms) (last : ℕ) (held : List Float) (p : ErrorPara
   pub logged : log ≡ lnOf (ofCount (i + 1))
   pub survives : here ≡ survivalOf (t .«error_params») (ofCount (i + 1))
   pub rows : out ≡ over (heightRows (heights-in t) i) held
-
-with-log : (x log : Float) → log ≡ lnOf x → lgammaWith x log ≡ lgammaOf x
-with-log x log e = rw (e) (lgamma-with-is x)
 
 abbrev Inv-loop : tie.InvT-loop
 Inv-loop t last out₀ p log₀ here₀ i₀ out log here i =
