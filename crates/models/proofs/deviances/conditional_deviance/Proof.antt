@@ -1,4 +1,5 @@
--- `models::deviances::conditional_deviance` meets its contract. What the loop carries stands ready for its count, or for an earlier one. Assumes nothing.
+-- `models::deviances::conditional_deviance` meets its contract. What the loop carries stands ready for its count, or for
+-- an earlier one. Assumes nothing.
 use mathlib.Core.Path.{_≡_, refl, sym, ap, _∙_, fun-ext}
 use mathlib.Core.List.{List}
 use Prim.Native.Nat.{ℕ, _+_, _-_}
