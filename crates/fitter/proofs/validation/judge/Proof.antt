@@ -10,36 +10,6 @@ use borrow.Author.Needs.{needs}
 use Rattle.fitter.proofs.validation.judge.Statement.{statement}
 use Rattle.fitter.proofs.validation.judge.Tie as tie
 
-non-finite-likelihood-requires : tie.Need-non-finite-likelihood-requires
-non-finite-likelihood-requires c κs = search needs
-
-invalid-components-requires : tie.Need-invalid-components-requires
-invalid-components-requires c κs = search needs
-
-invalid-window-mass-requires : tie.Need-invalid-window-mass-requires
-invalid-window-mass-requires c κs = search needs
-
-component-mass-exceeded-requires : tie.Need-component-mass-exceeded-requires
-component-mass-exceeded-requires c κs = search needs
-
-unstable-mode-requires : tie.Need-unstable-mode-requires
-unstable-mode-requires c κs = search needs
-
-lobe-outside-window-requires : tie.Need-lobe-outside-window-requires
-lobe-outside-window-requires c κs = search needs
-
-error-mode-past-valley-requires : tie.Need-error-mode-past-valley-requires
-error-mode-past-valley-requires c κs = search needs
-
-primary-mode-outside-band-requires : tie.Need-primary-mode-outside-band-requires
-primary-mode-outside-band-requires c κs = search needs
-
-repeat-mode-too-early-requires : tie.Need-repeat-mode-too-early-requires
-repeat-mode-too-early-requires c κs = search needs
-
-positive-log-likelihood-requires : tie.Need-positive-log-likelihood-requires
-positive-log-likelihood-requires c κs = search needs
-
 -- ---- the rules from the k-th on, counted from 0
 abbrev from : ℕ → List Test → List Test
 from zero ts = ts
@@ -232,24 +202,24 @@ pub judge-spec : {M : Type 1} → statement M
 judge-spec =
     tie.close
     (tie.spec
-    non-finite-likelihood-requires
+    (λ c κs. search needs)
     returns
-    invalid-components-requires
+    (λ c κs. search needs)
     returns-2
-    invalid-window-mass-requires
+    (λ c κs. search needs)
     returns-3
-    component-mass-exceeded-requires
+    (λ c κs. search needs)
     returns-4
-    unstable-mode-requires
+    (λ c κs. search needs)
     returns-5
-    lobe-outside-window-requires
+    (λ c κs. search needs)
     returns-6
-    error-mode-past-valley-requires
+    (λ c κs. search needs)
     returns-7
-    primary-mode-outside-band-requires
+    (λ c κs. search needs)
     returns-8
-    repeat-mode-too-early-requires
+    (λ c κs. search needs)
     returns-9
-    positive-log-likelihood-requires
+    (λ c κs. search needs)
     returns-10
     returns-11)
