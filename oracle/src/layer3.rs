@@ -5,6 +5,7 @@ mod costs;
 mod errors;
 pub mod fits;
 mod params;
+mod prepared_costs;
 mod problem;
 mod recovery;
 pub mod rust;
@@ -17,10 +18,8 @@ use crate::call::{Answer, Call, Kind};
 use crate::draw::Draw;
 
 pub fn calls() -> Vec<Call> {
-    [costs::calls(), fits::calls(), params::calls(), errors::calls(), shelf_rules::calls(), recovery::calls()]
-        .into_iter()
-        .flatten()
-        .collect()
+    let first = [costs::calls(), fits::calls(), params::calls(), errors::calls(), shelf_rules::calls(), recovery::calls()];
+    first.into_iter().chain([prepared_costs::calls()]).flatten().collect()
 }
 
 fn call(

@@ -9,7 +9,10 @@ mod layer3;
 mod layer4;
 mod linked;
 mod port;
+mod prepared;
 mod rules;
+mod search;
+mod spectra;
 mod tally;
 mod unaltered;
 mod words;
@@ -23,6 +26,9 @@ use tally::Tally;
 /// layer 4.
 const ROWS: [usize; 3] = [8, 2, 1];
 const LONGEST: [usize; 3] = [64, 128, 200];
+
+/// Calls that the replay does not know.
+const NOT_REPLAYED: [u64; 2] = [83, 84];
 
 /// What the command line asks for: one layer, one call, one input of so many, the replay's rows.
 struct Asked {
@@ -87,7 +93,7 @@ fn main() {
     let asked = asked();
     let calls = asked.calls();
     if asked.sample {
-        for call in &calls {
+        for call in calls.iter().filter(|call| !NOT_REPLAYED.contains(&call.number)) {
             let upper = usize::from(call.number >= 64) + usize::from(call.number >= 96);
             print!("{}", call.sample(ROWS[upper], LONGEST[upper]));
         }

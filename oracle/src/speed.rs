@@ -11,6 +11,7 @@ mod layer3;
 mod layer4;
 mod linked;
 mod port;
+mod prepared;
 #[path = "speed/race.rs"]
 mod race;
 #[path = "speed/rows.rs"]

@@ -13,21 +13,25 @@ use crate::words::{after, bits, fit_words, lent};
 const COST: &[(&str, Kind)] = &[("scale", Float)];
 const UNPACK: &[(&str, Kind)] = &[("scale", Float), ("cost", Float), ("iterations", Whole)];
 
-/// Which call the problem is drawn for: cost has nothing behind the scale, unpack its cost and its iterations.
+/// Which call the problem is drawn for: how many words it has behind the scale, and what stands there.
 #[derive(Clone, Copy)]
-pub struct For(usize);
+pub struct For {
+    pub words: usize,
+    pub beside: fn(&mut Draw, &Problem) -> [u64; 2],
+}
 
-const OF_COST: For = For(0);
-const OF_UNPACK: For = For(2);
+/// Cost has nothing there, unpack its cost and its iterations.
+const OF_COST: For = For { words: 0, ..OF_UNPACK };
+const OF_UNPACK: For = For { words: 2, beside: |d, _| [d.octaves(4, 24).to_bits(), d.below(2000)] };
 
 impl For {
     fn words(self, d: &mut Draw, p: Problem) -> Vec<u64> {
-        let beside = [d.octaves(4, 24).to_bits(), d.below(2000)];
-        p.words(&beside[..self.0])
+        let beside = (self.beside)(d, &p);
+        p.words(&beside[..self.words])
     }
 
-    fn read(self, w: &[u64]) -> Problem {
-        Problem::read(w, self.0)
+    pub fn read(self, w: &[u64]) -> Problem {
+        Problem::read(w, self.words)
     }
 
     pub fn own(
@@ -54,7 +58,7 @@ impl For {
         })
     }
 
-    fn drawn(self, draw: impl Fn(&mut Draw) -> Problem + 'static) -> impl Fn(&mut Draw) -> Vec<u64> + 'static {
+    pub fn drawn(self, draw: impl Fn(&mut Draw) -> Problem + 'static) -> impl Fn(&mut Draw) -> Vec<u64> + 'static {
         move |d| {
             let p = draw(d);
             self.words(d, p)
@@ -129,14 +133,25 @@ fn port_cost(w: &[u64]) -> Vec<u64> {
 
 fn linked_cost(w: &[u64]) -> Vec<u64> {
     let p = OF_COST.read(w);
-    if let Some(number) = p.refusal() {
+    cost_or(&p, p.refusal())
+}
+
+/// A refusal's number, or the Rust's cost; and the table.
+pub fn cost_or(p: &Problem, refusal: Option<u64>) -> Vec<u64> {
+    if let Some(number) = refusal {
         return [vec![number, 0], after(&p.table, &p.table)].concat();
     }
-    let mixture = side::mixture(&p);
+    let mixture = side::mixture(p);
     let params = mixture.params(&p.theta);
     let started = usable(&params) && held(&params);
     let cost = evaluate(&mixture, &p.theta);
-    [vec![0, bits(cost)], over(&p, if started { side::table(&p, &params) } else { None })].concat()
+    [vec![0, bits(cost)], over(p, if started { side::table(p, &params) } else { None })].concat()
+}
+
+/// The unaltered Rust's.
+pub fn plain_cost(p: &Problem) -> Vec<u64> {
+    let cost = <crate::unaltered::models::MixtureFit as CostFunction>::cost(&plain::mixture(p), &p.theta.to_vec());
+    vec![0, bits(cost.expect("a cost is never an error"))]
 }
 
 /// The lent table with these entries in front.
@@ -167,11 +182,7 @@ pub fn calls() -> Vec<Call> {
     vec![
         Call {
             own: strata(OF_COST),
-            unaltered: Some(|w| {
-                let p = OF_COST.read(w);
-                let cost = <crate::unaltered::models::MixtureFit as CostFunction>::cost(&plain::mixture(&p), &p.theta.to_vec());
-                vec![0, bits(cost.expect("a cost is never an error"))]
-            }),
+            unaltered: Some(|w| plain_cost(&OF_COST.read(w))),
             ..call(64, "cost", COST, Answer::Given { whole: 0, floats: 1 }, |d| OF_COST.drawn(Problem::ordinary)(d), port_cost, linked_cost)
         },
         Call {

@@ -53,7 +53,7 @@ const READ: &[(&str, Kind)] = fit_and!();
 const COUNTED: &[(&str, Kind)] = fit_and!(("count", Other));
 
 /// The window end of a fit, and its floats that a stratum sets.
-const END: usize = 4;
+pub const END: usize = 4;
 const SINGLETON: usize = 12;
 const TAIL: usize = 13;
 
@@ -75,7 +75,7 @@ pub fn ordinary(d: &mut Draw) -> Vec<u64> {
 }
 
 /// A fit that the Rust's unpack gives.
-fn unpacked(d: &mut Draw) -> Vec<u64> {
+pub fn unpacked(d: &mut Draw) -> Vec<u64> {
     let p = Problem::ordinary(d);
     side::fit_words(&side::mixture(&p).unpack(&p.theta, d.octaves(4, 24), d.below(2000)))
 }

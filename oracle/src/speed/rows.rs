@@ -2,8 +2,8 @@
 
 use crate::argmin::CostFunction;
 use crate::inputs::{Cell, Input};
-use crate::port;
 use crate::race::{race, Times};
+use crate::{port, prepared};
 use std::hint::black_box;
 
 /// The window ends of every call; and those by which the growth of a cost is seen.
@@ -40,6 +40,16 @@ fn rust_cost(i: &Input) {
 fn cost(cell: &Cell, divisor: usize) -> Times {
     let mut table = vec![0.0; room(cell)];
     against(cell, divisor, |i| _ = black_box(port::cost(&i.problem, &mut table)), rust_cost)
+}
+
+fn cost_prepared(cell: &Cell, divisor: usize) -> Times {
+    let ready = prepared::window(cell.window_end);
+    let mut table = vec![0.0; room(cell)];
+    for i in &cell.inputs {
+        let prepared = prepared::cost(&i.problem, &ready, &mut table);
+        assert!(prepared.number == 0 && prepared.value.to_bits() == i.cost.to_bits(), "the prepared cost differs");
+    }
+    against(cell, divisor, |i| _ = black_box(prepared::cost(&i.problem, &ready, &mut table)), rust_cost)
 }
 
 fn unpack(cell: &Cell, divisor: usize) -> Times {
@@ -95,6 +105,15 @@ pub fn rows() -> Vec<Row> {
             ends: GROWTH,
             bar: |end| Some(if end == 150 { 0.75 } else { 0.70 }),
             race: cost,
+            ..ROW
+        },
+        Row {
+            title: "cost_prepared",
+            asked: "the cost of a list over a prepared window",
+            ends: GROWTH,
+            bar: |end| [(150, 0.62), (600, 0.50), (2000, 0.42)].into_iter().find(|&(at, _)| at == end).map(|(_, bar)| bar),
+            goal: |end| [(150, 0.5), (600, 0.4), (2000, 0.33)].into_iter().find(|&(at, _)| at == end).map(|(_, goal)| goal),
+            race: cost_prepared,
             ..ROW
         },
         Row { title: "unpack", asked: "the fit of a list", bar: |_| Some(0.8), race: unpack, ..ROW },
