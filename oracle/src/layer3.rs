@@ -4,6 +4,7 @@ mod cost_strata;
 mod costs;
 mod errors;
 pub mod fits;
+mod many_heights;
 mod params;
 mod prepared_costs;
 mod problem;
@@ -19,7 +20,7 @@ use crate::draw::Draw;
 
 pub fn calls() -> Vec<Call> {
     let first = [costs::calls(), fits::calls(), params::calls(), errors::calls(), shelf_rules::calls(), recovery::calls()];
-    first.into_iter().chain([prepared_costs::calls()]).flatten().collect()
+    first.into_iter().chain([prepared_costs::calls(), many_heights::calls()]).flatten().collect()
 }
 
 fn call(

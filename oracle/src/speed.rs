@@ -5,6 +5,7 @@
 mod argmin;
 mod call;
 mod draw;
+mod heights;
 #[path = "speed/inputs.rs"]
 mod inputs;
 mod layer3;

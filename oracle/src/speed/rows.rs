@@ -1,6 +1,7 @@
 //! The calls that are raced, and their bars.
 
 use crate::argmin::CostFunction;
+use crate::heights::component_heights_to;
 use crate::inputs::{Cell, Input};
 use crate::race::{race, Times};
 use crate::{port, prepared};
@@ -73,13 +74,6 @@ fn rust_heights(i: &Input, heights: &mut [f64]) {
     }
 }
 
-fn our_heights(i: &Input, heights: &mut [f64]) {
-    for (count, three) in (1..).zip(heights.chunks_exact_mut(3)) {
-        let at = port::component_heights(i.fit, count);
-        three.copy_from_slice(&[at.error, at.single, at.repeat]);
-    }
-}
-
 fn heights(cell: &Cell, divisor: usize) -> Times {
     let mut ours = vec![0.0; 3 * cell.window_end as usize];
     let mut theirs = ours.clone();
@@ -87,7 +81,7 @@ fn heights(cell: &Cell, divisor: usize) -> Times {
         cell,
         divisor,
         |i| {
-            our_heights(i, &mut ours);
+            component_heights_to(i.fit, i.fit.fit_window_end, &mut ours);
             black_box(&ours);
         },
         |i| {
@@ -119,7 +113,7 @@ pub fn rows() -> Vec<Row> {
         Row { title: "unpack", asked: "the fit of a list", bar: |_| Some(0.8), race: unpack, ..ROW },
         Row { title: "error_mode", asked: "where the error component is highest", bar: |_| Some(0.6), race: error_mode, ..ROW },
         Row {
-            title: "component_heights",
+            title: "component_heights_to",
             asked: "the three heights at each count of the window",
             bar: |_| Some(0.5),
             race: heights,
