@@ -2,6 +2,8 @@
 
 mod cost_strata;
 mod costs;
+mod cutoff_strata;
+mod cutoffs;
 mod errors;
 pub mod fits;
 mod many_heights;
@@ -20,7 +22,7 @@ use crate::draw::Draw;
 
 pub fn calls() -> Vec<Call> {
     let first = [costs::calls(), fits::calls(), params::calls(), errors::calls(), shelf_rules::calls(), recovery::calls()];
-    first.into_iter().chain([prepared_costs::calls(), many_heights::calls()]).flatten().collect()
+    first.into_iter().chain([prepared_costs::calls(), many_heights::calls(), cutoffs::calls()]).flatten().collect()
 }
 
 fn call(

@@ -4,6 +4,7 @@
 
 mod argmin;
 mod call;
+mod cutoffs;
 mod draw;
 mod heights;
 #[path = "speed/inputs.rs"]

@@ -4,7 +4,7 @@ use crate::argmin::CostFunction;
 use crate::heights::component_heights_to;
 use crate::inputs::{Cell, Input};
 use crate::race::{race, Times};
-use crate::{port, prepared};
+use crate::{cutoffs, port, prepared};
 use std::hint::black_box;
 
 /// The window ends of every call; and those by which the growth of a cost is seen.
@@ -91,6 +91,19 @@ fn heights(cell: &Cell, divisor: usize) -> Times {
     )
 }
 
+fn hole_cutoff(cell: &Cell, divisor: usize) -> Times {
+    against(cell, divisor, |i| _ = black_box(cutoffs::hole_cutoff(i.fit, i.budget)), |i| _ = black_box(i.rust_fit.hole_cutoff(i.budget)))
+}
+
+fn hole_cutoff_sure(cell: &Cell, divisor: usize) -> Times {
+    against(
+        cell,
+        divisor,
+        |i| _ = black_box(cutoffs::hole_cutoff_sure(i.fit, i.budget)),
+        |i| _ = black_box(cutoffs::hole_cutoff(i.fit, i.budget)),
+    )
+}
+
 pub fn rows() -> Vec<Row> {
     vec![
         Row {
@@ -117,6 +130,20 @@ pub fn rows() -> Vec<Row> {
             asked: "the three heights at each count of the window",
             bar: |_| Some(0.5),
             race: heights,
+            ..ROW
+        },
+        Row {
+            title: "hole_cutoff",
+            asked: "the cutoff that a budget of 2^-14 to 2^-4 of the genome's k-mers allows",
+            bar: |_| Some(1.0),
+            race: hole_cutoff,
+            ..ROW
+        },
+        Row {
+            title: "hole_cutoff_sure",
+            asked: "the same, and whether its sums are near, beside the port's `hole_cutoff`",
+            other: "hole_cutoff",
+            race: hole_cutoff_sure,
             ..ROW
         },
     ]
