@@ -20,6 +20,8 @@ pub struct SureCutoff {
 extern "C" {
     fn fog_hole_cutoff(fit: Fit, budget: f64) -> Cutoff;
     fn fog_hole_cutoff_sure(fit: Fit, budget: f64) -> SureCutoff;
+    fn fog_crossover(fit: Fit) -> Cutoff;
+    fn fog_error_floor_cutoff(fit: Fit) -> Cutoff;
 }
 
 pub fn hole_cutoff(fit: Fit, budget: f64) -> Cutoff {
@@ -28,4 +30,12 @@ pub fn hole_cutoff(fit: Fit, budget: f64) -> Cutoff {
 
 pub fn hole_cutoff_sure(fit: Fit, budget: f64) -> SureCutoff {
     unsafe { fog_hole_cutoff_sure(fit, budget) }
+}
+
+pub fn crossover(fit: Fit) -> Cutoff {
+    unsafe { fog_crossover(fit) }
+}
+
+pub fn error_floor_cutoff(fit: Fit) -> Cutoff {
+    unsafe { fog_error_floor_cutoff(fit) }
 }

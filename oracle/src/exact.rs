@@ -6,9 +6,9 @@ mod argmin;
 mod call;
 mod cutoffs;
 mod draw;
-mod heights;
 #[path = "exact/fits.rs"]
 mod fits;
+mod heights;
 mod layer3;
 mod layer4;
 mod linked;

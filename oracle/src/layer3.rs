@@ -6,6 +6,7 @@ mod cutoff_strata;
 mod cutoffs;
 mod errors;
 pub mod fits;
+mod height_cutoffs;
 mod many_heights;
 mod params;
 mod prepared_costs;
@@ -22,7 +23,7 @@ use crate::draw::Draw;
 
 pub fn calls() -> Vec<Call> {
     let first = [costs::calls(), fits::calls(), params::calls(), errors::calls(), shelf_rules::calls(), recovery::calls()];
-    first.into_iter().chain([prepared_costs::calls(), many_heights::calls(), cutoffs::calls()]).flatten().collect()
+    first.into_iter().chain([prepared_costs::calls(), many_heights::calls(), cutoffs::calls(), height_cutoffs::calls()]).flatten().collect()
 }
 
 fn call(

@@ -104,6 +104,14 @@ fn hole_cutoff_sure(cell: &Cell, divisor: usize) -> Times {
     )
 }
 
+fn crossover(cell: &Cell, divisor: usize) -> Times {
+    against(cell, divisor, |i| _ = black_box(cutoffs::crossover(i.fit)), |i| _ = black_box(i.rust_fit.crossover()))
+}
+
+fn error_floor_cutoff(cell: &Cell, divisor: usize) -> Times {
+    against(cell, divisor, |i| _ = black_box(cutoffs::error_floor_cutoff(i.fit)), |i| _ = black_box(i.rust_fit.error_floor_cutoff()))
+}
+
 pub fn rows() -> Vec<Row> {
     vec![
         Row {
@@ -144,6 +152,20 @@ pub fn rows() -> Vec<Row> {
             asked: "the same, and whether its sums are near, beside the port's `hole_cutoff`",
             other: "hole_cutoff",
             race: hole_cutoff_sure,
+            ..ROW
+        },
+        Row {
+            title: "crossover",
+            asked: "where the single-copy component outgrows the error's",
+            bar: |_| Some(0.5),
+            race: crossover,
+            ..ROW
+        },
+        Row {
+            title: "error_floor_cutoff",
+            asked: "where the errors fall below the peak's height",
+            bar: |_| Some(0.5),
+            race: error_floor_cutoff,
             ..ROW
         },
     ]
