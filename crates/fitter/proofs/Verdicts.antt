@@ -12,6 +12,7 @@ use Rattle.meaning.proofs.Replies.{same-answer, same-number, answer-not-refused
 use Rattle.routines.specs.Exp.{expOf}
 use Rattle.models.specs.Fits.{totalRatioOf}
 use Rattle.models.specs.declared.fit.SpectrumFit.{SpectrumFit}
+use Rattle.fitter.specs.Judging.{reasonAt}
 use Rattle.fitter.specs.Validation.{valid, rejected, judged, rules, verdictOf, reasonNumber}
 use Rattle.fitter.specs.Validation.{verdictSays, excessOf, NoRule}
 use Rattle.fitter.specs.declared.rejections.FitRejection.{FitRejection}
@@ -20,30 +21,7 @@ use Rattle.fitter.specs.declared.validation.Verdict.{Verdict}
 use Rattle.fitter.specs.declared.validation.Verdict.the-variants.{Valid, Rejected, Refused}
 
 -- ---- verdicts
--- the reason of a number: 0 is the first
-abbrev at : List FitRejection → ℕ → FitRejection
-at [] n = reason.OptimisationFailed
-at (why ∷ whys) zero = why
-at (why ∷ whys) (suc n) = at whys n
-
-abbrev reasonAt : ℕ → FitRejection
-reasonAt n =
-    at
-    (reason.OptimisationFailed
-    ∷ reason.NonFiniteLikelihood
-    ∷ reason.InvalidComponents
-    ∷ reason.InvalidWindowMass
-    ∷ reason.ComponentMassExceeded
-    ∷ reason.UnstableModeParameterisation
-    ∷ reason.GenomeLobeOutsideFitWindow
-    ∷ reason.ErrorModePastValley
-    ∷ reason.PrimaryModeOutsideBand
-    ∷ reason.RepeatModeTooEarly
-    ∷ reason.PositiveLogLikelihood
-    ∷ [])
-    n
-
-there-and-back : (why : FitRejection) → reasonAt (reasonNumber why) ≡ why
+pub there-and-back : (why : FitRejection) → reasonAt (reasonNumber why) ≡ why
 there-and-back reason.OptimisationFailed = refl
 there-and-back reason.NonFiniteLikelihood = refl
 there-and-back reason.InvalidComponents = refl
