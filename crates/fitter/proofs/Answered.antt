@@ -1,6 +1,6 @@
 -- What the code goes through in its two passes is the attempt: by whether the first pass settled it. Assumes nothing.
 use Prim.Native.Nat.{ℕ}
-use mathlib.Core.Path.{_≡_, refl, sym, ap, _∙_, subst}
+use mathlib.Core.Path.{_≡_, sym, ap, _∙_, subst}
 use mathlib.Core.Bool.{Bool, true, false, cond}
 use mathlib.Core.List.{List}
 use lib.ListN.{length, drop}
@@ -28,7 +28,8 @@ module _ (bins : List ℕ) (setup : Setup) (lists : List Float) (room : ℕ) (at
       → survey ≡ surveyOf (length lists) wanted at n → survey ≡ surveyed bins setup lists room at n
   survey-is wanted survey e f = f ∙ ap (λ (w : ℕ). surveyOf (length lists) w at n) e
 
-  pub settled-is : (count : ℕ) (survey : Survey) (s : Settled) → count ≡ n → survey ≡ surveyed bins setup lists room at n
+  pub settled-is : (count : ℕ) (survey : Survey) (s : Settled) → count ≡ n
+      → survey ≡ surveyed bins setup lists room at n
       → s ≡ settleOf bins setup count survey lists room → s ≡ settled bins setup lists room at n
   settled-is count survey s e f g = g ∙ (λ j. settleOf bins setup (e j) (f j) lists room)
 
@@ -57,7 +58,8 @@ module _ (bins : List ℕ) (setup : Setup) (lists : List Float) (room : ℕ) (at
         (ap (withHeld s) h ∙ sym (goes u) ∙ ap (again bins setup lists room at n) f)
         ∙ answered bins setup lists room at n
       where
-        goes : s .unsettled ≡ true → again bins setup lists room at n s ≡ withHeld s (retriedOf bins (s .frame) lists room at n (s .held))
+        goes : s .unsettled ≡ true
+            → again bins setup lists room at n s ≡ withHeld s (retriedOf bins (s .frame) lists room at n (s .held))
         goes h = ap (λ (b : Bool). cond b (withHeld s (retriedOf bins (s .frame) lists room at n (s .held))) s) h
 
     -- ---- the shelf's table
@@ -69,15 +71,16 @@ module _ (bins : List ℕ) (setup : Setup) (lists : List Float) (room : ℕ) (at
           subst (λ (k : ℕ). drop (standsFrom setup k) middle ≡ drop (standsFrom setup k) before)
           (sym (ap (λ (x : AttemptAnswer). x .number) g ∙ finished-number survey s)) first
 
-      pub two-stand : (after : List Float) (held : Held) (r : AttemptAnswer) → r ≡ finishOf survey (withHeld s held) → s .unsettled ≡ true
+      pub two-stand : (after : List Float) (held : Held) (r : AttemptAnswer)
+          → r ≡ finishOf survey (withHeld s held) → s .unsettled ≡ true
           → drop (tableFrom (s .frame)) after ≡ drop (tableFrom (s .frame)) middle
           → drop (standsFrom setup (r .number)) after ≡ drop (standsFrom setup (r .number)) before
       two-stand after held r g u second =
           let is = unsettled-is bins setup n (surveyed bins setup lists room at n) lists room
-              (sym (ap (λ (x : Settled). x .unsettled) f) ∙ u) in
+          (sym (ap (λ (x : Settled). x .unsettled) f) ∙ u) in
           let zero : s .number ≡ 0 = ap (λ (x : Settled). x .number) f ∙ is .0 in
           let number : r .number ≡ 0 =
-              ap (λ (x : AttemptAnswer). x .number) g ∙ finished-number survey (withHeld s held) ∙ zero in
+          ap (λ (x : AttemptAnswer). x .number) g ∙ finished-number survey (withHeld s held) ∙ zero in
           subst (λ (k : ℕ). drop (standsFrom setup k) after ≡ drop (standsFrom setup k) before) (sym number)
           (stands bins setup (s .frame) middle after (ap (λ (x : Settled). x .frame) f ∙ is .1) second
           ∙ subst (λ (k : ℕ). drop (standsFrom setup k) middle ≡ drop (standsFrom setup k) before) zero first)

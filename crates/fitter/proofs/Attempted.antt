@@ -1,31 +1,31 @@
 -- THE THEOREM: two passes over the run table come to the attempt that specs/Attempting.antt defines, over any table.
 -- Assumes nothing.
 use Prim.Native.Nat.{ℕ, zero, suc, _+_, _≤_, _<_, zero-le}
-use mathlib.Core.Path.{_≡_, refl, sym, ap, _∙_, subst}
-use mathlib.Core.Bool.{Bool, true, false, not, cond, _&&_, _||_, true≢false, false≢true}
-use mathlib.Core.List.{List, [], _∷_, _++_}
+use mathlib.Core.Path.{_≡_, refl, sym, ap, _∙_}
+use mathlib.Core.Bool.{Bool, true, false, not, cond, _&&_, _||_, true≢false}
+use mathlib.Core.List.{List, [], _∷_}
 use native.Mathlib.Omega.{arith}
 use borrow.Author.Tests.{ne-eqb}
 use lib.Dec.{eqb}
 use lib.ListN.{length}
 use lib.Ieee.{Float}
 use Rattle.meaning.specs.Fold.{fold}
-use Rattle.meaning.specs.Reply.{Reply, refuse, give, Test, test, chain, firstOf}
+use Rattle.meaning.specs.Reply.{give, Test, firstOf}
 use Rattle.meaning.specs.Rows.{most, inOrder, few, many}
 use Rattle.meaning.proofs.Chains.{numbered, parts, goes-on, chain-refused, chain-passed}
 use Rattle.meaning.proofs.Folds.{fold-more, fold-split, fold-keeps}
 use Rattle.meaning.proofs.Rows.{many-passed, test-passed}
 use Rattle.models.specs.Refusals.{spectrumTests, shortTable}
-use Rattle.fitter.specs.Attempts.{unrejected, attemptOf}
+use Rattle.fitter.specs.Attempts.{unrejected}
 use Rattle.fitter.specs.Attempting.{wrongRuns, badRuns, setupTests, surveyTests, frameOf, wanted, attemptTests}
 use Rattle.fitter.specs.Attempting.{candidateOf, attemptFrom, attemptAnswerOf, refusedOf}
 use Rattle.fitter.specs.Judging.{judgedOf, heldOf, keptOf, retriedOf}
-use Rattle.fitter.specs.Runs.{badCost, badRun, anyOf, wrongRun, atMost, top32, iterationsOf, cappedOf}
-use Rattle.fitter.specs.Settling.{noFrame, noHeld, closedBy, heldBy, settleOf, withHeld, failedOf, keptAnswer, finishOf}
+use Rattle.fitter.specs.Runs.{badCost, badRun, anyOf, top32, iterationsOf, cappedOf}
+use Rattle.fitter.specs.Settling.{noFrame, noHeld, closedBy, heldBy, settleOf, withHeld}
+use Rattle.fitter.specs.Settling.{failedOf, keptAnswer, finishOf}
 use Rattle.fitter.specs.Settling.{surveyed, settled, again, answeredOf}
-use Rattle.fitter.specs.Surveys.{leastOf, surveyOf}
+use Rattle.fitter.specs.Surveys.{leastOf}
 use Rattle.fitter.specs.Validation.{outsideLimit}
-use Rattle.fitter.specs.declared.attempts.FitAttempt.{FitAttempt}
 use Rattle.fitter.specs.declared.judging.Frame.{Frame}
 use Rattle.fitter.specs.declared.judging.Held.{Held}
 use Rattle.fitter.specs.declared.runs.Run.{Run}
@@ -80,7 +80,8 @@ module _ (bins : List ℕ) (setup : Setup) (n : ℕ) (wrong bad : Bool) (room : 
       (e .1 .0, e .1 .1 .1 .0, e .1 .1 .1 .1 .0)
 
   -- 7 of any run comes before 9 of any other, and before the limit's
-  pub seven-first : 0 ≡ firstOf (few lows) → 0 ≡ firstOf (many highs) → 0 ≡ firstOf spectrum → wrong ≡ true → 7 ≡ firstOf tests
+  pub seven-first : 0 ≡ firstOf (few lows) → 0 ≡ firstOf (many highs) → 0 ≡ firstOf spectrum → wrong ≡ true
+      → 7 ≡ firstOf tests
   unfolding setupTests
   seven-first l h s w =
       goes-on (few lows) (inOrder (many highs ∷ spectrum ∷ from-wrong)) refl l 7
@@ -206,7 +207,8 @@ module _ (bins : List ℕ) (setup : Setup) (lists : List Float) (room : ℕ) (at
     capped-are =
         let l : cappedOf at n ≤ n = capped-few at n in
         let m : n ≤ most = runs-few in
-        survey-capped (length lists) (wanted bins setup lists room at n) at n ∙ sym (within top32 (cappedOf at n) (omega arith))
+        survey-capped (length lists) (wanted bins setup lists room at n) at n
+        ∙ sym (within top32 (cappedOf at n) (omega arith))
 
     zero-number : firstOf (surveyTests bins setup n survey room) ≡ 0
     zero-number = number-is ∙ sym z

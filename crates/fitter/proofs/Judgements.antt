@@ -32,19 +32,23 @@ said-is (Refused n) j e = absurd (answer-not-refused (sym e))
 module _ (bins : List ℕ) (frame : Frame) (lists : List Float) (room : ℕ) (run : Run) where
   pub judged-is : (list : List Float) (fit : SpectrumFit) (v : Verdict) (r : RejectionPart)
       → list ≡ listAt lists (run .place) (run .length)
-      → fit ≡ unpackAt bins (frame .window) (frame .peak) (frame .error) (frame .genome) list (run .cost) (run .iterations) room
+      → fit
+      ≡ unpackAt bins (frame .window) (frame .peak) (frame .error) (frame .genome) list (run .cost) (run .iterations) room
       → verdictSays v ≡ give (verdictOf fit (frame .valley) (frame .peak) (frame .«mass_limit»))
       → r ≡ rejectionSaid v
       → record { fit = fit; rejection = r } ≡ judgedOf bins frame lists room run
   unfolding judgedOf fitOfRun
   judged-is list fit v r el ef ev er =
       let f : fit ≡ fitOfRun bins frame lists room run =
-          ef
-          ∙ ap (λ (l : List Float).
-              unpackAt bins (frame .window) (frame .peak) (frame .error) (frame .genome) l (run .cost) (run .iterations) room) el in
-      let s : r ≡ rejectionOf (verdictOf (fitOfRun bins frame lists room run) (frame .valley) (frame .peak) (frame .«mass_limit»)) =
-          er ∙ said-is v _ ev
-          ∙ ap (λ (x : SpectrumFit). rejectionOf (verdictOf x (frame .valley) (frame .peak) (frame .«mass_limit»))) f in
+      ef
+      ∙ ap (λ (l : List Float).
+      unpackAt bins (frame .window) (frame .peak) (frame .error) (frame .genome) l (run .cost) (run .iterations)
+      room) el in
+      let s : r
+      ≡ rejectionOf
+      (verdictOf (fitOfRun bins frame lists room run) (frame .valley) (frame .peak) (frame .«mass_limit»)) =
+      er ∙ said-is v _ ev
+      ∙ ap (λ (x : SpectrumFit). rejectionOf (verdictOf x (frame .valley) (frame .peak) (frame .«mass_limit»))) f in
       λ i. record { fit = f i; rejection = s i }
 
 -- ---- a run looked at again, by its answer

@@ -1,15 +1,14 @@
--- Which run is kept: the one of least cost where it is valid; else what a second pass over the table finds, which unpacks
--- only what could win. Assumes nothing.
+-- Which run is kept: the one of least cost where it is valid; else what a second pass over the table finds, which
+-- unpacks only what could win. Assumes nothing.
 use Prim.Native.Nat.{ℕ, suc, _≤_, _<_, zero-le}
 use mathlib.Core.Path.{_≡_, refl, sym, ap, _∙_, subst}
 use mathlib.Core.Bool.{Bool, true, false, cond, _&&_, true≢false, false≢true}
 use mathlib.Core.List.{List}
 use lib.Ieee.{Float, lt}
-use Rattle.meaning.specs.Fold.{fold}
 use Rattle.meaning.proofs.Folds.{fold-keeps}
 use Rattle.fitter.specs.Attempts.{unrejected}
 use Rattle.fitter.specs.Runs.{badCost}
-use Rattle.fitter.specs.Surveys.{noBest, bestOf, beats, lesser, leastStep, leastOf}
+use Rattle.fitter.specs.Surveys.{bestOf, beats, lesser, leastStep, leastOf}
 use Rattle.fitter.specs.Judging.{couldWin, judgedOf, validRun, heldOf, keptOf, retryStep, retriedOf}
 use Rattle.fitter.specs.declared.judging.Frame.{Frame}
 use Rattle.fitter.specs.declared.judging.Held.{Held}
@@ -144,11 +143,13 @@ module _ (bins : List ℕ) (frame : Frame) (lists : List Float) (room : ℕ) whe
         not-last true true false z = refl
         not-last true false false z = refl
 
-        passed-over : (a b : Bool) → x .converged ≡ a → fine x ≡ b → (a && b) ≡ false → (next ≡ v) × (retried ≡ so-far v)
+        passed-over : (a b : Bool) → x .converged ≡ a → fine x ≡ b → (a && b) ≡ false
+            → (next ≡ v) × (retried ≡ so-far v)
         passed-over a b e f z = (
           next-is false (valid-by x a b e f ∙ z),
           retry-is (so-far v) a (couldWin (so-far v) (x .cost)) b e refl f
-              ∙ ap (λ (c : Bool). cond c (held (bestOf k x)) (so-far v)) (not-last a (couldWin (so-far v) (x .cost)) b z),
+              ∙ ap (λ (c : Bool). cond c (held (bestOf k x)) (so-far v))
+              (not-last a (couldWin (so-far v) (x .cost)) b z),
         )
 
         -- valid, where there was none
@@ -182,7 +183,8 @@ module _ (bins : List ℕ) (frame : Frame) (lists : List Float) (room : ℕ) whe
 
         takes : x .converged ≡ true → fine x ≡ true → next ≡ bestOf k x → retried ≡ held (bestOf k x) → Kept
         takes c f e g = (
-          subst (λ (u : Best). u .run .converged ≡ true → fine (u .run) ≡ true) (sym e) (λ (z : x .converged ≡ true). f),
+          subst (λ (u : Best). u .run .converged ≡ true → fine (u .run) ≡ true) (sym e)
+              (λ (z : x .converged ≡ true). f),
           g ∙ sym (new-so-far c) ∙ ap so-far (sym e),
         )
 
@@ -197,14 +199,15 @@ module _ (bins : List ℕ) (frame : Frame) (lists : List Float) (room : ℕ) whe
       past-next : (k : ℕ) (h : Held) → Past k h → Past (suc k) (retryStep bins frame lists room k (at k) h)
       past-next k h p =
           let v = leastOf at valid k in
-          let s = step k v (p .sound) (at k .converged) (fine (at k)) (v .run .converged) (lt (at k .cost) (v .run .cost))
-          refl refl refl refl in
+          let s = step k v (p .sound) (at k .converged) (fine (at k)) (v .run .converged)
+          (lt (at k .cost) (v .run .cost)) refl refl refl refl in
           record {
             is =
                 ap (retryStep bins frame lists room k (at k)) (p .is)
                 ∙ s .1 ∙ ap so-far (sym (least-next at valid k));
             sound =
-                subst (λ (u : Best). u .run .converged ≡ true → fine (u .run) ≡ true) (sym (least-next at valid k)) (s .0);
+                subst (λ (u : Best). u .run .converged ≡ true → fine (u .run) ≡ true) (sym (least-next at valid k))
+                (s .0);
           }
 
       past-none : Past 0 (held least)
@@ -219,8 +222,9 @@ module _ (bins : List ℕ) (frame : Frame) (lists : List Float) (room : ℕ) whe
       unfolding retriedOf keptOf
       kept-retried =
           let p =
-              fold-keeps (λ (k : ℕ) (h : Held). retryStep bins frame lists room k (at k) h) Past 0 n (held least) zero-le
-              (λ (k : ℕ) (h : Held) (l : 0 ≤ k) (m : k < n) (p : Past k h). past-next k h p) past-none in
+          fold-keeps (λ (k : ℕ) (h : Held). retryStep bins frame lists room k (at k) h) Past 0 n (held least)
+          zero-le
+          (λ (k : ℕ) (h : Held) (l : 0 ≤ k) (m : k < n) (p : Past k h). past-next k h p) past-none in
           p .is ∙ out (best .run .converged)
         where
           out : (b : Bool) → cond b (held best) (held least) ≡ held (cond b best least)

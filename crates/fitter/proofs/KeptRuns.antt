@@ -1,13 +1,12 @@
 -- Which run is kept, over any run table whose costs no number refuses. Assumes nothing.
 use Prim.Native.Nat.{ℕ, suc, _≤_, _<_, zero-le}
 use mathlib.Core.Path.{_≡_, refl, sym, ap, _∙_, subst}
-use mathlib.Core.Bool.{Bool, true, false, cond, true≢false, false≢true}
+use mathlib.Core.Bool.{Bool, true, false, cond, true≢false}
 use mathlib.Core.List.{List}
 use mathlib.Core.Logic.{_⊎_, inl, inr}
 use native.Mathlib.Nat.{not-suc-le-zero, eq-or-lt-of-le, le-of-suc-le-suc}
 use native.Mathlib.Omega.{arith}
 use lib.Ieee.{Float, lt}
-use Rattle.meaning.specs.Fold.{fold}
 use Rattle.meaning.proofs.Folds.{fold-keeps}
 use Rattle.fitter.specs.Judging.{validRun, keptOf}
 use Rattle.fitter.specs.Kept.{Lowest, Found, none, one, KeptRun, is-valid, is-rejected, is-missing}
@@ -89,7 +88,7 @@ module _ (at : ℕ → Run) (p : Run → Bool) (converged : (r : Run) → p r �
         least =
             also (λ (j : ℕ). p (at j) ≡ true → lt (at j .cost) (at k .cost) ≡ false)
             (λ (j : ℕ) (l : j < k) (i : p (at j) ≡ true).
-                not-both (plain k last e) (plain j (less l) i) (lower e h j l i))
+            not-both (plain k last e) (plain j (less l) i) (lower e h j l i))
             (λ (i : p (at k) ≡ true). not-itself (plain k last e));
         first = lower e h;
       })
@@ -116,13 +115,15 @@ module _ (at : ℕ → Run) (p : Run → Bool) (converged : (r : Run) → p r �
     more b true false ep ew (one f) =
         kept b f ep (sym (beats-some (at k .cost) b (converged (b .run) (f .holds))) ∙ ew)
 
-  pub found : (n : ℕ) → ((i : ℕ) → i < n → p (at i) ≡ true → badCost (at i .cost) ≡ false) → Found at p n (leastOf at p n)
+  pub found : (n : ℕ) → ((i : ℕ) → i < n → p (at i) ≡ true → badCost (at i .cost) ≡ false)
+      → Found at p n (leastOf at p n)
   unfolding leastOf leastStep lesser
   found n good =
       fold-keeps (leastStep at p) (λ (k : ℕ) (b : Best). Found at p k b) 0 n noBest zero-le
       (λ (k : ℕ) (b : Best) (l : 0 ≤ k) (m : k < n) (f : Found at p k b).
-          more k (λ (j : ℕ) (h : j < suc k) (i : p (at j) ≡ true). plain-cost (at j .cost) (good j (omega (arith, h, m)) i)) b
-          (p (at k)) (beats (at k .cost) b) refl refl f)
+      more k
+      (λ (j : ℕ) (h : j < suc k) (i : p (at j) ≡ true). plain-cost (at j .cost) (good j (omega (arith, h, m)) i)) b
+      (p (at k)) (beats (at k .cost) b) refl refl f)
       (none refl (λ (j : ℕ) (l : j < 0). absurd (not-suc-le-zero l)))
 
 -- ---- THE THEOREM
@@ -142,8 +143,8 @@ module _ (bins : List ℕ) (frame : Frame) (lists : List Float) (room : ℕ) (at
       (λ (i : ℕ) (l : i < n) (h : valid (at i) ≡ true). good i l (valid-converged bins frame lists room (at i) h)))
       (found at all (λ (r : Run) (e : r .converged ≡ true). e) n good)
     where
-      unless : (best other : Best) (b : Bool) → best .run .converged ≡ b → b ≡ true → cond (best .run .converged) best other ≡ best
-      unless best other b e h = ap (λ (c : Bool). cond c best other) (e ∙ h)
+      where-some : (best other : Best) → best .run .converged ≡ true → cond (best .run .converged) best other ≡ best
+      where-some best other e = ap (λ (c : Bool). cond c best other) e
 
       else-so : (best other : Best) → best ≡ noBest → cond (best .run .converged) best other ≡ other
       else-so best other e = ap (λ (x : Best). cond (x .run .converged) x other) e
@@ -152,7 +153,7 @@ module _ (bins : List ℕ) (frame : Frame) (lists : List Float) (room : ℕ) (at
           → KeptRun at valid n (cond (best .run .converged) best other)
       go best other (one f) g =
           subst (KeptRun at valid n)
-          (sym (unless best other (best .run .converged) refl (valid-converged bins frame lists room (best .run) (f .holds)))) (is-valid f)
+          (sym (where-some best other (valid-converged bins frame lists room (best .run) (f .holds)))) (is-valid f)
       go best other (none z none-valid) (one g) =
           subst (KeptRun at valid n) (sym (else-so best other z)) (is-rejected none-valid g)
       go best other (none z none-valid) (none y none-there) =

@@ -1,6 +1,6 @@
 -- The least of some runs that has a further property is the least of those with both; and where there is none of the
 -- first, there is none of the second. Assumes nothing.
-use Prim.Native.Nat.{ℕ, suc, _+_, _≤_, _<_, zero-le}
+use Prim.Native.Nat.{ℕ, suc, _≤_, _<_, zero-le}
 use mathlib.Core.Path.{_≡_, refl, sym, ap, _∙_, subst}
 use mathlib.Core.Bool.{Bool, true, false, cond, true≢false, false≢true}
 use native.Mathlib.Numerals.{add-one}
@@ -120,7 +120,7 @@ module _ (at : ℕ → Run) (p q : Run → Bool) (within : (r : Run) → q r ≡
   agree n good =
       fold-keeps (leastStep at p) (λ (k : ℕ) (b : Best). Agree q b (leastOf at q k)) 0 n noBest zero-le
       (λ (k : ℕ) (b : Best) (l : 0 ≤ k) (m : k < n) (h : Agree q b (leastOf at q k)).
-          subst (Agree q (leastStep at p k b)) (sym (least-next at q k))
-          (more k (at k) (λ (e : p (at k) ≡ true). plain-cost (at k .cost) (good k m e)) b (leastOf at q k) h
-          (p (at k)) (q (at k)) (beats (at k .cost) b) (beats (at k .cost) (leastOf at q k)) refl refl refl refl))
+      subst (Agree q (leastStep at p k b)) (sym (least-next at q k))
+      (more k (at k) (λ (e : p (at k) ≡ true). plain-cost (at k .cost) (good k m e)) b (leastOf at q k) h
+      (p (at k)) (q (at k)) (beats (at k .cost) b) (beats (at k .cost) (leastOf at q k)) refl refl refl refl))
       (subst (Agree q noBest) (sym (least-none at q)) nothing-yet)

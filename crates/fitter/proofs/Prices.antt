@@ -1,8 +1,8 @@
--- Costs that no run is refused for, finite and above 0, are ordered: what is below one is below each that is not below it.
--- Assumes nothing.
-use Prim.Native.Nat.{ℕ, zero, suc, _+_, _*_, _≤_, _<_}
-use mathlib.Core.Path.{_≡_, refl, sym, ap, _∙_, subst}
-use mathlib.Core.Bool.{Bool, true, false, not, _&&_, _||_, true≢false, false≢true}
+-- Costs that no run is refused for, finite and above 0, are ordered: what is below one is below each that is not below
+-- it. Assumes nothing.
+use Prim.Native.Nat.{ℕ, zero, _+_, _*_, _≤_, _<_}
+use mathlib.Core.Path.{_≡_, refl, sym, _∙_, subst}
+use mathlib.Core.Bool.{Bool, true, false, _&&_, _||_, true≢false}
 use native.Mathlib.Nat.{mul-right-comm, mul-le-mul-right, mul-lt-mul-of-pos-right, lt-of-mul-lt-mul-right}
 use native.Mathlib.Nat.{lt-of-lt-of-le, lt-of-le-of-lt, le-of-eq, le-of-lt, le-refl}
 use native.Mathlib.Omega.{arith}
@@ -40,23 +40,25 @@ plain-cost (fin true m e) g = absurd (true≢false (sym (negative-bad m e) ∙ g
 plain-cost (fin false m e) g = plain m e
 
 -- ---- fractions A / a, B / b, C / c
-module _ (A B C a b c : ℕ) (pb : 0 < b) where
-  crossed : 0 < c → 0 < a → A * b < B * a → B * c ≤ C * b → A * c < C * a
-  crossed pc pa h k =
+module _ (A B C a b c : ℕ) where
+  crossed : 0 < c → A * b < B * a → B * c ≤ C * b → A * c < C * a
+  crossed pc h k =
       lt-of-mul-lt-mul-right b
       (lt-of-le-of-lt (le-of-eq (mul-right-comm A c b))
       (lt-of-lt-of-le (mul-lt-mul-of-pos-right h pc)
-      (lt-of-lt-of-le-eq (mul-le-mul-right a k))))
+      (moved (mul-le-mul-right a k))))
     where
-      lt-of-lt-of-le-eq : B * c * a ≤ C * b * a → B * a * c ≤ C * a * b
-      lt-of-lt-of-le-eq l = subst (λ (x : ℕ). x ≤ C * a * b) (mul-right-comm B c a) (subst (λ (x : ℕ). B * c * a ≤ x) (mul-right-comm C b a) l)
+      moved : B * c * a ≤ C * b * a → B * a * c ≤ C * a * b
+      moved l =
+          subst (λ (x : ℕ). x ≤ C * a * b) (mul-right-comm B c a)
+          (subst (λ (x : ℕ). B * c * a ≤ x) (mul-right-comm C b a) l)
 
 -- ---- the order
 pub below-those : {x y z : Float} → Plain x → Plain y → Plain z → lt x y ≡ true → lt z y ≡ false → lt x z ≡ true
 unfolding lt
 below-those (plain m e) (plain n d) (plain k f) h i =
     lt-ltb _ _
-    (crossed (m * up e) (n * up d) (k * up f) (down e) (down d) (down f) (down-pos d) (down-pos f) (down-pos e)
+    (crossed (m * up e) (n * up d) (k * up f) (down e) (down d) (down f) (down-pos f)
     (ltb-true _ _ h) (ltb-false _ _ i))
 
 pub not-both : {x y : Float} → Plain x → Plain y → lt x y ≡ true → lt y x ≡ false

@@ -45,7 +45,8 @@ module _ (survey : Survey) (s : Settled) where
   unfolding finishOf
   finished-kept h c = rw (eq-eqb (s .number) 0 h, c)
 
-  pub finished-failed : s .number ≡ 0 → s .held .best .run .converged ≡ false → failedOf (s .frame) survey ≡ finishOf survey s
+  pub finished-failed : s .number ≡ 0 → s .held .best .run .converged ≡ false
+      → failedOf (s .frame) survey ≡ finishOf survey s
   unfolding finishOf
   finished-failed h c = rw (eq-eqb (s .number) 0 h, c)
 
@@ -55,7 +56,8 @@ unfolding finishOf
 finished-number survey s = go (eqb (s .number) 0) refl (s .held .best .run .converged)
   where
     go : (b : Bool) → eqb (s .number) 0 ≡ b → (c : Bool)
-        → cond b (cond c (keptAnswer (s .frame) survey (s .held)) (failedOf (s .frame) survey)) (refusedOf (s .number)) .number
+        → cond b (cond c (keptAnswer (s .frame) survey (s .held)) (failedOf (s .frame) survey))
+        (refusedOf (s .number)) .number
         ≡ s .number
     go true e true = sym (eqb-true (s .number) 0 e)
     go true e false = sym (eqb-true (s .number) 0 e)
@@ -66,15 +68,15 @@ abbrev settled-by : Frame → Bool → Bool → ℕ → Held → Settled
 settled-by frame b c n held = cond b (cond c (heldBy frame held) (closedBy 0 frame)) (closedBy n noFrame)
 
 pub unsettled-is : (bins : List ℕ) (setup : Setup) (runs : ℕ) (survey : Survey) (lists : List Float) (room : ℕ)
-    → settleOf bins setup runs survey lists room .unsettled ≡ true
-    → (settleOf bins setup runs survey lists room .number ≡ 0) × (settleOf bins setup runs survey lists room .frame ≡ frameOf bins setup)
+    → let s = settleOf bins setup runs survey lists room in
+    s .unsettled ≡ true → (s .number ≡ 0) × (s .frame ≡ frameOf bins setup)
 unfolding settleOf
 unsettled-is bins setup runs survey lists room h =
     go (eqb (firstOf (surveyTests bins setup runs survey room)) 0) (survey .least .run .converged)
     (firstOf (surveyTests bins setup runs survey room)) (heldOf bins (frameOf bins setup) lists room (survey .least)) h
   where
-    go : (b c : Bool) (n : ℕ) (held : Held) → settled-by (frameOf bins setup) b c n held .unsettled ≡ true
-        → (settled-by (frameOf bins setup) b c n held .number ≡ 0) × (settled-by (frameOf bins setup) b c n held .frame ≡ frameOf bins setup)
+    go : (b c : Bool) (n : ℕ) (held : Held) → let s = settled-by (frameOf bins setup) b c n held in
+        s .unsettled ≡ true → (s .number ≡ 0) × (s .frame ≡ frameOf bins setup)
     go true true n held h = (refl, refl)
     go true false n held h = absurd (false≢true h)
     go false c n held h = absurd (false≢true h)

@@ -1,6 +1,6 @@
--- What stands in the shelf's table behind the entries that an unpacked run writes: the rest as found, and all of it where
--- the family is plain. Assumes nothing.
-use Prim.Native.Nat.{ℕ, zero, suc, _+_, _≤_, _<_}
+-- What stands in the shelf's table behind the entries that an unpacked run writes: the rest as found, and all of it
+-- where the family is plain. Assumes nothing.
+use Prim.Native.Nat.{ℕ, zero, suc, _+_, _≤_}
 use mathlib.Core.Path.{_≡_, refl, sym, ap, _∙_}
 use mathlib.Core.Bool.{Bool, true, false}
 use mathlib.Core.List.{List, [], _∷_, _++_}
@@ -16,7 +16,7 @@ use Rattle.meaning.specs.Reply.{give, test, chain}
 use Rattle.meaning.specs.Rows.{most}
 use Rattle.helpers.specs.Shelves.{shelfTrialsOf, lastOf, shelfLogTableOf}
 use Rattle.helpers.specs.declared.shelves.Shelf.{Shelf}
-use Rattle.helpers.specs.declared.shelves.ShelfPart.the-variants.{Absent, Present}
+use Rattle.helpers.specs.declared.shelves.ShelfPart.the-variants.{Present}
 use Rattle.helpers.proofs.Tables.{table-length, last-few}
 use Rattle.models.specs.Masses.{entriesOf}
 use Rattle.models.specs.Params.{shelfPartOf, paramsOf}
@@ -57,7 +57,7 @@ entries-window s mean top room =
     fits h =
         let l : last ≤ top = last-few (shelfTrialsOf mean) top (ltb-false most top h) in
         let e : length (entriesOf (Present s) mean top) ≡ suc last =
-            unfold entriesOf in table-length (shelfTrialsOf mean) (s .alpha) (s .beta) (suc last) in
+        unfold entriesOf in table-length (shelfTrialsOf mean) (s .alpha) (s .beta) (suc last) in
         omega arith
 
     few : (a b c : Bool) (n : ℕ) (xs : List Float) → (a ≡ false → length xs ≤ top + 1)
@@ -77,8 +77,8 @@ entries-few : (window : Window) (peak : ℕ) (error : ErrorModel) (genome : Geno
 unfolding paramsOf
 entries-few window peak error genome list room = part-few genome _ _ _ _ (window .end) room
 
-pub entries-stand : (window : Window) (peak : ℕ) (error : ErrorModel) (genome : GenomeModel) (list : List Float) (room : ℕ)
-    (held now : List Float) → now ≡ over (unpackEntries window peak error genome list room) held
+pub entries-stand : (window : Window) (peak : ℕ) (error : ErrorModel) (genome : GenomeModel) (list : List Float)
+    (room : ℕ) (held now : List Float) → now ≡ over (unpackEntries window peak error genome list room) held
     → drop (tableDemand genome (window .end)) now ≡ drop (tableDemand genome (window .end)) held
 entries-stand window peak error genome list room held now e =
     ap (drop (tableDemand genome (window .end))) e

@@ -27,7 +27,7 @@ pub fold-field : {S A : Type 0} (g : S → A) (f : ℕ → S → S) (h : ℕ →
 fold-field {S} g f h n z e =
     fold-keeps f (λ (k : ℕ) (s : S). g s ≡ fold h 0 k (g z)) 0 n z zero-le
     (λ (k : ℕ) (s : S) (l : 0 ≤ k) (m : k < n) (p : g s ≡ fold h 0 k (g z)).
-        e k s ∙ ap (h k) p ∙ sym (ap (λ (j : ℕ). fold h 0 j (g z)) (sym (add-one k)) ∙ fold-more h 0 k (g z) l))
+    e k s ∙ ap (h k) p ∙ sym (ap (λ (j : ℕ). fold h 0 j (g z)) (sym (add-one k)) ∙ fold-more h 0 k (g z) l))
     (sym (fold-none h 0 0 (g z) zero-le))
 
 -- ---- one step, field by field: by whether the run converged
@@ -85,8 +85,8 @@ module _ (lent wanted : ℕ) (at : ℕ → Run) (n : ℕ) where
   pub survey-iterations : surveyOf lent wanted at n .iterations ≡ iterationsOf at n
   unfolding surveyOf iterationsOf
   survey-iterations =
-      fold-field (λ (s : Survey). s .iterations) step (λ (i total : ℕ). atMost top64 (total + at i .iterations)) n noSurvey
-      (λ (i : ℕ) (s : Survey). step-iterations lent wanted i (at i) s (at i .converged) refl)
+      fold-field (λ (s : Survey). s .iterations) step (λ (i total : ℕ). atMost top64 (total + at i .iterations)) n
+      noSurvey (λ (i : ℕ) (s : Survey). step-iterations lent wanted i (at i) s (at i .converged) refl)
       ∙ stopping top64 (λ (i : ℕ). at i .iterations) n
 
   pub survey-capped : surveyOf lent wanted at n .capped ≡ atMost top32 (cappedOf at n)

@@ -5,7 +5,7 @@ use mathlib.Core.Path.{_≡_, refl, sym, ap, _∙_}
 use mathlib.Core.Bool.{Bool, true, false, cond}
 use native.Mathlib.Numerals.{add-one}
 use native.Mathlib.Omega.{arith}
-use borrow.Author.Tests.{lt-ltb, le-ltb, ltb-true, ltb-false}
+use borrow.Author.Tests.{le-ltb, ltb-true, ltb-false}
 use lib.Dec.{ltb}
 use Rattle.meaning.specs.Fold.{fold}
 use Rattle.meaning.proofs.Folds.{fold-none, fold-more, fold-keeps}
@@ -45,10 +45,10 @@ stopping top term n =
     fold-keeps (λ (i total : ℕ). atMost top (total + term i))
     (λ (k total : ℕ). total ≡ atMost top (fold (λ (i sum : ℕ). sum + term i) 0 k 0)) 0 n 0 zero-le
     (λ (k total : ℕ) (l : 0 ≤ k) (m : k < n) (p : total ≡ atMost top (fold (λ (i sum : ℕ). sum + term i) 0 k 0)).
-        ap (λ (t : ℕ). atMost top (t + term k)) p
-        ∙ stops-once top (fold (λ (i sum : ℕ). sum + term i) 0 k 0) (term k)
-        ∙ ap (atMost top)
-        (sym
-        (ap (λ (j : ℕ). fold (λ (i sum : ℕ). sum + term i) 0 j 0) (sym (add-one k))
-        ∙ fold-more (λ (i sum : ℕ). sum + term i) 0 k 0 l)))
+    ap (λ (t : ℕ). atMost top (t + term k)) p
+    ∙ stops-once top (fold (λ (i sum : ℕ). sum + term i) 0 k 0) (term k)
+    ∙ ap (atMost top)
+    (sym
+    (ap (λ (j : ℕ). fold (λ (i sum : ℕ). sum + term i) 0 j 0) (sym (add-one k))
+    ∙ fold-more (λ (i sum : ℕ). sum + term i) 0 k 0 l)))
     (within top 0 zero-le ∙ ap (atMost top) (sym (fold-none (λ (i sum : ℕ). sum + term i) 0 0 0 zero-le)))

@@ -1,5 +1,5 @@
--- What one configuration came to, over a run table: document 01, "Attempts and selection", with the numbers that come back
--- instead. Definitions only. Assumes nothing.
+-- What one configuration came to, over a run table: document 01, "Attempts and selection", with the numbers that come
+-- back instead. Definitions only. Assumes nothing.
 use Prim.Native.Nat.{ℕ}
 use mathlib.Core.Bool.{Bool, true, false, cond}
 use mathlib.Core.List.{List, [], _∷_}
@@ -21,7 +21,6 @@ use Rattle.fitter.specs.Validation.{outsideLimit}
 use Rattle.fitter.specs.declared.attempts.FitAttempt.{FitAttempt}
 use Rattle.fitter.specs.declared.attempts.RejectionPart.the-variants.{Absent, Present}
 use Rattle.fitter.specs.declared.judging.Frame.{Frame}
-use Rattle.fitter.specs.declared.judging.Held.{Held}
 use Rattle.fitter.specs.declared.rejections.FitRejection.the-variants as reason
 use Rattle.fitter.specs.declared.runs.Run.{Run}
 use Rattle.fitter.specs.declared.settling.AttemptAnswer.{AttemptAnswer}
@@ -80,7 +79,8 @@ module _ (bins : List ℕ) (setup : Setup) (lists : List Float) (room : ℕ) (at
   candidateOf best =
       let judged = judgedOf bins (frameOf bins setup) lists room (best .run) in
       cond (best .run .converged)
-      (attemptOf (setup .error) (setup .genome) true (judged .fit) (judged .rejection) (iterationsOf at n) (cappedOf at n))
+      (attemptOf (setup .error) (setup .genome) true (judged .fit) (judged .rejection) (iterationsOf at n)
+      (cappedOf at n))
       (attemptOf (setup .error) (setup .genome) false emptyFit (Present reason.OptimisationFailed) (iterationsOf at n)
       (cappedOf at n))
 

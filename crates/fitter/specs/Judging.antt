@@ -1,7 +1,7 @@
--- A converged run as a fit, what the validator says of it, and which run is kept: document 01, "Attempts and selection".
--- Definitions only. Assumes nothing.
-use Prim.Native.Nat.{ℕ, zero, suc, _+_}
-use mathlib.Core.Bool.{Bool, true, false, cond, _&&_}
+-- A converged run as a fit, what the validator says of it, and which run is kept: document 01, "Attempts and
+-- selection". Definitions only. Assumes nothing.
+use Prim.Native.Nat.{ℕ, zero, suc}
+use mathlib.Core.Bool.{Bool, true, cond, _&&_}
 use mathlib.Core.List.{List, [], _∷_}
 use lib.Ieee.{Float, lt}
 use Rattle.meaning.specs.Fold.{fold}
@@ -9,7 +9,7 @@ use Rattle.models.specs.Refusals.{tableDemand}
 use Rattle.models.specs.Unpacking.{unpackAt}
 use Rattle.models.specs.declared.fit.SpectrumFit.{SpectrumFit}
 use Rattle.fitter.specs.Attempts.{unrejected}
-use Rattle.fitter.specs.Runs.{listAt, pointOf}
+use Rattle.fitter.specs.Runs.{listAt}
 use Rattle.fitter.specs.Surveys.{bestOf, leastOf}
 use Rattle.fitter.specs.Validation.{Judgement, valid, rejected, verdictOf}
 use Rattle.fitter.specs.declared.attempts.RejectionPart.{RejectionPart}
@@ -20,8 +20,6 @@ use Rattle.fitter.specs.declared.judging.Judged.{Judged}
 use Rattle.fitter.specs.declared.rejections.FitRejection.{FitRejection}
 use Rattle.fitter.specs.declared.rejections.FitRejection.the-variants as reason
 use Rattle.fitter.specs.declared.runs.Run.{Run}
-use Rattle.fitter.specs.declared.runs.RunPoint.{RunPoint}
-use Rattle.fitter.specs.declared.runs.RunPoint.the-variants.{Converged, Missing}
 use Rattle.fitter.specs.declared.surveys.Best.{Best}
 use Rattle.fitter.specs.declared.validation.Verdict.{Verdict}
 use Rattle.fitter.specs.declared.validation.Verdict.the-variants.{Valid, Rejected, Refused}

@@ -20,7 +20,7 @@ pub data Found (at : ℕ → Run) (p : Run → Bool) (n : ℕ) (best : Best) : T
   none : best ≡ noBest → ((j : ℕ) → j < n → p (at j) ≡ false) → Found at p n best
   one : Lowest at p n best → Found at p n best
 
--- the valid run of lowest cost, the earlier on ties; with none valid the converged one of lowest cost; or none converged
+-- the valid run of lowest cost, the earlier on ties; with none valid the converged one of lowest cost; or none
 pub data KeptRun (at : ℕ → Run) (valid : Run → Bool) (n : ℕ) (best : Best) : Type 0 where
   is-valid : Lowest at valid n best → KeptRun at valid n best
   is-rejected : ((j : ℕ) → j < n → valid (at j) ≡ false) → Lowest at (λ (run : Run). run .converged) n best

@@ -1,8 +1,8 @@
--- A run of the search: what document 01 asks of one, under "Attempts and selection" and in its table of numbers, and the
--- totals over a run table. A table is its runs by their positions, `at`, and their number. Definitions only. Assumes
--- nothing.
+-- A run of the search: what document 01 asks of one, under "Attempts and selection" and in its table of numbers, and
+-- the totals over a run table. A table is its runs by their positions, `at`, and their number. Definitions only.
+-- Assumes nothing.
 use Prim.Native.Nat.{ℕ, _+_}
-use mathlib.Core.Bool.{Bool, true, false, not, cond, _&&_, _||_}
+use mathlib.Core.Bool.{Bool, false, not, cond, _&&_, _||_}
 use mathlib.Core.List.{List, []}
 use lib.Dec.{ltb, eqb}
 use lib.ListN.{length, take, drop}

@@ -1,7 +1,7 @@
--- How an attempt comes to its answer, in two passes over the run table: what the code goes through, and what it is equal to
--- (`answered`, proofs/Attempted.antt). Definitions only. Assumes nothing.
+-- How an attempt comes to its answer, in two passes over the run table: what the code goes through. It is the attempt of
+-- specs/Attempting.antt (`answered`, proofs/Attempted.antt). Definitions only. Assumes nothing.
 use Prim.Native.Nat.{ℕ}
-use mathlib.Core.Bool.{Bool, true, false, not, cond}
+use mathlib.Core.Bool.{true, false, not, cond}
 use mathlib.Core.List.{List}
 use lib.Dec.{eqb}
 use lib.ListN.{length}
@@ -44,14 +44,16 @@ closedBy number frame = record { number = number; unsettled = false; frame = fra
 
 -- unsettled where it is rejected
 abbrev pub heldBy : Frame → Held → Settled
-heldBy frame held = record { number = 0; unsettled = not (unrejected (held .judged .rejection)); frame = frame; held = held }
+heldBy frame held =
+    record { number = 0; unsettled = not (unrejected (held .judged .rejection)); frame = frame; held = held }
 
 unfoldable pub settleOf : List ℕ → Setup → ℕ → Survey → List Float → ℕ → Settled
 settleOf bins setup runs survey lists room =
     let number = firstOf (surveyTests bins setup runs survey room) in
     let frame = frameOf bins setup in
     cond (eqb number 0)
-    (cond (survey .least .run .converged) (heldBy frame (heldOf bins frame lists room (survey .least))) (closedBy 0 frame))
+    (cond (survey .least .run .converged) (heldBy frame (heldOf bins frame lists room (survey .least)))
+    (closedBy 0 frame))
     (closedBy number noFrame)
 
 abbrev pub withHeld : Settled → Held → Settled

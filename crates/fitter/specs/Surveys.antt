@@ -1,7 +1,7 @@
 -- What is known of a run table before anything is unpacked, and the run of least cost among those with a property: "the
 -- lowest cost, the earlier on ties". Definitions only. Assumes nothing.
 use Prim.Native.Nat.{ℕ, _+_}
-use mathlib.Core.Bool.{Bool, true, false, not, cond, _&&_, _||_}
+use mathlib.Core.Bool.{Bool, true, false, cond, _||_}
 use lib.Ieee.{Float, lt}
 use Rattle.meaning.specs.Fold.{fold}
 use Rattle.fitter.specs.Runs.{noRun, pointOf, wrongPlace, badCost, atMost, top64, top32, one-if}

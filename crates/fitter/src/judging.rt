@@ -4,7 +4,7 @@
 ghost use mathlib.Core.Path.{_≡_};
 ghost use lib.ListN.{length, drop};
 ghost use Rattle.fitter.specs.Attempts.{unrejected};
-ghost use Rattle.fitter.specs.Judging.{rejectionSaid, tableFrom, judgedOf, heldOf, couldWin, retryStep};
+ghost use Rattle.fitter.specs.Judging.{rejectionSaid, tableFrom, judgedOf, couldWin, retryStep};
 use crate::attempts::RejectionPart;
 use crate::runs::Run;
 use crate::runs::RunPoint;
@@ -62,7 +62,13 @@ pub(crate) fn is_unrejected(rejection: RejectionPart) -> bool
 }
 
 // A run's list as a fit, judged. The shelf's table is written where there is a shelf.
-pub(crate) fn judge_run(bins: &[u32], frame: Frame, run: Run, lists: &[f64], table: &mut [f64]) -> Judged
+pub(crate) fn judge_run(
+    bins: &[u32],
+    frame: Frame,
+    run: Run,
+    lists: &[f64],
+    table: &mut [f64],
+) -> Judged
     ensures { λ r. ⌜ r ≡ judgedOf (now (bins .entry)) frame (now (lists .entry)) (length (now (table .entry))) run ⌝ }
     ensures { λ _. ⌜ drop (tableFrom frame) (now (table .exit)) ≡ drop (tableFrom frame) (now (table .entry)) ⌝ }
 {
@@ -129,10 +135,7 @@ pub(crate) fn retry_run(
         return held;
     }
     Held {
-        best: Best {
-            run: run,
-            position,
-        },
+        best: Best { run: run, position },
         judged: judged,
     }
 }

@@ -63,7 +63,13 @@ fn first_number(a: bool, n: u8, b: bool, m: u8) -> u8
 }
 
 // The first number of 1, 2, 4, 5, 6, 7, 9, 10 that applies to `runs` runs of that survey, and 0 for none.
-pub(crate) fn attempt_refusal(bins: &[u32], setup: Setup, runs: usize, survey: Survey, room: usize) -> u8
+pub(crate) fn attempt_refusal(
+    bins: &[u32],
+    setup: Setup,
+    runs: usize,
+    survey: Survey,
+    room: usize,
+) -> u8
     ensures { λ r. ⌜ r ≡ firstOf (surveyTests (now (bins .entry)) setup runs survey room) ⌝ }
 {
     let peak = setup.peak;

@@ -4,7 +4,7 @@
 // changed: a search for the least stands for the stable sort.
 ghost use mathlib.Core.Path.{_≡_};
 ghost use Rattle.fitter.specs.Runs.{atMost, top64, top32, one-if, noRun};
-ghost use Rattle.fitter.specs.Surveys.{noBest, noSurvey, beats, lesser, countOf, weighOf, surveyStep};
+ghost use Rattle.fitter.specs.Surveys.{noSurvey, beats, lesser, countOf, weighOf, surveyStep};
 ghost use Prim.Native.Nat.{_+_};
 ghost use mathlib.Core.Bool.{_||_};
 use crate::runs::Run;
@@ -111,10 +111,7 @@ fn lesser_of(best: Best, position: usize, run: Run, cost: f64) -> Best
     ensures { λ r. ⌜ r ≡ lesser cost position run best ⌝ }
 {
     if is_less(cost, best) {
-        return Best {
-            run: run,
-            position,
-        };
+        return Best { run: run, position };
     }
     best
 }

@@ -1,13 +1,12 @@
 -- `fitter::attempting::attempt_from_numbers` meets its contract. Assumes nothing.
 use Prim.Native.Nat.{ℕ}
-use mathlib.Core.Path.{_≡_, sym, ap, _∙_}
+use mathlib.Core.Path.{_≡_, ap, _∙_}
 use borrow.Author.Needs.{needs}
 use lib.ListN.{length}
 use Rattle.fitter.specs.Columns.{countOfRuns, runOf}
 use Rattle.fitter.specs.Judging.{retriedOf}
 use Rattle.fitter.specs.Settling.{withHeld, finishOf, surveyed, settled}
 use Rattle.fitter.specs.declared.runs.Run.{Run}
-use Rattle.fitter.specs.declared.settling.Settled.{Settled}
 use Rattle.fitter.proofs.Answered.{survey-is, settled-is, one-pass, two-passes, one-stands, two-stand}
 use Rattle.fitter.proofs.attempting.attempt_from_numbers.Statement.{statement}
 use Rattle.fitter.proofs.attempting.attempt_from_numbers.Tie as tie
@@ -49,18 +48,21 @@ module _ (t : tie.After-settle) where
   abbrev n : ℕ
   n =
       let a = start .args in
-      countOfRuns (a .converged .now) (a .costs .now) (a .places .now) (a .lengths .now) (a .iterations .now) (a .caps .now)
+      countOfRuns (a .converged .now) (a .costs .now) (a .places .now) (a .lengths .now) (a .iterations .now)
+      (a .caps .now)
 
   abbrev room : ℕ
   room = length (start .args .table .now)
 
-  surveyed-so : first .survey-columns .result ≡ surveyed (start .args .bins .now) (start .args .setup) (start .args .lists .now) room at n
+  surveyed-so : let a = start .args in
+      first .survey-columns .result ≡ surveyed (a .bins .now) (a .setup) (a .lists .now) room at n
   surveyed-so =
       let a = start .args in
       survey-is (a .bins .now) (a .setup) (a .lists .now) room at n _ _ (first .before .list-length .ensures)
       (first .survey-columns .ensures)
 
-  settled-so : t .settle .result ≡ settled (start .args .bins .now) (start .args .setup) (start .args .lists .now) room at n
+  settled-so : let a = start .args in
+      t .settle .result ≡ settled (a .bins .now) (a .setup) (a .lists .now) room at n
   settled-so =
       let a = start .args in
       settled-is (a .bins .now) (a .setup) (a .lists .now) room at n _ _ _ (first .before .before .run-count .ensures)
@@ -80,15 +82,16 @@ returns c =
     let t = u .before .before .before in
     let a = start t .args in
     let s = t .settle .result in
-    let held : r .retry-columns .result ≡ retriedOf (a .bins .now) (s .frame) (a .lists .now) (room t) (at t) (n t) (s .held) =
-        r .retry-columns .ensures .0
-        ∙ ap (λ (m : ℕ). retriedOf (a .bins .now) (s .frame) (a .lists .now) m (at t) (n t) (s .held))
-        (t .settle .kept .1 .1 .1 .1 .1 .0) in
+    let held : r .retry-columns .result
+    ≡ retriedOf (a .bins .now) (s .frame) (a .lists .now) (room t) (at t) (n t) (s .held) =
+    r .retry-columns .ensures .0
+    ∙ ap (λ (m : ℕ). retriedOf (a .bins .now) (s .frame) (a .lists .now) m (at t) (n t) (s .held))
+    (t .settle .kept .1 .1 .1 .1 .1 .0) in
     let done : c .finish .result ≡ finishOf (first t .survey-columns .result) (withHeld s (r .retry-columns .result)) =
-        c .finish .ensures ∙ ap (finishOf (first t .survey-columns .result)) (w .with-held .ensures) in (
+    c .finish .ensures ∙ ap (finishOf (first t .survey-columns .result)) (w .with-held .ensures) in (
       done
-          ∙ two-passes (a .bins .now) (a .setup) (a .lists .now) (room t) (at t) (n t) _ _ (surveyed-so t) (settled-so t) _
-          (u .if1 .taken) held,
+          ∙ two-passes (a .bins .now) (a .setup) (a .lists .now) (room t) (at t) (n t) _ _ (surveyed-so t) (settled-so t)
+          _ (u .if1 .taken) held,
       two-stand (a .bins .now) (a .setup) (a .lists .now) (room t) (at t) (n t) _ _ (surveyed-so t) (settled-so t) _ _
           (t .settle .ensures .1) _ _ _ done (u .if1 .taken) (r .retry-columns .ensures .1),
     )

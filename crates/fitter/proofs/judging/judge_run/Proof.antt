@@ -32,7 +32,8 @@ returns c =
     let f = a .frame in (
       judged-is (a .bins .now) f (a .lists .now) _ (a .run) _ _ (judged .judge .result) _ (listed .list-at .ensures)
           (unpacked .unpack-at .ensures .0) (judged .judge .ensures) (c .rejection-of .ensures),
-      entries-stand (f .window) (f .peak) (f .error) (f .genome) _ _ (a .table .now) _ (unpacked .unpack-at .ensures .1),
+      entries-stand (f .window) (f .peak) (f .error) (f .genome) _ _ (a .table .now) _
+          (unpacked .unpack-at .ensures .1),
     )
 
 pub judge-run-spec : {M : Type 1} → statement M

@@ -6,7 +6,6 @@ use lib.ListN.{length}
 use Rattle.fitter.specs.Attempts.{unrejected}
 use Rattle.fitter.specs.Judging.{judgedOf}
 use Rattle.fitter.specs.Surveys.{bestOf}
-use Rattle.fitter.specs.declared.judging.Held.{Held}
 use Rattle.fitter.specs.declared.judging.Judged.{Judged}
 use Rattle.fitter.proofs.Judgements.{passed-by, looked-at, from-not, from-not-not}
 use Rattle.fitter.proofs.judging.retry_run.Statement.{statement}
@@ -43,8 +42,8 @@ returns-2 c =
     let g = k .point .given in
     let p = k .before .before in
     let a = start p .args in (
-      looked-at (a .bins .now) (a .frame) (a .lists .now) _ (a .position) (a .run) (a .held) (g .0 .0) (g .0 .1 .0) false _
-          (sym (g .1) ∙ p .run-point .ensures) (sym (w .could-win .ensures) ∙ from-not (c .if1 .taken)) refl,
+      looked-at (a .bins .now) (a .frame) (a .lists .now) _ (a .position) (a .run) (a .held) (g .0 .0) (g .0 .1 .0)
+          false _ (sym (g .1) ∙ p .run-point .ensures) (sym (w .could-win .ensures) ∙ from-not (c .if1 .taken)) refl,
       refl,
     )
 
@@ -75,7 +74,8 @@ module _ (u : tie.After-is-unrejected) where
       → unrejected (judgedOf (from .args .bins .now) (from .args .frame) (from .args .lists .now)
       (length (from .args .table .now)) (from .args .run) .rejection) ≡ b
   verdict b e =
-      sym (ap (λ (j : Judged). unrejected (j .rejection)) (judged .judge-run .ensures .0)) ∙ sym (u .is-unrejected .ensures) ∙ e
+      sym (ap (λ (j : Judged). unrejected (j .rejection)) (judged .judge-run .ensures .0))
+      ∙ sym (u .is-unrejected .ensures) ∙ e
 
 returns-3 : tie.Need-returns-3
 returns-3 c =
@@ -83,8 +83,8 @@ returns-3 c =
     let g = point u .point .given in
     let p = point u .before .before in
     let a = from u .args in (
-      looked-at (a .bins .now) (a .frame) (a .lists .now) _ (a .position) (a .run) (a .held) (g .0 .0) (g .0 .1 .0) true false
-          (sym (g .1) ∙ p .run-point .ensures)
+      looked-at (a .bins .now) (a .frame) (a .lists .now) _ (a .position) (a .run) (a .held) (g .0 .0) (g .0 .1 .0)
+          true false (sym (g .1) ∙ p .run-point .ensures)
           (sym (win u .could-win .ensures) ∙ from-not-not (judged u .before .before .if1 .left))
           (verdict u false (from-not (c .if2 .taken))),
       judged u .judge-run .ensures .1,
@@ -100,8 +100,8 @@ returns-4 c =
     let p = point u .before .before in
     let a = from u .args in (
       ap (λ (j : Judged). record { best = bestOf (a .position) (a .run); judged = j }) (judged u .judge-run .ensures .0)
-          ∙ looked-at (a .bins .now) (a .frame) (a .lists .now) _ (a .position) (a .run) (a .held) (g .0 .0) (g .0 .1 .0) true
-          true (sym (g .1) ∙ p .run-point .ensures)
+          ∙ looked-at (a .bins .now) (a .frame) (a .lists .now) _ (a .position) (a .run) (a .held) (g .0 .0) (g .0 .1 .0)
+          true true (sym (g .1) ∙ p .run-point .ensures)
           (sym (win u .could-win .ensures) ∙ from-not-not (judged u .before .before .if1 .left))
           (verdict u true (from-not-not (c .if2 .left))),
       judged u .judge-run .ensures .1,

@@ -1,11 +1,11 @@
 -- `fitter::run_columns::retry_columns` meets its contract. Assumes nothing.
-use Prim.Native.Nat.{ℕ, _+_, _-_, _<_, zero-le}
-use mathlib.Core.Path.{_≡_, refl, sym, ap, _∙_, subst}
+use Prim.Native.Nat.{ℕ, _-_, _<_, zero-le}
+use mathlib.Core.Path.{_≡_, refl, ap, _∙_, subst}
 use native.Mathlib.Omega.{arith}
 use borrow.Author.Needs.{needs}
 use lib.ListN.{length, drop}
 use Rattle.meaning.proofs.Loops.{Folded, begins, goes-on, ends}
-use Rattle.fitter.specs.Columns.{countOfRuns, runOf}
+use Rattle.fitter.specs.Columns.{runOf}
 use Rattle.fitter.specs.Judging.{tableFrom, retryStep, retriedOf}
 use Rattle.fitter.specs.declared.judging.Held.{Held}
 use Rattle.fitter.specs.declared.runs.Run.{Run}
@@ -15,7 +15,8 @@ use Rattle.fitter.proofs.run_columns.retry_columns.Tie as tie
 abbrev Inv-loop : tie.InvT-loop
 Inv-loop converged costs places lengths iterations caps bins frame lists table₀ n kept₀ i₀ table kept i =
     Folded
-    (λ (j : ℕ) (h : Held). retryStep bins frame lists (length table₀) j (runOf converged costs places lengths iterations caps j) h)
+    (λ (j : ℕ) (h : Held).
+    retryStep bins frame lists (length table₀) j (runOf converged costs places lengths iterations caps j) h)
     kept₀ 0 n kept i
     × (length table ≡ length table₀)
     × (drop (tableFrom frame) table ≡ drop (tableFrom frame) table₀)
@@ -48,18 +49,25 @@ module _ (r : tie.After-retry-run Inv-loop μ-loop) where
   start = loop .before .before .before .before .before .before .before .before .before .before .before
 
   abbrev ran : Run
-  ran = let a = start .args in runOf (a .converged .now) (a .costs .now) (a .places .now) (a .lengths .now) (a .iterations .now) (a .caps .now) (loop .loop .i)
+  ran =
+      let a = start .args in
+      runOf (a .converged .now) (a .costs .now) (a .places .now) (a .lengths .now) (a .iterations .now) (a .caps .now)
+      (loop .loop .i)
 
   -- the room is that of the beginning
-  next : r .retry-run .result
-      ≡ retryStep (start .args .bins .now) (start .args .frame) (start .args .lists .now) (length (start .args .table .now))
-      (loop .loop .i) ran (loop .loop .kept)
+  next : let a = start .args in
+      r .retry-run .result
+      ≡ retryStep (a .bins .now) (a .frame) (a .lists .now) (length (a .table .now)) (loop .loop .i) ran
+      (loop .loop .kept)
   next =
       let a = start .args in
       r .retry-run .ensures .0
-      ∙ ap (λ (m : ℕ). retryStep (a .bins .now) (a .frame) (a .lists .now) m (loop .loop .i) (r .before .before .run-at .result) (loop .loop .kept))
+      ∙ ap (λ (m : ℕ).
+      retryStep (a .bins .now) (a .frame) (a .lists .now) m (loop .loop .i) (r .before .before .run-at .result)
+      (loop .loop .kept))
       (loop .loop .inv .1)
-      ∙ ap (λ (x : Run). retryStep (a .bins .now) (a .frame) (a .lists .now) (length (a .table .now)) (loop .loop .i) x (loop .loop .kept))
+      ∙ ap (λ (x : Run).
+      retryStep (a .bins .now) (a .frame) (a .lists .now) (length (a .table .now)) (loop .loop .i) x (loop .loop .kept))
       (r .before .before .run-at .ensures)
 
 add-i : tie.Need-add-i Inv-loop μ-loop
@@ -87,7 +95,8 @@ unfolding retriedOf
 returns c =
     let l = c .before in
     let a = l .before .before .before .before .before .before .before .before .before .before .before .args in
-    let at = runOf (a .converged .now) (a .costs .now) (a .places .now) (a .lengths .now) (a .iterations .now) (a .caps .now) in (
+    let at =
+    runOf (a .converged .now) (a .costs .now) (a .places .now) (a .lengths .now) (a .iterations .now) (a .caps .now) in (
       ends _ _ _ _ (l .loop .inv .0) (c .loop-test .left)
           ∙ ap (λ (m : ℕ). retriedOf (a .bins .now) (a .frame) (a .lists .now) (length (a .table .now)) at m (a .held))
           (l .before .run-count .ensures),

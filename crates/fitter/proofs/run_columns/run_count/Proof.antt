@@ -26,7 +26,13 @@ returns c =
     let four = six .before in
     let cd = four .before in
     let ab = cd .before in
-    rw (c .shorter-of5 .ensures, six .shorter-of4 .ensures, four .shorter-of3 .ensures, cd .shorter-of2 .ensures, ab .shorter-of .ensures)
+    rw (
+      c .shorter-of5 .ensures,
+      six .shorter-of4 .ensures,
+      four .shorter-of3 .ensures,
+      cd .shorter-of2 .ensures,
+      ab .shorter-of .ensures,
+    )
 
 pub run-count-spec : {M : Type 1} → statement M
 run-count-spec =

@@ -4,7 +4,7 @@ use mathlib.Core.Path.{_≡_, sym, ap, _∙_, subst}
 use native.Mathlib.Omega.{arith}
 use borrow.Author.Needs.{needs}
 use Rattle.meaning.proofs.Loops.{Folded, begins, goes-on, ends}
-use Rattle.fitter.specs.Columns.{countOfRuns, runOf}
+use Rattle.fitter.specs.Columns.{runOf}
 use Rattle.fitter.specs.Runs.{pointOf}
 use Rattle.fitter.specs.Surveys.{noSurvey, afterPoint, countOf, weighOf, surveyStep, surveyOf}
 use Rattle.fitter.specs.declared.runs.Run.{Run}
@@ -62,7 +62,10 @@ module _ (p : tie.After-run-point Inv-loop μ-loop) where
   start = loop .before .before .before .before .before .before .before .before .before
 
   abbrev ran : Run
-  ran = let a = start .args in runOf (a .converged .now) (a .costs .now) (a .places .now) (a .lengths .now) (a .iterations .now) (a .caps .now) (loop .loop .i)
+  ran =
+      let a = start .args in
+      runOf (a .converged .now) (a .costs .now) (a .places .now) (a .lengths .now) (a .iterations .now) (a .caps .now)
+      (loop .loop .i)
 
   run-is : p .before .before .run-at .result ≡ ran
   run-is = p .before .before .run-at .ensures
@@ -111,7 +114,8 @@ loop-again-2 c =
     let i = loop p .loop .i in
     goes-on _ _ _ _ (loop p .loop .inv) _ (turn p .loop-test .taken)
     (c .weigh-run .ensures
-    ∙ ap (λ (r : Run). weighOf (a .lent) (a .wanted) i r (g .0 .0) (g .0 .1 .0) (p .before .count-run .result)) (run-is p)
+    ∙ ap (λ (r : Run). weighOf (a .lent) (a .wanted) i r (g .0 .0) (g .0 .1 .0) (p .before .count-run .result))
+    (run-is p)
     ∙ ap (λ (s : Survey). weighOf (a .lent) (a .wanted) i (ran p) (g .0 .0) (g .0 .1 .0) s) (counted p)
     ∙ point-is p (RunPoint.Converged (g .0 .0) (g .0 .1 .0)) (g .1))
 
@@ -122,7 +126,10 @@ returns c =
     let n = l .before .before .run-count in
     let a = l .before .before .before .before .before .before .before .before .before .args in
     ends _ _ _ _ (l .loop .inv) (c .loop-test .left)
-    ∙ ap (surveyOf (a .lent) (a .wanted) (runOf (a .converged .now) (a .costs .now) (a .places .now) (a .lengths .now) (a .iterations .now) (a .caps .now))) (n .ensures)
+    ∙ ap
+    (surveyOf (a .lent) (a .wanted)
+    (runOf (a .converged .now) (a .costs .now) (a .places .now) (a .lengths .now) (a .iterations .now) (a .caps .now)))
+    (n .ensures)
 
 pub survey-columns-spec : {M : Type 1} → statement M
 survey-columns-spec =

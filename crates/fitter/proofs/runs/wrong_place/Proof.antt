@@ -1,6 +1,6 @@
 -- `fitter::runs::wrong_place` meets its contract. Assumes nothing.
 use Prim.Native.Nat.{ℕ, _+_, _-_, _≤_, _<_}
-use mathlib.Core.Path.{_≡_, refl, sym, ap, _∙_}
+use mathlib.Core.Path.{_≡_, refl, sym}
 use mathlib.Core.Bool.{Bool, true, false, not, _||_}
 use native.Mathlib.Omega.{arith}
 use borrow.Author.Tests.{eq-eqb, ne-eqb, lt-ltb, le-ltb, ltb-true, ltb-false}
@@ -23,8 +23,12 @@ module _ (place n lent wanted : ℕ) where
   outside h = rw (lt-ltb lent (place + n) h) (either-true (not (eqb n wanted)))
 
   moved : (b : Bool) → n ≤ lent → ltb (lent - n) place ≡ b → b ≡ ltb lent (place + n)
-  moved true h e = let l : lent - n < place = ltb-true (lent - n) place e in sym (lt-ltb lent (place + n) (omega arith))
-  moved false h e = let l : place ≤ lent - n = ltb-false (lent - n) place e in sym (le-ltb lent (place + n) (omega arith))
+  moved true h e =
+      let l : lent - n < place = ltb-true (lent - n) place e in
+      sym (lt-ltb lent (place + n) (omega arith))
+  moved false h e =
+      let l : place ≤ lent - n = ltb-false (lent - n) place e in
+      sym (le-ltb lent (place + n) (omega arith))
 
   by-place : n ≡ wanted → n ≤ lent → ltb (lent - n) place ≡ wrongPlace place n lent wanted
   unfolding wrongPlace

@@ -1,5 +1,5 @@
--- `fitter::settling::attempt_refusal` meets its contract: a row that has no number is passed over, once for all behind it.
--- Assumes nothing.
+-- `fitter::settling::attempt_refusal` meets its contract: a row that has no number is passed over, once for all behind
+-- it. Assumes nothing.
 use Prim.Native.Nat.{ℕ, _<_}
 use mathlib.Core.Path.{_≡_, refl, sym, _∙_}
 use mathlib.Core.List.{List, [], _∷_}
@@ -63,7 +63,8 @@ returns c =
     let s = c .before .before in
     let which : Some (λ (n : ℕ). n < 2) (lows s) =
     ⊎-elim (λ t. inl (t .taken))
-    (⊎-elim (λ t. inr (inl (ltb-true _ _ (t .1 .taken)))) (λ t. inr (inr (inl (ltb-true _ _ (t .2 .taken)))))) (c .if1 .came) in
+    (⊎-elim (λ t. inr (inl (ltb-true _ _ (t .1 .taken)))) (λ t. inr (inr (inl (ltb-true _ _ (t .2 .taken))))))
+    (c .if1 .came) in
     stops (few (lows s)) (inOrder (many (highs s) ∷ after-high s)) 1 (few-found (lows s) which) (omega arith)
 
 past-low : (c : tie.Else3) → Number (start-low c) (many (highs (start-low c)) ∷ after-high (start-low c))
@@ -85,7 +86,8 @@ returns-2 c =
     (⊎-elim (λ t. inr (inr (inr (inl (ltb-true _ _ (t .3 .taken))))))
     (λ t. inr (inr (inr (inr (inl (ltb-true _ _ (t .4 .taken))))))))))
     (c .if4 .came) in
-    past-low (c .before) 2 (stops (many (highs s)) (inOrder (after-high s)) 2 (many-found (highs s) which) (omega arith))
+    past-low (c .before) 2
+    (stops (many (highs s)) (inOrder (after-high s)) 2 (many-found (highs s) which) (omega arith))
 
 abbrev low : tie.Else8 → tie.Else3
 low c = c .before .before .before .before .before
@@ -96,8 +98,16 @@ past-high c n h =
     let e7 = c .before in
     let e6 = e7 .before in
     let e5 = e6 .before in
-    let none = many-clear (highs s)
-    (e5 .before .if4 .left, (ltb-false _ _ (e5 .if5 .left), (ltb-false _ _ (e6 .if6 .left), (ltb-false _ _ (e7 .if7 .left), (ltb-false _ _ (c .if8 .left), tt))))) in
+    let none = many-clear (highs s) (
+      e5 .before .if4 .left,
+      (
+        ltb-false _ _ (e5 .if5 .left),
+        (
+          ltb-false _ _ (e6 .if6 .left),
+          (ltb-false _ _ (e7 .if7 .left), (ltb-false _ _ (c .if8 .left), tt)),
+        ),
+      ),
+    ) in
     past-low (low c) n (goes-on (many (highs s)) (inOrder (after-high s)) refl none n h)
 
 -- ---- 4, 5 and 6
@@ -131,7 +141,8 @@ returns-4 c =
     past-spectrum (c .before .before) _
     (stops (runs s) (inOrder (after-bad s)) _ (c .before .first-number .ensures) (omega (arith, c .if10 .taken)))
 
-past-runs : (c : tie.Else10) → Number (start-spectrum (c .before .before)) (after-bad (start-spectrum (c .before .before)))
+past-runs : (c : tie.Else10)
+    → Number (start-spectrum (c .before .before)) (after-bad (start-spectrum (c .before .before)))
 past-runs c n h =
     let s = start-spectrum (c .before .before) in
     let none = sym (c .if10 .left) ∙ c .before .first-number .ensures in
@@ -151,7 +162,8 @@ table-refusal-requires c κs = search needs
 returns-6 : tie.Need-returns-6
 returns-6 c =
     let e = c .before in
-    past-runs (e .before .before) _ (rw (sym (e .before .bad-limit .ensures) ∙ e .if11 .left) (c .table-refusal .ensures))
+    past-runs (e .before .before) _
+    (rw (sym (e .before .bad-limit .ensures) ∙ e .if11 .left) (c .table-refusal .ensures))
 
 pub attempt-refusal-spec : {M : Type 1} → statement M
 attempt-refusal-spec =

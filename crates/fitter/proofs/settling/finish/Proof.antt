@@ -4,9 +4,6 @@ use Rattle.fitter.proofs.Settlement.{finished-refused, finished-kept, f
 use borrow.Author.Needs.{needs}
 use Rattle.fitter.proofs.settling.finish.Statement.{statement}
 use Rattle.fitter.proofs.settling.finish.Tie as tie
-use Rattle.fitter.proofs.settling.failed.Reads as failed-reads
-use Rattle.fitter.proofs.settling.kept.Reads as kept-reads
-use Rattle.fitter.proofs.settling.refused.Reads as refused-reads
 
 refused-requires : tie.Need-refused-requires
 refused-requires c κs = search needs

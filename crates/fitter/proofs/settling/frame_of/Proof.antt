@@ -4,7 +4,6 @@ use Rattle.fitter.specs.Attempting.{frameOf}
 use borrow.Author.Needs.{needs}
 use Rattle.fitter.proofs.settling.frame_of.Statement.{statement}
 use Rattle.fitter.proofs.settling.frame_of.Tie as tie
-use Rattle.models.proofs.spectra.window_of.Reads as window-of-reads
 
 cast-window-of : tie.Need-cast-window-of
 cast-window-of c = omega (arith, c .before .before .pre .0)

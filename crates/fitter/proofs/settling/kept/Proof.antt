@@ -2,7 +2,6 @@
 use borrow.Author.Needs.{needs}
 use Rattle.fitter.proofs.settling.kept.Statement.{statement}
 use Rattle.fitter.proofs.settling.kept.Tie as tie
-use Rattle.fitter.proofs.attempts.make_attempt.Reads as make-attempt-reads
 
 make-attempt-requires : tie.Need-make-attempt-requires
 make-attempt-requires c κs = search needs

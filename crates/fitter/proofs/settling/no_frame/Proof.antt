@@ -1,6 +1,5 @@
 -- `fitter::settling::no_frame` meets its contract. Assumes nothing.
 use mathlib.Core.Path.{refl}
-use lib.Ieee.{ofBits}
 use Rattle.fitter.specs.Settling.{noFrame}
 use Rattle.fitter.proofs.settling.no_frame.Statement.{statement}
 use Rattle.fitter.proofs.settling.no_frame.Tie as tie

@@ -3,8 +3,6 @@ use Rattle.fitter.specs.Settling.{noHeld}
 use borrow.Author.Needs.{needs}
 use Rattle.fitter.proofs.settling.no_held.Statement.{statement}
 use Rattle.fitter.proofs.settling.no_held.Tie as tie
-use Rattle.fitter.proofs.surveys.no_run.Reads as no-run-reads
-use Rattle.models.proofs.unpacking.empty_fit.Reads as empty-fit-reads
 
 no-run-requires : tie.Need-no-run-requires
 no-run-requires c κs = search needs

@@ -26,8 +26,8 @@ returns c =
     let r = t .before in
     let a = start r .args in (
       rw (f .no-frame .ensures, c .no-held .ensures)
-          (settled-refused (a .bins .now) (a .setup) (a .runs) (a .survey) (a .lists .now) _ _ (r .attempt-refusal .ensures)
-          (t .if1 .taken)),
+          (settled-refused (a .bins .now) (a .setup) (a .runs) (a .survey) (a .lists .now) _ _
+          (r .attempt-refusal .ensures) (t .if1 .taken)),
       refl,
     )
 
@@ -50,8 +50,8 @@ returns-2 c =
     let r = e .before in
     let a = start r .args in (
       rw (f .frame-of .ensures, c .no-held2 .ensures)
-          (settled-none (a .bins .now) (a .setup) (a .runs) (a .survey) (a .lists .now) _ _ (r .attempt-refusal .ensures)
-          (e .if1 .left) (from-not (t .if2 .taken))),
+          (settled-none (a .bins .now) (a .setup) (a .runs) (a .survey) (a .lists .now) _ _
+          (r .attempt-refusal .ensures) (e .if1 .left) (from-not (t .if2 .taken))),
       refl,
     )
 
@@ -73,8 +73,8 @@ returns-3 c =
     let r = e .before in
     let a = start r .args in (
       rw (c .is-unrejected .ensures, j .judge-run .ensures .0, f .frame-of .ensures)
-          (settled-some (a .bins .now) (a .setup) (a .runs) (a .survey) (a .lists .now) _ _ (r .attempt-refusal .ensures)
-          (e .if1 .left) (from-not-not (t .if2 .left))),
+          (settled-some (a .bins .now) (a .setup) (a .runs) (a .survey) (a .lists .now) _ _
+          (r .attempt-refusal .ensures) (e .if1 .left) (from-not-not (t .if2 .left))),
       stands (a .bins .now) (a .setup) _ (a .table .now) _ (f .frame-of .ensures) (j .judge-run .ensures .1),
     )
 

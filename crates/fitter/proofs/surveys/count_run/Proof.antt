@@ -2,8 +2,6 @@
 use borrow.Author.Needs.{needs}
 use Rattle.fitter.proofs.surveys.count_run.Statement.{statement}
 use Rattle.fitter.proofs.surveys.count_run.Tie as tie
-use Rattle.fitter.proofs.surveys.add_capped.Reads as add-capped-reads
-use Rattle.fitter.proofs.surveys.add_iterations.Reads as add-iterations-reads
 
 add-iterations-requires : tie.Need-add-iterations-requires
 add-iterations-requires c κs = search needs

@@ -4,7 +4,6 @@ use Rattle.fitter.specs.Surveys.{lesser}
 use borrow.Author.Needs.{needs}
 use Rattle.fitter.proofs.surveys.lesser_of.Statement.{statement}
 use Rattle.fitter.proofs.surveys.lesser_of.Tie as tie
-use Rattle.fitter.proofs.surveys.is_less.Reads as is-less-reads
 
 is-less-requires : tie.Need-is-less-requires
 is-less-requires c κs = search needs

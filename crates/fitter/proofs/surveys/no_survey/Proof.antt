@@ -2,7 +2,6 @@
 use borrow.Author.Needs.{needs}
 use Rattle.fitter.proofs.surveys.no_survey.Statement.{statement}
 use Rattle.fitter.proofs.surveys.no_survey.Tie as tie
-use Rattle.fitter.proofs.surveys.no_run.Reads as no-run-reads
 
 no-run-requires : tie.Need-no-run-requires
 no-run-requires c κs = search needs

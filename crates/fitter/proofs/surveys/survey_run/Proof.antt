@@ -1,5 +1,5 @@
 -- `fitter::surveys::survey_run` meets its contract. Assumes nothing.
-use mathlib.Core.Path.{_≡_, sym, ap, _∙_}
+use mathlib.Core.Path.{sym, ap, _∙_}
 use Rattle.fitter.specs.Surveys.{weighOf}
 use Rattle.fitter.specs.declared.runs.RunPoint.the-variants as RunPoint
 use Rattle.fitter.specs.declared.surveys.Survey.{Survey}
@@ -38,7 +38,8 @@ returns-2 c =
     let p = k .before .before in
     let a = p .before .before .args in
     c .weigh-run .ensures
-    ∙ ap (λ (s : Survey). weighOf (a .lent) (a .wanted) (a .position) (a .run) (g .0 .0) (g .0 .1 .0) s) (p .before .count-run .ensures)
+    ∙ ap (λ (s : Survey). weighOf (a .lent) (a .wanted) (a .position) (a .run) (g .0 .0) (g .0 .1 .0) s)
+    (p .before .count-run .ensures)
     ∙ point-step (a .lent) (a .wanted) (a .position) (a .run) (a .s) (RunPoint.Converged (g .0 .0) (g .0 .1 .0))
     (sym (g .1) ∙ p .run-point .ensures)
 

@@ -23,7 +23,13 @@ returns c =
     let e = c .before in
     let l = e .before in
     let b = l .before in
-    rw (c .either2 .ensures, e .either .ensures, l .lesser-of .ensures, b .bad-cost .ensures, b .before .wrong-place .ensures)
+    rw (
+      c .either2 .ensures,
+      e .either .ensures,
+      l .lesser-of .ensures,
+      b .bad-cost .ensures,
+      b .before .wrong-place .ensures,
+    )
 
 pub weigh-run-spec : {M : Type 1} → statement M
 weigh-run-spec =
