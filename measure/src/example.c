@@ -165,5 +165,6 @@ int main(int count, char **words) {
     show(&chosen.fit);
     show_cutoff(&chosen.fit, 100.0);
     show_cutoff(&chosen.fit, 1000.0);
+    printf("crossover           %u, error floor %u\n", fog_crossover(chosen.fit).cutoff, fog_error_floor_cutoff(chosen.fit).cutoff);
     return 0;
 }
