@@ -182,6 +182,12 @@ typedef struct {
     uint32_t capped_starts;
 } fog_attempt;
 
+/* Number 0 and the attempt; or a number, and an attempt with every field 0. */
+typedef struct {
+    uint8_t number;
+    fog_attempt attempt;
+} fog_attempt_answer;
+
 /* found 1 and the fit, or found 0 and a fit with every field 0. */
 typedef struct {
     uint8_t found;
@@ -427,6 +433,24 @@ fog_written fog_fit_starts_lent(uint8_t error, uint8_t genome, const double *par
  * Refusals 1, 2, 5 and 9; the window end is the fit's.
  */
 fog_verdict fog_validate_fit(fog_fit fit, size_t valley, size_t peak, double mass_limit);
+
+/*
+ * What one pair of families came to, over a run table of six arrays, one entry for each run; it has as many runs as the shortest of them.
+ * The parameter list of run i is the lengths[i] numbers of lists from places[i] on. A run that did not converge counts for its iterations
+ * and its cap alone. Of the others the valid one of lowest cost is the candidate, the earlier on ties; with none valid, the one of lowest
+ * cost with the reason of its rejection; with no run converged there is none, and the reason is 0. Iterations are added up and stop at
+ * 2^64 - 1.
+ *
+ * Refusals 1, 2 (also more than 65,535 runs), 4, 5, 6, 7 (a converged run's list has the wrong length or does not lie in lists), 9 (a
+ * converged run's cost is not finite or not above 0; the mass limit) and 10. A refusal leaves the table as it is, and so does a plain
+ * genome family. With a shelf its first window_end + 1 entries hold anything afterwards.
+ */
+fog_attempt_answer fog_attempt_from_numbers(const uint32_t *bins, size_t bins_length, double scale, size_t window_end, size_t valley,
+                                            size_t peak, uint8_t error, uint8_t genome, double mass_limit, const bool *converged,
+                                            size_t converged_length, const double *costs, size_t costs_length, const size_t *places,
+                                            size_t places_length, const size_t *lengths, size_t lengths_length,
+                                            const uint64_t *iterations, size_t iterations_length, const bool *caps, size_t caps_length,
+                                            const double *lists, size_t lists_length, double *table, size_t table_length);
 
 /* Whether there is a candidate and no rejection. */
 bool fog_is_valid(fog_attempt attempt);

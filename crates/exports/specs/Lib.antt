@@ -3,3 +3,4 @@ pub mod FlatFits
 pub mod FlatCutoffs
 pub mod FlatFile
 pub mod FlatAttempts
+pub mod FlatTables

@@ -10,6 +10,7 @@ pub mod fits;
 pub mod four;
 pub mod masses;
 pub mod readers;
+pub mod run_tables;
 pub mod shelf;
 pub mod spectra;
 pub mod starts;

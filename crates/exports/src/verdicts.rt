@@ -15,7 +15,7 @@ pub struct FlatVerdict {
     pub reason: u8,
 }
 
-fn reason_number(why: FitRejection) -> u8
+pub(crate) fn reason_number(why: FitRejection) -> u8
     ensures { λ r. ⌜ r ≡ reasonNumber why ⌝ }
 {
     match why {

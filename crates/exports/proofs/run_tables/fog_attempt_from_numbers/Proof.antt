@@ -1,0 +1,54 @@
+-- `exports::run_tables::fog_attempt_from_numbers` meets its contract. Assumes nothing.
+use Prim.Native.Nat.{ℕ}
+use mathlib.Core.Path.{_≡_, sym, ap, subst}
+use mathlib.Core.List.{List}
+use lib.ListN.{drop}
+use lib.Ieee.{Float}
+use Rattle.fitter.specs.Attempting.{standsFrom}
+use Rattle.fitter.specs.declared.settling.Setup.{Setup}
+use Rattle.exports.specs.FlatTables.{sayAttempt}
+use Rattle.exports.specs.declared.run_tables.FlatAttemptAnswer.{FlatAttemptAnswer}
+use borrow.Author.Needs.{needs}
+use Rattle.exports.proofs.run_tables.fog_attempt_from_numbers.Statement.{statement}
+use Rattle.exports.proofs.run_tables.fog_attempt_from_numbers.Tie as tie
+
+setup-of-requires : tie.Need-setup-of-requires
+setup-of-requires c κs = search needs
+
+attempt-from-numbers-requires : tie.Need-attempt-from-numbers-requires
+attempt-from-numbers-requires c κs = search needs
+
+flat-attempt-answer-requires : tie.Need-flat-attempt-answer-requires
+flat-attempt-answer-requires c κs = search needs
+
+same-length : tie.Need-same-length
+same-length c = search needs
+
+-- what stands in the table, by the setup and the number that C sees
+stands : (s t : Setup) (k m : ℕ) (before after : List Float) → s ≡ t → m ≡ k
+    → drop (standsFrom s k) after ≡ drop (standsFrom s k) before
+    → drop (standsFrom t m) after ≡ drop (standsFrom t m) before
+stands s t k m before after e f h =
+    subst (λ (u : Setup). drop (standsFrom u m) after ≡ drop (standsFrom u m) before) e
+    (subst (λ (n : ℕ). drop (standsFrom s n) after ≡ drop (standsFrom s n) before) (sym f) h)
+
+returns : tie.Need-returns
+unfolding sayAttempt
+returns c =
+    let call = c .before .before .before in
+    let made = call .before .before in (
+      rw (c .flat-attempt-answer .ensures, call .attempt-from-numbers .ensures .0, made .setup-of .ensures),
+      stands _ _ _ _ _ _ (made .setup-of .ensures)
+          (ap (λ (a : FlatAttemptAnswer). a .number) (c .flat-attempt-answer .ensures))
+          (call .attempt-from-numbers .ensures .1),
+    )
+
+pub fog-attempt-from-numbers-spec : {M : Type 1} → statement M
+fog-attempt-from-numbers-spec =
+    tie.close
+    (tie.spec
+    setup-of-requires
+    attempt-from-numbers-requires
+    flat-attempt-answer-requires
+    same-length
+    returns)

@@ -1,0 +1,139 @@
+// Attempts over a run table, as C has them: the table is six arrays, and has as many runs as the shortest of them.
+ghost use mathlib.Core.Path.{_≡_};
+ghost use lib.ListN.{length, drop};
+ghost use Rattle.fitter.specs.Attempting.{attemptAnswerOf, attemptFrom, standsFrom};
+ghost use Rattle.fitter.specs.Columns.{countOfRuns, runOf};
+ghost use Rattle.exports.specs.FlatTables.{flagOf, rejectionThere, rejectionNumber, ofAttempt, setupOf, sayAttempt};
+use crate::attempts::FlatAttempt;
+use crate::families::error_of;
+use crate::families::flat_error;
+use crate::families::flat_genome;
+use crate::families::genome_of;
+use crate::fits::flat_fit;
+use crate::verdicts::reason_number;
+use fitter::attempting::attempt_from_numbers;
+use fitter::attempts::FitAttempt;
+use fitter::attempts::RejectionPart;
+use fitter::settling::AttemptAnswer;
+use fitter::settling::Setup;
+
+#[repr(C)]
+pub struct FlatAttemptAnswer {
+    pub number: u8,
+    pub attempt: FlatAttempt,
+}
+
+fn flag_of(b: bool) -> u8
+    ensures { λ r. ⌜ r ≡ flagOf b ⌝ }
+{
+    if b {
+        return 1;
+    }
+    0
+}
+
+fn rejection_there(rejection: RejectionPart) -> u8
+    ensures { λ r. ⌜ r ≡ rejectionThere rejection ⌝ }
+{
+    match rejection {
+        RejectionPart::Absent => 0,
+        RejectionPart::Present(_) => 1,
+    }
+}
+
+fn rejection_number(rejection: RejectionPart) -> u8
+    ensures { λ r. ⌜ r ≡ rejectionNumber rejection ⌝ }
+{
+    match rejection {
+        RejectionPart::Absent => 0,
+        RejectionPart::Present(why) => reason_number(why),
+    }
+}
+
+fn flat_attempt(attempt: FitAttempt) -> FlatAttempt
+    ensures { λ r. ⌜ r ≡ ofAttempt attempt ⌝ }
+{
+    let error = attempt.error_model;
+    let genome = attempt.genome_model;
+    let rejection = attempt.rejection;
+    let candidate = flat_fit(attempt.candidate);
+    FlatAttempt {
+        error_model: flat_error(error),
+        genome_model: flat_genome(genome),
+        has_candidate: flag_of(attempt.has_candidate),
+        candidate: candidate,
+        rejection_present: rejection_there(rejection),
+        rejection: rejection_number(rejection),
+        total_iterations: attempt.total_iterations,
+        capped_starts: attempt.capped_starts,
+    }
+}
+
+fn flat_attempt_answer(answer: AttemptAnswer) -> FlatAttemptAnswer
+    ensures { λ r. ⌜ r ≡ sayAttempt answer ⌝ }
+{
+    FlatAttemptAnswer {
+        number: answer.number,
+        attempt: flat_attempt(answer.attempt),
+    }
+}
+
+fn setup_of(
+    scale: f64,
+    window_end: usize,
+    valley: usize,
+    peak: usize,
+    error: u8,
+    genome: u8,
+    mass_limit: f64,
+) -> Setup
+    ensures { λ r. ⌜ r ≡ setupOf scale «window_end» valley peak error genome «mass_limit» ⌝ }
+{
+    Setup {
+        scale,
+        window_end,
+        valley,
+        peak,
+        error: error_of(error),
+        genome: genome_of(genome),
+        mass_limit,
+    }
+}
+
+#[no_mangle]
+pub extern "C" fn fog_attempt_from_numbers(
+    bins: &[u32],
+    scale: f64,
+    window_end: usize,
+    valley: usize,
+    peak: usize,
+    error: u8,
+    genome: u8,
+    mass_limit: f64,
+    converged: &[bool],
+    costs: &[f64],
+    places: &[usize],
+    lengths: &[usize],
+    iterations: &[u64],
+    caps: &[bool],
+    lists: &[f64],
+    table: &mut [f64],
+) -> FlatAttemptAnswer
+    ensures { λ r. ⌜ r ≡ sayAttempt (attemptAnswerOf (attemptFrom (now (bins .entry)) (setupOf scale «window_end» valley peak error genome «mass_limit») (now (lists .entry)) (length (now (table .entry))) (runOf (now (converged .entry)) (now (costs .entry)) (now (places .entry)) (now (lengths .entry)) (now (iterations .entry)) (now (caps .entry))) (countOfRuns (now (converged .entry)) (now (costs .entry)) (now (places .entry)) (now (lengths .entry)) (now (iterations .entry)) (now (caps .entry))))) ⌝ }
+    ensures { λ r. ⌜ drop (standsFrom (setupOf scale «window_end» valley peak error genome «mass_limit») (r .number)) (now (table .exit)) ≡ drop (standsFrom (setupOf scale «window_end» valley peak error genome «mass_limit») (r .number)) (now (table .entry)) ⌝ }
+{
+    let setup = setup_of(scale, window_end, valley, peak, error, genome, mass_limit);
+    let answer = attempt_from_numbers(
+        bins,
+        setup,
+        converged,
+        costs,
+        places,
+        lengths,
+        iterations,
+        caps,
+        lists,
+        table,
+    );
+    flat_attempt_answer(answer)
+}
