@@ -197,9 +197,14 @@ pub fn expm1(x: f64) -> f64 {
     }
 }
 
-fn ln_tail(r: f64) -> f64 {
-    let [b1, b2, b3, b4, b5] = constants().b;
-    (r * r) * (r * (b1 + r * (r * (b3 + r * (r * b5 - b4)) - b2)) - 0.5)
+fn ln_head(r: f64, t: f64) -> f64 {
+    let [b1, ..] = constants().b;
+    t * (0.5 - r * b1)
+}
+
+fn ln_tail(r: f64, t: f64) -> f64 {
+    let [_, b2, b3, b4, b5] = constants().b;
+    (t * t) * ((r * b3 - b2) - t * (b4 - r * b5))
 }
 
 pub fn ln(x: f64) -> f64 {
@@ -223,7 +228,8 @@ pub fn ln(x: f64) -> f64 {
     let high = k * c.ln2[0] + log_high;
     let sum = high + r;
     let rest = (high - sum) + r;
-    let v = sum + (((rest + log_low) + k * c.ln2[1]) + ln_tail(r));
+    let t = r * r;
+    let v = sum + ((rest + ((log_low + k * c.ln2[1]) - ln_head(r, t))) + ln_tail(r, t));
     if v * x > v {
         v
     } else {
@@ -235,7 +241,8 @@ fn stirling(x: f64) -> f64 {
     let [s0, s1, s2, s3, s4, s5, s6] = constants().s;
     let i = 1.0 / x;
     let z = i * i;
-    let s = s0 - z * (s1 - z * (s2 - z * (s3 - z * (s4 - z * (s5 - z * s6)))));
+    let y = z * z;
+    let s = (s0 - z * s1) + y * ((s2 - z * s3) + y * ((s4 - z * s5) + y * s6));
     (x - 0.5) * (ln(x) - 1.0) + (constants().stirling_constant + i * s)
 }
 
