@@ -30,7 +30,7 @@ const ROWS: [usize; 3] = [8, 2, 1];
 const LONGEST: [usize; 3] = [64, 128, 200];
 
 /// Calls that the replay does not know.
-const NOT_REPLAYED: [u64; 7] = [83, 84, 85, 86, 87, 91, 92];
+const NOT_REPLAYED: [u64; 3] = [83, 84, 93];
 
 /// What the command line asks for: one layer, one call, one input of so many, the replay's rows.
 struct Asked {

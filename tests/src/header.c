@@ -168,6 +168,18 @@ static void error_mode(void) {
     whole(answer.count);
 }
 
+static void cutoff(fog_cutoff answer) {
+    whole(answer.number);
+    whole(answer.cutoff);
+}
+
+static void sure_cutoff(fog_sure_cutoff answer) {
+    whole(answer.number);
+    whole(answer.walk);
+    whole(answer.sure);
+    whole(answer.cutoff);
+}
+
 /* Whether the call is one of the header's; `at` stands behind its arguments. */
 static int called(void) {
     same = 1;
@@ -198,9 +210,13 @@ static int called(void) {
     case 69: return at = 1 + FIT_WORDS, whole(fog_repeat_mode(fit(1))), 1;
     case 70: return at = 1 + FIT_WORDS, error_mode(), 1;
     case 71: return heights(), 1;
+    case 85: return at = 2 + FIT_WORDS, cutoff(fog_hole_cutoff(fit(1), number(1 + FIT_WORDS))), 1;
+    case 86: return at = 2 + FIT_WORDS, sure_cutoff(fog_hole_cutoff_sure(fit(1), number(1 + FIT_WORDS))), 1;
+    case 87: return at = 1 + FIT_WORDS, cutoff(fog_crossover(fit(1))), 1;
     case 88: return whole(fog_parameter_count((uint8_t)row[1])), 1;
     case 89: return whole(fog_extra_parameters((uint8_t)row[1])), 1;
     case 90: return at = 3, whole(fog_list_length((uint8_t)row[1], (uint8_t)row[2])), 1;
+    case 91: return at = 1 + FIT_WORDS, cutoff(fog_error_floor_cutoff(fit(1))), 1;
     default: return 0;
     }
 }

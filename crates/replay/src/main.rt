@@ -2,6 +2,7 @@
 // answers otherwise.
 mod answers;
 mod attempts;
+mod cutoffs;
 mod fits;
 mod layer1;
 mod layer2;

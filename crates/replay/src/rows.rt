@@ -3,6 +3,7 @@
 use crate::answers::Answer;
 use crate::answers::agrees;
 use crate::attempts;
+use crate::cutoffs;
 use crate::fits;
 use crate::layer1;
 use crate::layer2;
@@ -59,6 +60,9 @@ fn holds(row: &[u64]) -> bool {
         | slices::PARAMS_FROM => agrees(slices::answer(r, row), row),
         fits::COMPONENT_TOTAL_RATIO..=fits::COMPONENT_HEIGHTS => {
             agrees(fits::answer(call, row), row)
+        }
+        cutoffs::HOLE_CUTOFF..=cutoffs::CROSSOVER | cutoffs::ERROR_FLOOR_CUTOFF => {
+            agrees(cutoffs::answer(call, row), row)
         }
         spectra::RECOVER_BINS | spectra::EMPIRICAL_SHELF_SHARE => spectra::holds(r, row),
         starts::START_TABLES_REFUSAL..=starts::FIT_STARTS_LENT => starts::holds(r, row),

@@ -96,6 +96,6 @@ fn strata() -> Vec<Own> {
 }
 
 pub fn calls() -> Vec<Call> {
-    let heights = call(92, "component_heights_to", FIT_AND_LAST, Answer::Given { whole: 1, floats: 0 }, some, port_heights, linked_heights);
+    let heights = call(93, "component_heights_to", FIT_AND_LAST, Answer::Given { whole: 1, floats: 0 }, some, port_heights, linked_heights);
     vec![Call { own: strata(), ..heights }]
 }
