@@ -6,6 +6,8 @@
  * cost is kept, and the step is halved where nothing does.
  */
 #include "fogatise.h"
+#include <math.h>
+#include <stdbool.h>
 #include <stdio.h>
 #include <stdlib.h>
 
@@ -92,34 +94,50 @@ static double searched(const spectrum *s, families f, double *theta, uint64_t *r
     return now;
 }
 
-/* ---- one configuration: every start, from two dispersions and a hint, the list of lowest cost as a fit, and what the validator says of it */
+/* ---- one configuration: a run from every start, from two dispersions and a hint, and what the runs come to */
 
-static fog_attempt attempt(const spectrum *s, families f, double share) {
+/* The run table: an entry for each run, and the lists one behind the other. */
+typedef struct {
+    bool converged[MOST_STARTS], caps[MOST_STARTS];
+    double costs[MOST_STARTS], lists[MOST_STARTS * MOST_NUMBERS];
+    size_t places[MOST_STARTS], lengths[MOST_STARTS], length, numbers;
+    uint64_t iterations[MOST_STARTS];
+} runs;
+
+static void search_all(const spectrum *s, families f, double share, runs *r) {
     const double seeds[SEEDS] = {1.5, 3.0}, shapes[2 * SHAPES] = {0.6, 5.0};
-    double starts[MOST_STARTS * MOST_NUMBERS], *best = NULL;
     const size_t numbers = fog_list_length(f.error, f.genome);
-    const fog_written written = fog_fit_starts(f.error, f.genome, seeds, SEEDS, 2.0, share, shapes, 2 * SHAPES, starts,
+    const fog_written written = fog_fit_starts(f.error, f.genome, seeds, SEEDS, 2.0, share, shapes, 2 * SHAPES, r->lists,
                                                MOST_STARTS * MOST_NUMBERS);
     if (written.number) refused("fog_fit_starts", written.number);
-
-    double lowest = 0.0;
-    uint64_t rounds = 0;
-    for (double *theta = starts; theta < starts + written.items; theta += numbers) {
-        const double found = searched(s, f, theta, &rounds);
-        if (!best || found < lowest) best = theta, lowest = found;
+    r->numbers = written.items;
+    r->length = written.items / numbers;
+    for (size_t i = 0; i < r->length; i++) {
+        r->places[i] = i * numbers;
+        r->lengths[i] = numbers;
+        r->iterations[i] = 0;
+        r->costs[i] = searched(s, f, r->lists + r->places[i], &r->iterations[i]);
+        r->converged[i] = r->costs[i] > 0 && r->costs[i] < INFINITY;
+        r->caps[i] = false;
     }
-    const fog_fit_answer answer = fog_unpack(s->bins, s->length, s->scale, s->window_end, s->peak, f.error, f.genome, best, numbers, lowest,
-                                             rounds, table, MOST_BINS + 1);
-    if (answer.number) refused("fog_unpack", answer.number);
-    const fog_verdict verdict = fog_validate_fit(answer.fit, s->valley, s->peak, 2.0);
-    if (verdict.number) refused("fog_validate_fit", verdict.number);
-    printf("%-18s  %zu starts, cost %.3f, BIC %.3f, ", f.name, written.items / numbers, lowest, answer.fit.bic);
-    if (verdict.reason)
-        printf("rejected by rule %u\n", verdict.reason);
+}
+
+static fog_attempt attempt(const spectrum *s, families f, double share) {
+    static runs r;
+    search_all(s, f, share, &r);
+    const fog_attempt_answer answer = fog_attempt_from_numbers(
+        s->bins, s->length, s->scale, s->window_end, s->valley, s->peak, f.error, f.genome, 2.0, r.converged, r.length, r.costs, r.length,
+        r.places, r.length, r.lengths, r.length, r.iterations, r.length, r.caps, r.length, r.lists, r.numbers, table, MOST_BINS + 1);
+    if (answer.number) refused("fog_attempt_from_numbers", answer.number);
+    const fog_attempt a = answer.attempt;
+    printf("%-18s  %zu runs, %llu rounds, ", f.name, r.length, (unsigned long long)a.total_iterations);
+    if (a.has_candidate) printf("log-likelihood %.3f, BIC %.3f, ", a.candidate.log_likelihood, a.candidate.bic);
+    if (a.rejection_present)
+        printf("rejected by rule %u\n", a.rejection);
     else
         puts("valid");
     fflush(stdout);
-    return (fog_attempt){f.error, f.genome, 1, answer.fit, verdict.reason != 0, verdict.reason, rounds, 0};
+    return a;
 }
 
 static void show(const fog_fit *fit) {
