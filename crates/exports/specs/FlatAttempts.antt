@@ -14,8 +14,8 @@ use Rattle.fitter.specs.declared.rejections.FitRejection.{FitRejection}
 use Rattle.fitter.specs.declared.rejections.FitRejection.the-variants as reason
 use Rattle.fitter.specs.declared.selection.Selected.{Selected}
 use Rattle.exports.specs.FlatFits.{errorOf, genomeOf, fitOf, ofFit}
-use Rattle.exports.specs.declared.attempts.FlatAttempt.{FlatAttempt}
-use Rattle.exports.specs.declared.attempts.FlatSelected.{FlatSelected}
+use Rattle.exports.specs.declared.flat_attempts.FlatAttempt.{FlatAttempt}
+use Rattle.exports.specs.declared.flat_attempts.FlatSelected.{FlatSelected}
 use Rattle.exports.specs.declared.verdicts.FlatVerdict.{FlatVerdict}
 
 -- ---- a verdict: the number, 0 for an answer; the reason's number, 0 for a valid fit and for a refusal

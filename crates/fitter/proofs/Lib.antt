@@ -17,18 +17,5 @@ pub mod Verdicts
 pub mod Replaced
 pub mod Lower
 pub mod Selecting
--- ---- the attempts
-pub mod Totals
-pub mod Surveyed
-pub mod Prices
-pub mod Leasts
-pub mod Keeping
-pub mod Standing
-pub mod Judgements
-pub mod Settlement
-pub mod Attempted
-pub mod Answered
-pub mod Columned
-pub mod KeptRuns
 -- ---- document 01's cases
 pub mod Cases

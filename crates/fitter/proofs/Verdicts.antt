@@ -12,8 +12,7 @@ use Rattle.meaning.proofs.Replies.{same-answer, same-number, answer-not-refused
 use Rattle.routines.specs.Exp.{expOf}
 use Rattle.models.specs.Fits.{totalRatioOf}
 use Rattle.models.specs.declared.fit.SpectrumFit.{SpectrumFit}
-use Rattle.fitter.specs.Judging.{reasonAt}
-use Rattle.fitter.specs.Validation.{valid, rejected, judged, rules, verdictOf, reasonNumber}
+use Rattle.fitter.specs.Validation.{valid, rejected, judged, rules, verdictOf, reasonNumber, reasonAt}
 use Rattle.fitter.specs.Validation.{verdictSays, excessOf, NoRule}
 use Rattle.fitter.specs.declared.rejections.FitRejection.{FitRejection}
 use Rattle.fitter.specs.declared.rejections.FitRejection.the-variants as reason

@@ -5,13 +5,6 @@ pub mod StartTables
 pub mod Starts
 pub mod Validation
 pub mod Attempts
-pub mod Runs
-pub mod Surveys
-pub mod Judging
-pub mod Columns
-pub mod Attempting
-pub mod Settling
-pub mod Kept
 pub mod Selection
 pub mod Outcomes
 pub mod Cases

@@ -180,6 +180,29 @@ reasonNumber reason.PrimaryModeOutsideBand = 8
 reasonNumber reason.RepeatModeTooEarly = 9
 reasonNumber reason.PositiveLogLikelihood = 10
 
+-- the reason of a number: 0 is the first
+abbrev pub reasonFrom : List FitRejection → ℕ → FitRejection
+reasonFrom [] n = reason.OptimisationFailed
+reasonFrom (why ∷ whys) zero = why
+reasonFrom (why ∷ whys) (suc n) = reasonFrom whys n
+
+abbrev pub reasonAt : ℕ → FitRejection
+reasonAt n =
+    reasonFrom
+    (reason.OptimisationFailed
+    ∷ reason.NonFiniteLikelihood
+    ∷ reason.InvalidComponents
+    ∷ reason.InvalidWindowMass
+    ∷ reason.ComponentMassExceeded
+    ∷ reason.UnstableModeParameterisation
+    ∷ reason.GenomeLobeOutsideFitWindow
+    ∷ reason.ErrorModePastValley
+    ∷ reason.PrimaryModeOutsideBand
+    ∷ reason.RepeatModeTooEarly
+    ∷ reason.PositiveLogLikelihood
+    ∷ [])
+    n
+
 abbrev pub verdictSays : Verdict → Reply Judgement
 verdictSays Valid = give valid
 verdictSays (Rejected why) = give (rejected (reasonNumber why))

@@ -1,0 +1,7 @@
+pub mod Runs
+pub mod Surveys
+pub mod Judging
+pub mod Columns
+pub mod Attempting
+pub mod Settling
+pub mod Kept

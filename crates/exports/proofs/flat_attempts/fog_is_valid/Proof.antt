@@ -1,0 +1,16 @@
+-- `exports::flat_attempts::fog_is_valid` meets its contract. Assumes nothing.
+use borrow.Author.Needs.{needs}
+use Rattle.exports.proofs.flat_attempts.fog_is_valid.Statement.{statement}
+use Rattle.exports.proofs.flat_attempts.fog_is_valid.Tie as tie
+
+attempt-of-requires : tie.Need-attempt-of-requires
+attempt-of-requires c κs = search needs
+
+is-valid-requires : tie.Need-is-valid-requires
+is-valid-requires c κs = search needs
+
+returns : tie.Need-returns
+returns c = rw (c .is-valid .ensures, c .before .attempt-of .ensures)
+
+pub fog-is-valid-spec : {M : Type 1} → statement M
+fog-is-valid-spec = tie.close (tie.spec attempt-of-requires is-valid-requires returns)
