@@ -13,6 +13,23 @@
  * and payload.
  *
  * docs/GLOSSARY.md says what valley, peak, shelf, window end and scale are.
+ *
+ * From a histogram file to cutoffs:
+ *
+ *   fog_read_histogram              the bins: bin i is the number of distinct k-mers with the count i + 1
+ *   valley, peak, window end        the caller's: the count of the dip behind the errors, and the count of the highest bin behind it. On a
+ *                                   smooth spectrum the valley is the first count from 2 on with fewer k-mers than the next; noise can put
+ *                                   it too low, so look at it. The original fits up to the smaller of 6 * peak and bins - 1
+ *   fog_empirical_shelf_share       what a search with a shelf starts from
+ *   then for each pair of families:
+ *     fog_fit_starts                the lists from which to search. The original's seeds are 2, 8 and 15, its shapes 0.5, 3, 0.75, 4; its
+ *                                   hint is 2 where the caller has none
+ *     fog_prepare_window            once for a window end
+ *     fog_cost_prepared             what a search lowers: Nelder and Mead's method in the original, with 0.5 added to each number in turn
+ *                                   for its first simplex
+ *     fog_attempt_from_numbers      over the runs; the original's mass limit is 1.1
+ *   fog_select_fit                  the fit that is used
+ *   fog_hole_cutoff_sure            the cutoff that a budget allows; fog_crossover and fog_error_floor_cutoff to compare it with
  */
 #ifndef FOGATISE_H
 #define FOGATISE_H
@@ -29,13 +46,15 @@ extern "C" {
  * An answer that can refuse: number 0 and the value, or the number that comes back instead, and the value 0.
  *
  *    1  the peak, the valley or the number of bins is below 2
- *    2  the bins, the peak, the valley, a count or the window end is above 65,535
+ *    2  the bins, the peak, the valley, a count, the window end or the number of runs is above 65,535; bins for a file above 2,047
+ *    3  the file is none, or is broken: fog_read_histogram alone, with the place
  *    4  all bins are zero
- *    5  the window end is 0, or beyond the bins
+ *    5  the window end is 0, or beyond the bins where the call takes bins
  *    6  every recovered bin in the window is zero
- *    7  the list has the wrong length for its families; a table of error starts is not one or more rows of three; the shapes are not pairs
+ *    7  the list, or a converged run's, has the wrong length for its families, or does not lie in the lists; a table of error starts is not
+ *       one or more rows of three; the shapes are not pairs
  *    8  a log probability scanned for the error mode is a NaN
- *    9  the mass limit is not finite or is below 1
+ *    9  the mass limit is not finite or is below 1; a converged run's cost is not finite or not above 0
  *   10  a lent table or buffer is too short for the answer, or for the shelf table
  *
  * Each applies only to calls that take the thing named. Where several apply, the first of these comes back. A refusal leaves lent memory
@@ -45,6 +64,19 @@ typedef struct {
     uint8_t number;
     double value;
 } fog_number;
+
+enum {
+    FOG_TOO_SMALL = 1,
+    FOG_TOO_LARGE = 2,
+    FOG_BROKEN_FILE = 3,
+    FOG_ALL_BINS_ZERO = 4,
+    FOG_NO_WINDOW = 5,
+    FOG_NOTHING_RECOVERED = 6,
+    FOG_WRONG_LENGTH = 7,
+    FOG_NAN_SCANNED = 8,
+    FOG_WRONG_LIMIT_OR_COST = 9,
+    FOG_TOO_SHORT = 10
+};
 
 /* The same of a call that writes: number 0 and how many entries it wrote. */
 typedef struct {
@@ -95,8 +127,9 @@ typedef struct {
 } fog_shelf;
 
 /*
- * The error component: count 1 has the probability singleton_probability; from 2 on a tail with this exponent, Weibull-like where
- * shape_present is not 0, and Pareto otherwise.
+ * The error component. Count 1 has the probability p = singleton_probability, a count n from 2 on (1 - p) (S(n) - S(n + 1)). With the
+ * exponent a and the shape c, S(n) is exp(-a ((n - 1)^c - 1) / c), Weibull-like, where shape_present is not 0, and (n - 1)^-a, a Pareto,
+ * otherwise.
  */
 typedef struct {
     double singleton_probability;
@@ -106,35 +139,34 @@ typedef struct {
 } fog_errors;
 
 /*
- * A fit. The three weights are those inside the window, 1 to fit_window_end; k-mers, totals and observed_total are distinct k-mers of the
- * library (the sample's times the scale); log_likelihood, bic and deviance are of the sample. Arrays go error, single-copy, repeat. What is not there is 0 beside its presence. Whether there is a shape or a shelf is said by its presence
- * alone, never by a family.
+ * A fit. Arrays go error, single-copy, repeat. Logarithms are natural. What is not there is 0 beside its presence. Whether there is a shape
+ * or a shelf is said by its presence alone, never by a family. The sample is what the recovered bins count, the library what the bins count.
  */
 typedef struct {
     uint8_t error_model;
     uint8_t genome_model;
-    double w_error;
+    double w_error; /* the three weights: parts of the k-mers in the window, 1 to fit_window_end */
     double w_single;
     double w_repeat;
-    double mean;
-    double dispersion;
-    double target_mode;
+    double mean; /* of the single-copy lobe, in counts */
+    double dispersion; /* of both lobes: the variance over the mean */
+    double target_mode; /* the mode that the list asks for, in counts, not rounded; fog_primary_mode has the one that came of it */
     fog_errors error_params;
     uint8_t shelf_present;
     fog_shelf shelf;
-    double repeat_ratio;
-    double genome_kmers;
+    double repeat_ratio; /* the repeat lobe's mean over the single-copy mean */
+    double genome_kmers; /* distinct k-mers of the library at all counts, 0 too: weight * observed_total / window mass; single copies */
     double error_kmers;
     double repeat_kmers;
-    double log_likelihood;
-    double bic;
-    double deviance;
+    double log_likelihood; /* minus the cost that was handed in: of the sample's k-mers in the window, each with its log probability */
+    double bic; /* list length * ln(the sample's k-mers in the window) - 2 * log_likelihood */
+    double deviance; /* the sum over the sample's bins o in the window of 2 o ln(o / expected); +inf where nothing was expected */
     size_t fit_window_end;
-    uint64_t best_iterations;
-    double component_log_window_masses[3];
-    double component_log_totals[3];
-    double observed_total;
-    double full_distinct_total;
+    uint64_t best_iterations; /* as handed in */
+    double component_log_window_masses[3]; /* the log of the part of each component that lies in the window */
+    double component_log_totals[3]; /* the logs of error_kmers, genome_kmers, repeat_kmers */
+    double observed_total; /* the recovered bins in the window times the scale */
+    double full_distinct_total; /* the sum of all bins as they came */
 } fog_fit;
 
 /* Number 0 and a fit, or a number and a fit with every field 0. */
@@ -152,7 +184,10 @@ typedef struct {
     uint8_t reason;
 } fog_verdict;
 
-/* Why a fit is not used: no run converged, or one of the validator's rules. Any other number is the first. */
+/*
+ * Why a fit is not used: no run converged, or one of the validator's rules. Any other number is the first. In a verdict 0 is a valid fit; in
+ * an attempt rejection_present says first whether there is a reason.
+ */
 enum {
     FOG_OPTIMISATION_FAILED = 0,
     FOG_NON_FINITE_LIKELIHOOD = 1,
@@ -258,7 +293,7 @@ fog_number fog_single_copy_log_mass(double mean, double dispersion, uint8_t pres
 /*
  * Writes the shelf's log density at the counts 0 to min(trials, top), where trials is fog_shelf_trials(mean), each entry worked out from
  * the one before, and answers how many entries that is. What lies behind them stays as it was. `length` is the room: refusals 2, 5 and
- * 10, the last where there are fewer entries than that.
+ * 10, the last where there is less room than min(trials, top) + 1.
  */
 fog_written fog_shelf_log_table(double mean, fog_shelf shelf, size_t top, double *table, size_t length);
 
@@ -275,8 +310,8 @@ fog_written fog_shelf_log_table(double mean, fog_shelf shelf, size_t top, double
  *   theta[6]            Weibull alone: the tail's shape, e^theta[6]
  *   theta[n]            the repeats' mean over the single-copy mean: 1.5 + 0.5 * S(theta[n])
  *   theta[n + 1]        with a shelf: its share of the single-copy k-mers, 0.5 * S(theta[n + 1])
- *   theta[n + 2]        with a shelf: the mean part of coverage that its k-mers keep, m = 0.3 + 0.7 * S(theta[n + 2])
- *   theta[n + 3]        with a shelf: a + b = 1/m + (20 - 1/m) * S(theta[n + 3]); then a = m * (a + b) and b = (1 - m) * (a + b)
+ *   theta[n + 2]        with a shelf: the retained fraction m, the part of coverage that its k-mers keep: 0.3 + 0.7 * S(theta[n + 2])
+ *   theta[n + 3]        with a shelf: the concentration k = 1/m + (20 - 1/m) * S(theta[n + 3]); then alpha = m * k and beta = (1 - m) * k
  */
 
 /* The list's entries before the genome family's own: 7 for Weibull, 6 for Pareto. */
@@ -291,12 +326,17 @@ size_t fog_list_length(uint8_t error, uint8_t genome);
 /* ---- cost and fit: bin i holds count i + 1 */
 
 /*
- * The negative log-likelihood of the counts 1 to window_end at the parameters of a list, and +inf for what the model can't use. It is of
- * the sample: a bin is divided by the scale, how many k-mers of the library each one stands for, and rounded with halves away from zero; a
- * scale that is not finite or is below 1 becomes 1. The peak is the count of the spectrum's single-copy peak, around which theta[2] moves
- * the mode. With a shelf family `table` needs window_end + 1 entries: the shelf table, min(trials, window_end) + 1 entries, is built in
- * front, and stays there, unless the cost is +inf for the parameters alone; what lies behind stays as it was. Refusals 1, 2, 4, 5, 6, 7
- * and 10.
+ * The negative log-likelihood of the counts 1 to window_end at the parameters of a list. It is +inf where a parameter can't be used, the
+ * mode does not come back, a log window mass is above 1e-12 or not finite, or the log-likelihood is not finite or above 0. Where the dispersion is between
+ * 1 + 1e-9 and about 1.02, rounding alone lifts a mass above that at scattered points, so a search that ends there is worth another start
+ * with theta[3] = -25, a Poisson.
+ *
+ * It is of the sample. The bins are the library's: of a sketch, its counts times the scale. Each is divided by the scale, how many k-mers
+ * of the library one of the sample stands for, and rounded with halves away from zero; a scale that is not finite or is below 1 becomes 1.
+ * Counts that were never multiplied, an exact table's or a sketch's own, go in with the scale 1: no number tells of a second division. The
+ * peak is the count of the spectrum's single-copy peak, around which theta[2] moves the mode. With a shelf family `table` needs window_end
+ * + 1 entries: the shelf table, min(trials, window_end) + 1 entries, is built in front, and stays there, unless the cost is +inf for the
+ * parameters alone; what lies behind stays as it was. Refusals 1, 2, 4, 5, 6, 7 and 10.
  */
 fog_number fog_cost(const uint32_t *bins, size_t bins_length, double scale, size_t window_end, size_t peak, uint8_t error, uint8_t genome,
                     const double *theta, size_t theta_length, double *table, size_t table_length);
@@ -317,8 +357,9 @@ fog_number fog_cost_prepared(const uint32_t *bins, size_t bins_length, double sc
                              double *table, size_t table_length);
 
 /*
- * A converged list as a fit, with its cost, which may be any number, and its iterations. The rest is as in fog_cost, but that a shelf table
- * is always built.
+ * A converged list as a fit, with its cost and its iterations. Neither is worked out again: the likelihood and the BIC rest on the cost that
+ * is handed in, so hand in what fog_cost answered for this list, these bins, this scale, window and peak. The rest is as in fog_cost, but
+ * that a shelf table is always built.
  */
 fog_fit_answer fog_unpack(const uint32_t *bins, size_t bins_length, double scale, size_t window_end, size_t peak, uint8_t error,
                           uint8_t genome, const double *theta, size_t theta_length, double cost, uint64_t iterations, double *table,
@@ -348,13 +389,21 @@ double fog_mode_roundtrip_error(fog_fit fit);
 /* The components' totals over the spectrum's distinct k-mers. */
 double fog_component_total_ratio(fog_fit fit);
 
-/* ---- cutoffs */
+/* ---- cutoffs: k-mers with a count below the cutoff are removed, those at the cutoff stay
+ *
+ * The hole cutoff is the one to cut at: it keeps the genome whole up to the budget. The crossover and the error floor say where the errors
+ * end; a hole cutoff below the floor leaves errors in.
+ */
 
 /*
- * The hole cutoff: the largest cutoff that removes at most `budget` of the genome's k-mers by the fit, and 2 at least; none where every
- * cutoff up to the mean removes at most that, and none without a walk where genome_kmers is 0 or less, the mean is not finite or is below
- * 2, or the window end is below 2. What a cutoff removes is the sum of the single-copy probabilities below it; the budget over
- * genome_kmers is the allowed share. At 2, the least cutoff, the removed part may exceed the budget. Refusals 2 and 5.
+ * The hole cutoff: the largest cutoff that removes at most `budget` single-copy k-mers of the library by the fit, and 2 at least. What a
+ * cutoff removes is the sum of the single-copy probabilities below it, from count 0 on, so k-mers that no read shows use up the budget
+ * too; the budget over genome_kmers is the allowed share. At 2, the least cutoff, the removed part may exceed the budget, and a budget
+ * below 0 gives 2.
+ *
+ * None is not "keep everything": every cutoff up to the ceiling, the smaller of the rounded mean and the window end, removes at most the
+ * budget (a budget that is a NaN too); or no walk starts, where genome_kmers is 0 or less, the mean is not finite or is below 2, or the
+ * window end is below 2. fog_hole_cutoff_sure tells these apart. Refusals 2 and 5.
  */
 fog_cutoff fog_hole_cutoff(fog_fit fit, double budget);
 
@@ -389,8 +438,9 @@ fog_cutoff fog_error_floor_cutoff(fog_fit fit);
 fog_written fog_recover_bins(const uint32_t *bins, size_t bins_length, double scale, uint32_t *out, size_t out_length);
 
 /*
- * The shelf share that a search starts from, over the recovered bins: twice the k-mers at counts valley to peak/2, over those at counts
- * valley to 2*peak, held to 0.01 .. 0.4; 0.05 where the latter are none. Refusals 1 and 2.
+ * The shelf share that a search starts from, over the recovered bins: twice the k-mers at counts valley to peak/2, cut to a whole number,
+ * over those at counts valley to 2*peak, held to 0.01 .. 0.4; 0.05 where the latter are none. Counts past the bins have no k-mers. A valley
+ * behind the peak is no refusal. Refusals 1 and 2.
  */
 fog_number fog_empirical_shelf_share(const uint32_t *bins, size_t bins_length, double scale, size_t valley, size_t peak);
 
@@ -402,11 +452,17 @@ uint8_t fog_start_tables_refusal(const double *pareto, size_t pareto_length, con
 
 /*
  * Writes every start of a search, each a parameter list of fog_list_length(error, genome) numbers, one behind the other: for each seed and
- * then for the hint, the error starts of the family's table; with a shelf family, for each of those the shapes, which are pairs of retained
- * fraction and concentration. A hint that is not finite or not above 1 becomes 2; seeds, share and shapes are taken as they are. The
- * answer counts numbers, not starts: divided by the list's length it is the number of starts. What lies behind them stays as it was. The
- * first takes document 01's tables, 2 rows for Pareto and 3 for Weibull, the second the lent ones. Refusals 7 and 10, 7 whichever families
- * are asked.
+ * then for the hint, the error starts of the family's table; with a shelf family, for each of those the shapes. That is (seeds + 1) * rows
+ * * (pairs of shapes, with a shelf family) starts, and none for a shelf family without shapes. The answer counts numbers, not starts:
+ * divided by the list's length it is the number of starts. What lies behind them stays as it was.
+ *
+ * A seed is a dispersion to start from, and the hint is one more; a hint that is not finite or not above 1 becomes 2. Each is then held to
+ * 1.001 at least, a NaN too. `shapes` are pairs of retained fraction and concentration, the m and k of theta[n + 2] and theta[n + 3], and
+ * not alpha and beta. The share lies inside 0 .. 0.5, a retained fraction inside 0.3 .. 1, a concentration inside 1/m .. 20; outside of
+ * these a start holds NaNs or infinities, and no number says so.
+ *
+ * fog_fit_starts has the original's tables of tail exponent, singleton probability and shape: for Pareto 1.5 0.8 and 2.5 0.95; for Weibull
+ * 1.5 0.8 0.05, 2.5 0.9 0.5 and 2.0 0.95 1.0. fog_fit_starts_lent has the lent ones. Refusals 7 and 10, 7 whichever families are asked.
  */
 fog_written fog_fit_starts(uint8_t error, uint8_t genome, const double *seeds, size_t seeds_length, double hint, double share,
                            const double *shapes, size_t shapes_length, double *out, size_t out_length);
@@ -436,14 +492,15 @@ fog_verdict fog_validate_fit(fog_fit fit, size_t valley, size_t peak, double mas
 
 /*
  * What one pair of families came to, over a run table of six arrays, one entry for each run; it has as many runs as the shortest of them.
- * The parameter list of run i is the lengths[i] numbers of lists from places[i] on. A run that did not converge counts for its iterations
- * and its cap alone. Of the others the valid one of lowest cost is the candidate, the earlier on ties; with none valid, the one of lowest
- * cost with the reason of its rejection; with no run converged there is none, and the reason is 0. Iterations are added up and stop at
- * 2^64 - 1.
+ * The parameter list of run i is the lengths[i] numbers of lists from places[i] on. Whether a run converged is the caller's word, and its
+ * cost is not worked out again; in the original a run has converged where the search stopped by itself, not by its cap, with a cost that
+ * is finite and above 0. A run that did not converge counts for its iterations and its cap alone. Of the others the valid one of lowest
+ * cost is the candidate, the earlier on ties; with none valid, the one of lowest cost with the reason of its rejection; with no run
+ * converged there is none, and the reason is 0. Iterations are added up and stop at 2^64 - 1.
  *
  * Refusals 1, 2 (also more than 65,535 runs), 4, 5, 6, 7 (a converged run's list has the wrong length or does not lie in lists), 9 (a
- * converged run's cost is not finite or not above 0; the mass limit) and 10. A refusal leaves the table as it is, and so does a plain
- * genome family. With a shelf its first window_end + 1 entries hold anything afterwards.
+ * converged run's cost is not finite or not above 0; the mass limit) and 10. A refusal leaves `table`, the shelf's, as it is, and so does
+ * a plain genome family. With a shelf its first window_end + 1 entries hold anything afterwards.
  */
 fog_attempt_answer fog_attempt_from_numbers(const uint32_t *bins, size_t bins_length, double scale, size_t window_end, size_t valley,
                                             size_t peak, uint8_t error, uint8_t genome, double mass_limit, const bool *converged,
