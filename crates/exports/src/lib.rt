@@ -1,12 +1,12 @@
 // The C interface of what users call. include/fogatise.h says each function in C.
 pub mod answers;
 pub mod costs;
-pub mod cutoffs;
 pub mod densities;
 pub mod families;
 pub mod files;
 pub mod fits;
 pub mod flat_attempts;
+pub mod flat_cutoffs;
 pub mod four;
 pub mod masses;
 pub mod readers;

@@ -18,14 +18,4 @@ pub mod Ranks
 pub mod Beyond
 pub mod Highest
 pub mod Corners
-pub mod Walks
-pub mod Ceilings
-pub mod ExactSums
-pub mod Removed
-pub mod HoleCutoffs
-pub mod HeightCutoffs
-pub mod Crossings
-pub mod Floors
-pub mod Cases
-pub mod Witnesses
 pub mod Says

@@ -1,14 +1,13 @@
 -- For speed alone: what does not change with the count, worked out once an evaluation; and what one count leaves ready
 -- for the next in the likelihood's loop, over a slice in which logarithms and lgammas may stand ready.
 -- Nothing here has to be held beside the Rust: `masses-are` and `likelihood-is` in proofs/Points.antt show that it
--- changes no number; of the walk, `probability-is` in proofs/Walks.antt does. Definitions only. Assumes nothing.
+-- changes no number. Definitions only. Assumes nothing.
 use Prim.Native.Nat.{ℕ, _+_}
 use mathlib.Core.Bool.{cond}
 use mathlib.Core.List.{List}
 use lib.Dec.{eqb}
 use lib.Ieee.{Float, neg, eq}
 use Rattle.routines.specs.Constants.{one}
-use Rattle.routines.specs.Exp.{expOf}
 use Rattle.routines.specs.Expm1.{expm1Of}
 use Rattle.routines.specs.Ln.{lnOf}
 use Rattle.routines.specs.Ops.{_⊕_, _⊖_, _⊗_, ofCount}
@@ -17,8 +16,6 @@ use Rattle.helpers.specs.LogSums.{lnSubExpOf, lse3Of}
 use Rattle.helpers.specs.Mixtures.{mixAtOf, mixMassOf}
 use Rattle.helpers.specs.Pairs.{lobeMassOf}
 use Rattle.helpers.specs.Prepared.{lnAt, gammaAt}
-use Rattle.helpers.specs.SingleCopies.{singleDensityOf}
-use Rattle.helpers.specs.declared.single_copies.SingleCopy.{SingleCopy}
 use Rattle.models.specs.Errors.{factorOf, lnTailOf}
 use Rattle.models.specs.Spectra.{overObserved}
 use Rattle.models.specs.declared.errors.ErrorParams.{ErrorParams}
@@ -89,7 +86,3 @@ pointTermAt p m s ready table n i = ofCount n ⊗ pointAt p m s ready table i
 
 unfoldable pub likelihoodAt : List ℕ → Float → ℕ → Params → WindowMasses → Steady → List Float → List Float → Float
 likelihoodAt bins scale end p m s ready table = overObserved bins scale end (pointTermAt p m s ready table)
-
--- ---- the walk: a count's probability in the single-copy component
-abbrev pub probabilityOf : SingleCopy → ℕ → Float
-probabilityOf single c = expOf (singleDensityOf single (ofCount c))

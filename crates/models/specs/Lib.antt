@@ -18,9 +18,4 @@ pub mod Costs
 pub mod Prepared
 pub mod Deviances
 pub mod Unpacking
-pub mod Walk
-pub mod Cutoffs
-pub mod HeightCutoffs
 pub mod Claims
-pub mod ClaimsCutoff
-pub mod ClaimsHeights

@@ -41,7 +41,7 @@ fn factor(shape: ShapePart, offset: f64) -> f64
 
 impl ErrorParams {
     // ln of the probability that an error k-mer of count 2 or more reaches a count, from ln(count - 1).
-    pub(crate) fn survival_with(self, log_offset: f64) -> f64
+    pub fn survival_with(self, log_offset: f64) -> f64
         ensures { λ r. ⌜ r ≡ survivalWith self «log_offset» ⌝ }
     {
         let shape = self.weibull_shape;
@@ -49,7 +49,7 @@ impl ErrorParams {
     }
 
     // ln of the probability that an error k-mer of count 2 or more reaches `count`.
-    pub(crate) fn log_survival_from_two(self, count: f64) -> f64
+    pub fn log_survival_from_two(self, count: f64) -> f64
         ensures { λ r. ⌜ r ≡ survivalOf self count ⌝ }
     {
         self.survival_with(ln(count - 1.0))

@@ -58,7 +58,7 @@ fn scaled(inside: f64, log: f64, mass: f64) -> f64
 }
 
 // The error component's height at a count, from the log survivals of that count and of the next.
-pub(crate) fn error_height_from(t: HeightTerms, count: f64, here: f64, next: f64) -> f64
+pub fn error_height_from(t: HeightTerms, count: f64, here: f64, next: f64) -> f64
     ensures { λ r. ⌜ r ≡ errorHeightFrom t count here next ⌝ }
 {
     let log = t.error_params

@@ -2,7 +2,7 @@
 // answers otherwise.
 mod answers;
 mod attempts;
-mod cutoffs;
+mod cutoff_rows;
 mod fits;
 mod layer1;
 mod layer2;

@@ -3,7 +3,7 @@
 use crate::answers::Answer;
 use crate::answers::agrees;
 use crate::attempts;
-use crate::cutoffs;
+use crate::cutoff_rows;
 use crate::fits;
 use crate::layer1;
 use crate::layer2;
@@ -61,8 +61,8 @@ fn holds(row: &[u64]) -> bool {
         fits::COMPONENT_TOTAL_RATIO..=fits::COMPONENT_HEIGHTS => {
             agrees(fits::answer(call, row), row)
         }
-        cutoffs::HOLE_CUTOFF..=cutoffs::CROSSOVER | cutoffs::ERROR_FLOOR_CUTOFF => {
-            agrees(cutoffs::answer(call, row), row)
+        cutoff_rows::HOLE_CUTOFF..=cutoff_rows::CROSSOVER | cutoff_rows::ERROR_FLOOR_CUTOFF => {
+            agrees(cutoff_rows::answer(call, row), row)
         }
         spectra::RECOVER_BINS | spectra::EMPIRICAL_SHELF_SHARE => spectra::holds(r, row),
         starts::START_TABLES_REFUSAL..=starts::FIT_STARTS_LENT => starts::holds(r, row),

@@ -1,0 +1,12 @@
+-- Laws of the cutoffs, and demand 3.
+pub mod Walks
+pub mod Ceilings
+pub mod ExactSums
+pub mod Removed
+pub mod HoleCutoffs
+pub mod HeightCutoffs
+pub mod Crossings
+pub mod Floors
+pub mod Cases
+pub mod Witnesses
+pub mod Says

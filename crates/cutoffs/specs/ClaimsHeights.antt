@@ -1,0 +1,35 @@
+-- What the theorems on the crossover and the error floor speak of. Definitions only. Assumes nothing.
+use Prim.Native.Nat.{ℕ, _+_, _≤_, _<_, max}
+use mathlib.Core.Path.{_≡_}
+use mathlib.Core.Bool.{Bool, true, false}
+use lib.Ieee.{le}
+use Rattle.models.specs.declared.fit.SpectrumFit.{SpectrumFit}
+use Rattle.cutoffs.specs.HeightCutoffs.{heightsIn, crossoverCeiling, outgrows, errorsIn, referenceOf}
+
+-- ---- the crossover
+abbrev pub above : SpectrumFit → ℕ → Bool
+above fit = outgrows (heightsIn fit)
+
+abbrev pub ceilingIn : SpectrumFit → ℕ
+ceilingIn fit = crossoverCeiling (fit .mean) (fit .«fit_window_end»)
+
+-- c is k, or 2 for 1, and k is the first count below the ceiling where the single copies stand above the errors
+pub record Crossover (fit : SpectrumFit) (c k : ℕ) : Type 0 where
+  pub answer : c ≡ max k 2
+  pub first : 1 ≤ k
+  pub last : k < ceilingIn fit
+  pub there : above fit k ≡ true
+  pub earlier : (j : ℕ) → 1 ≤ j → j < k → above fit j ≡ false
+
+-- ---- the error floor
+-- the errors reach the reference height
+abbrev pub bad : SpectrumFit → ℕ → Bool
+bad fit k = le (referenceOf fit) (errorsIn fit k)
+
+-- from c on no count of the window is bad, and above 2 the one before c is. 65,535 is the highest floor: it may be bad
+-- itself.
+pub record ErrorFloor (fit : SpectrumFit) (c : ℕ) : Type 0 where
+  pub least : 2 ≤ c
+  pub most : c ≤ 65535
+  pub behind : (k : ℕ) → c ≤ k → k ≤ fit .«fit_window_end» → k < 65535 → bad fit k ≡ false
+  pub before : (k : ℕ) → k + 1 ≡ c → 2 < c → c < 65535 → bad fit k ≡ true

@@ -1,0 +1,6 @@
+pub mod Hoists
+pub mod Walk
+pub mod Cutoffs
+pub mod HeightCutoffs
+pub mod ClaimsCutoff
+pub mod ClaimsHeights
