@@ -9,6 +9,7 @@ pub mod Joins
 pub mod Divided
 pub mod Parts
 pub mod Answers
+pub mod OneTable
 pub mod NoShape
 -- ---- the validator
 pub mod Either

@@ -2,12 +2,13 @@
 -- the writer's calls promise; a file is a list of bytes, which is what
 -- `Below 256` says. Assumes nothing.
 use Prim.Native.Nat.{ℕ, _≤_, _<_}
-use mathlib.Core.Path.{_≡_, sym, ap, _∙_}
+use mathlib.Core.Path.{_≡_, ap}
 use mathlib.Core.List.{List, _∷_, _++_}
 use mathlib.Core.Logic.{_⊎_}
 use lib.ListN.{length, take}
 use Rattle.meaning.specs.Reply.{refuse, broken, give}
 use Rattle.meaning.proofs.Replies.{same-answer}
+use Rattle.meaning.proofs.Unique.{once}
 use Rattle.histogram.specs.declared.reader.FileRead.{FileRead}
 use Rattle.histogram.specs.declared.reader.FileRead.the-variants.{Bins, Broken, Refused}
 use Rattle.histogram.specs.declared.number.Number.{Number}
@@ -37,7 +38,7 @@ accepted-holds file xs b e = round-trip.written-read file xs b e .holds
 
 -- no two files mean the same histogram
 pub one-file : (file other xs : List ℕ) → Below 256 file → Below 256 other → readOf file ≡ give xs → readOf other ≡ give xs → file ≡ other
-one-file file other xs b c e f = written-read file xs b e ∙ sym (written-read other xs c f)
+one-file file other xs b c e f = once (written-read file xs b e) (written-read other xs c f)
 
 -- ---- the place of a refusal is where the first number at fault starts, and a file without a fault is not refused
 pub refused-fault : (file : List ℕ) (place : ℕ) → Below 256 file → readOf file ≡ broken place → FirstFault file place

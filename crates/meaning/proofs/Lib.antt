@@ -6,4 +6,5 @@ pub mod Folds
 pub mod Rules
 pub mod Overs
 pub mod Says
+pub mod Unique
 pub mod Loops

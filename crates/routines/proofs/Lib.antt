@@ -15,6 +15,7 @@ pub mod ShapesLn
 pub mod Products
 pub mod Differences
 pub mod Rows
+pub mod Says
 pub mod Patterns
 pub mod Commutes
 pub mod Rounding
