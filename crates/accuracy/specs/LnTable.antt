@@ -1,7 +1,6 @@
 -- WHAT IS CLAIMED OF L in a row of ln's table, with no real number: it is the `f64` nearest to ln C - H.
 -- So ln C lies between H + the middle of L and its lower neighbour, and H + the middle of L and its upper one.
 -- Definitions only. Assumes nothing.
-use Prim.Native.Nat.{ℕ}
 use mathlib.Core.Bool.{true, false}
 use Rattle.entries.specs.Fractions.{Fraction, plus, valueOf, nextUp, nextDown, middle}
 use Rattle.entries.specs.LnTable.{Patterns}

@@ -20,10 +20,6 @@ and-first : (a b : Bool) → (a && b) ≡ true → a ≡ true
 and-first true b h = refl
 and-first false b h = absurd (false≢true h)
 
-and-none : (a : Bool) → (a && false) ≡ false
-and-none true = refl
-and-none false = refl
-
 module _ (bins : List ℕ) (frame : Frame) (lists : List Float) (room : ℕ) where
   abbrev valid : Run → Bool
   valid = validRun bins frame lists room

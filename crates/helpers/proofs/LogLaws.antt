@@ -1,4 +1,4 @@
--- What the layers above may use of `lse2` and `lse3`. Assumes nothing.
+-- What the layers above use of `lse3`. Assumes nothing.
 use mathlib.Core.Path.{_≡_, refl, sym, ap, _∙_}
 use mathlib.Core.Bool.{Bool, true, false, cond, true≢false}
 use lib.Dec.{T}
@@ -11,28 +11,9 @@ use Rattle.routines.specs.Ops.{_⊕_}
 use Rattle.routines.specs.Pick.{maxOf}
 use Rattle.routines.proofs.ShapesLn.{ln-fits, ln-not-minus-zero}
 use Rattle.routines.proofs.Zeros.{sum-minus-zero}
-use Rattle.helpers.specs.LogSums.{lse2Of, lse3Of, weightOf}
+use Rattle.helpers.specs.LogSums.{lse3Of, weightOf}
 
--- the value where the maximum is finite
-pub lse2-value : (a b : Float) → finite (maxOf a b) ≡ true → lse2Of a b ≡ maxOf a b ⊕ lnOf (weightOf a (maxOf a b) ⊕ weightOf b (maxOf a b))
-unfolding lse2Of
-lse2-value a b h = rw h
-
-pub lse3-value : (a b c : Float) → finite (maxOf (maxOf a b) c) ≡ true
-    → lse3Of a b c ≡ maxOf (maxOf a b) c ⊕ lnOf (weightOf a (maxOf (maxOf a b) c) ⊕ weightOf b (maxOf (maxOf a b) c) ⊕ weightOf c (maxOf (maxOf a b) c))
-unfolding lse3Of
-lse3-value a b c h = rw h
-
--- nothing added to nothing
-pub lse2-none : lse2Of (inf true) (inf true) ≡ inf true
-unfolding lse2Of maxOf lt
-lse2-none = refl
-
-pub lse3-none : lse3Of (inf true) (inf true) (inf true) ≡ inf true
-unfolding lse3Of maxOf lt
-lse3-none = refl
-
--- ---- lse3 of `f64` values is one, and never -0
+-- `lse3` of `f64` values is one, and never -0
 max-fits : (a b : Float) → T (fits binary64 a) → T (fits binary64 b) → T (fits binary64 (maxOf a b))
 unfolding maxOf
 max-fits nan b A B = B

@@ -1,5 +1,5 @@
 -- Laws of the shelf table: its length, one more entry, and that its last entry lies in the window. Assumes nothing.
-use mathlib.Core.Path.{_≡_, refl, sym, ap, _∙_, subst}
+use mathlib.Core.Path.{_≡_, refl, sym, ap, _∙_}
 use mathlib.Core.Bool.{Bool, true, false, cond, true≢false}
 use mathlib.Core.List.{List, [], _∷_, _++_}
 use Prim.Native.Nat.{ℕ, zero, suc, _+_, _-_, _*_, _/_, _^_, _≤_, _<_, min, zero-le}
@@ -14,7 +14,7 @@ use lib.Ieee.Fits.{down-pos}
 use Rattle.meaning.specs.Over.{over}
 use Rattle.meaning.specs.Reply.{refuse, give}
 use Rattle.meaning.proofs.Folds.{fold-more, fold-none}
-use Rattle.meaning.proofs.Overs.{over-next, over-length, over-none}
+use Rattle.meaning.proofs.Overs.{over-next, over-none}
 use Rattle.routines.specs.Ops.{_⊕_, ofCount}
 use Rattle.routines.specs.Pick.{minOf}
 use Rattle.routines.proofs.Counts.{count-is}
@@ -46,9 +46,6 @@ table-more n a b k held now v p h e =
     ∙ over-next (tableOf n a b k) held k v (table-length n a b k) h
     ∙ ap (λ (x : Float). over (tableOf n a b k ++ (x ∷ [])) held) e
     ∙ ap (λ (i : ℕ). over (tableOf n a b i) held) (sym (add-one k))
-
-pub table-room : (n a b : Float) (k : ℕ) (held now : List Float) → now ≡ over (tableOf n a b k) held → k ≤ length held → length now ≡ length held
-table-room n a b k held now p h = ap length p ∙ over-length (tableOf n a b k) held (subst (λ (i : ℕ). i ≤ length held) (sym (table-length n a b k)) h)
 
 -- ---- the last entry lies in the window
 -- what is not above a whole number is cut to one that is not above it either

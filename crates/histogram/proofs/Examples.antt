@@ -1,16 +1,12 @@
 -- Document 01's example, and the cases beside each limit, as the checker computes them. Assumes nothing.
 use mathlib.Core.Path.{_≡_, refl}
-use mathlib.Core.List.{List, [], _∷_}
-use Prim.Native.Nat.{ℕ, _-_, _^_}
+use mathlib.Core.List.{[], _∷_}
+use Prim.Native.Nat.{_-_, _^_}
 use lib.ListN.{replicate}
-use Rattle.meaning.specs.Reply.{Reply, broken, give}
+use Rattle.meaning.specs.Reply.{broken, give}
 use Rattle.histogram.specs.Number.{groupsOf, numberBytes, numbersBytes, takeByteOf}
 use Rattle.histogram.specs.File.{mostBins, rangeOf, nextOf, stepOf, stepsOf, endsOf, readOf, writeOf, reading, stopped, bins, form}
-
--- each file of a table is read as the table says
-abbrev Rows : List (List ℕ × Reply (List ℕ)) → Type 0
-Rows [] = Unit {0}
-Rows (row ∷ rows) = (readOf (row .0) ≡ row .1) × Rows rows
+use Rattle.histogram.specs.Claims.{Rows}
 
 reads : Rows (
     (0x01 ∷ 0x03 ∷ 0xAC ∷ 0x02 ∷ 0x00 ∷ 0x05 ∷ [], give (300 ∷ 0 ∷ 5 ∷ [])) ∷

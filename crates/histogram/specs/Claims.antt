@@ -4,7 +4,7 @@ use Prim.Native.Nat.{ℕ, zero, suc, _+_, _*_, _^_, _≤_, _<_}
 use mathlib.Core.Path.{_≡_}
 use mathlib.Core.List.{List, [], _∷_, _++_}
 use lib.ListN.{length}
-use Rattle.meaning.specs.Reply.{give}
+use Rattle.meaning.specs.Reply.{Reply, give}
 use Rattle.histogram.specs.Number.{Range, numberBytes, numbersBytes}
 use Rattle.histogram.specs.File.{mostBins, Stage, form, count, bins, rangeOf, nextOf, reading, stopped, stepsOf, readOf}
 
@@ -69,6 +69,11 @@ pub record Continues (file : List ℕ) : Type 0 where
   pub are : Below 256 bytes
   pub xs : List ℕ
   pub accepted : readOf (file ++ bytes) ≡ give xs
+
+-- each file of a table is read as the table says
+abbrev pub Rows : List (List ℕ × Reply (List ℕ)) → Type 0
+Rows [] = Unit {0}
+Rows (row ∷ rows) = (readOf (row .0) ≡ row .1) × Rows rows
 
 -- the reader has stopped
 pub record Stops (file : List ℕ) : Type 0 where

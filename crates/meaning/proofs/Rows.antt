@@ -27,12 +27,6 @@ Each P [] = Unit {0}
 Each P (n ∷ ns) = P n × Each P ns
 
 -- ---- 1
-pub few-passed : (ns : List ℕ) → 0 ≡ firstOf (few ns) → Each (λ (n : ℕ). 2 ≤ n) ns
-few-passed [] e = tt
-few-passed (n ∷ ns) e =
-    let both = parts (test (ltb n 2) 1 ∷ []) (few ns) refl e in
-    (ltb-false n 2 (test-passed (ltb n 2) 1 (omega arith) (both .0)), few-passed ns (both .1))
-
 pub few-clear : (ns : List ℕ) → Each (λ (n : ℕ). 2 ≤ n) ns → 0 ≡ firstOf (few ns)
 few-clear [] h = refl
 few-clear (n ∷ ns) h = rw (le-ltb n 2 (h .0)) (few-clear ns (h .1))

@@ -27,9 +27,3 @@ chain (test b n ∷ ts) r = unless b n (chain ts r)
 abbrev pub firstOf : List Test → ℕ
 firstOf [] = 0
 firstOf (test b n ∷ ts) = cond b n (firstOf ts)
-
--- the paper's number of a reply, and 0 for an answer
-abbrev pub numberOf : {A : Type 0} → Reply A → ℕ
-numberOf (refuse n) = n
-numberOf (broken place) = 3
-numberOf (give a) = 0

@@ -212,9 +212,6 @@ module _ (m : ℕ) (e : ℤ) (n : ℕ) (d : ℤ) where
   unfolding laterWins lt eq
   plus-minus = go (eqb first second) refl (eqb first 0) refl
     where
-      cut : (a b c : Bool) → (a && b) ≡ false → (a && b && c) ≡ false
-      cut a b c h = ap (λ (x : Bool). x && c) h
-
       go : (p : Bool) → eqb first second ≡ p → (q : Bool) → eqb first 0 ≡ q
           → (eqb first second && (false || eqb first 0) && not (lt (one ⊘ fin true n d) (one ⊘ fin false m e))) ≡ false
       go true h true k =

@@ -1,25 +1,21 @@
 -- What the layers above cite of floats and their units: one rounded addition of `f64` values that are not negative is
--- within 2 ^ -53 of its result of the exact sum, and is no less than either; and a comparison of values that are not
--- negative is that of their units.
--- Assumes nothing.
+-- within 2 ^ -53 of its result of the exact sum, and is no less than either. Assumes nothing.
 use mathlib.Core.Path.{_≡_, sym, ap, _∙_, subst}
-use mathlib.Core.Logic.{_↔_}
 use mathlib.Core.Bool.{false}
 use Prim.Native.Nat.{ℕ, _+_, _*_, _^_, _≤_, _<_}
 use native.Mathlib.Nat.{eq-of-mul-eq-mul-right, mul-le-mul-right}
 use native.Mathlib.Omega.{arith}
-use lib.Dec.{T}
-use lib.Ieee.{Float, nan, inf, fin, Format, binary64, low, down, round, add, lt, le}
+use lib.Ieee.{Float, nan, inf, fin, binary64, low, down, round, add}
 use lib.Ieee.Exact.{round-exact}
 use lib.Ieee.Fits.{add-fits, down-pos}
 use lib.Ieee.Order.{round-mono}
 use lib.Ieee.Scale.{overflow}
 use lib.Pow.{pow-pos}
-use Rattle.routines.specs.Units.{unitsIn, unitsOf, NonNegative, Within, Off}
+use Rattle.routines.specs.Units.{unitsOf, NonNegative, Within, Off}
 use Rattle.routines.proofs.Rounding.{rounded, rounded-back}
 use Rattle.routines.proofs.Sizes.{in-units}
 use Rattle.routines.proofs.Values.{Holds, has-units, holds-units, units-held, of-value, round-holds, add-holds}
-use Rattle.routines.proofs.Compared.{lt-is, le-is}
+use Rattle.routines.proofs.Compared.{le-is}
 
 -- what a value holds, rounded, is itself; so no more units are rounded to less
 least : (x : Float) (n : ℕ) → NonNegative binary64 x → unitsOf x ≤ n → n * 2 < overflow binary64
@@ -66,12 +62,3 @@ module _ (x y : Float) (p : NonNegative binary64 x) (q : NonNegative binary64 y)
     where
       first : (a b : ℕ) → a ≤ a + b
       first a b = omega arith
-
--- ---- THE ORDER
-pub lt-by-units : (f : Format) (x y : Float) → NonNegative f x → NonNegative f y
-    → T (lt x y) ↔ (unitsIn f x < unitsIn f y)
-lt-by-units f x y p q = lt-is f x y (unitsIn f x) (unitsIn f y) (holds-units f x p) (holds-units f y q)
-
-pub le-by-units : (f : Format) (x y : Float) → NonNegative f x → NonNegative f y
-    → T (le x y) ↔ (unitsIn f x ≤ unitsIn f y)
-le-by-units f x y p q = le-is f x y (unitsIn f x) (unitsIn f y) (holds-units f x p) (holds-units f y q)
