@@ -7,6 +7,5 @@ pub mod HoleCutoffs
 pub mod HeightCutoffs
 pub mod Crossings
 pub mod Floors
-pub mod Cases
 pub mod Witnesses
 pub mod Says

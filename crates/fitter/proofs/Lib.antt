@@ -18,5 +18,3 @@ pub mod Verdicts
 pub mod Replaced
 pub mod Lower
 pub mod Selecting
--- ---- document 01's cases
-pub mod Cases

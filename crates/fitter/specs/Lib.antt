@@ -7,4 +7,3 @@ pub mod Validation
 pub mod Attempts
 pub mod Selection
 pub mod Outcomes
-pub mod Cases

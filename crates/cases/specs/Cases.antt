@@ -1,17 +1,21 @@
--- Document 01's cases marked P as one table: its rows, and what a row says of the calls. Definitions only. Assumes nothing.
+-- Document 01's cases marked P as one table: its rows, and what a row says of the definitions that the contracts cite.
+-- Definitions only. Assumes nothing.
 use Prim.Native.Nat.{ℕ}
 use mathlib.Core.Path.{_≡_}
 use mathlib.Core.Bool.{Bool, true, false, cond}
 use mathlib.Core.List.{List, [], _∷_}
-use lib.Ieee.{Float}
+use mathlib.Core.Option.{Option, none, some}
+use lib.ListN.{getD}
+use lib.Ieee.{Float, nan}
 use Rattle.meaning.specs.Reply.{give}
 use Rattle.routines.specs.Constants.{one}
 use Rattle.routines.specs.Starts.{dec}
+use Rattle.cutoffs.specs.Walk.{walkOf}
 use Rattle.fitter.specs.Attempts.{validOf}
 use Rattle.fitter.specs.Recovering.{recoverBinsOf}
 use Rattle.fitter.specs.Selection.{chosen, selectOf}
 use Rattle.fitter.specs.Shares.{shelfShareOf}
 use Rattle.fitter.specs.declared.attempts.FitAttempt.{FitAttempt}
 
 abbrev pub Each : {A : Type 0} → (A → Type 0) → List A → Type 0
 Each P [] = Unit {0}
@@ -35,6 +39,16 @@ shareRows =
     ∷ (10 ∷ 4 ∷ 2 ∷ 6 ∷ 8 ∷ 6 ∷ [], 3, 5, dec 1 100)
     ∷ []
 
+-- ---- walk over four probabilities with ceiling 4: the allowed share, and the cutoff
+abbrev pub probabilities : ℕ → Float
+probabilities c = getD (dec 125 1000 ∷ dec 125 1000 ∷ dec 25 100 ∷ dec 25 100 ∷ []) c nan
+
+abbrev pub walks : Float × Option ℕ → Type 0
+walks row = walkOf probabilities (row .0) 4 ≡ row .1
+
+abbrev pub walkRows : List (Float × Option ℕ)
+walkRows = (dec 1 10, some 2) ∷ (dec 25 100, some 2) ∷ (dec 5 10, some 3) ∷ (dec 1 1, none) ∷ []
+
 -- ---- selection of two: their BICs, and whether the second is taken
 abbrev pub selects : Float × Float × Bool → Type 0
 selects row =
@@ -44,6 +58,6 @@ selects row =
 abbrev pub selectionRows : List (Float × Float × Bool)
 selectionRows = (dec 100 1, dec 9999999995 100000000, false) ∷ (dec 100 1, dec 999999 10000, true) ∷ []
 
--- the walk's rows join them with the cutoffs
+-- ---- all thirteen
 abbrev pub Table : Type 0
-Table = Each recovers recoveredRows × Each shares shareRows × Each selects selectionRows
+Table = Each recovers recoveredRows × Each shares shareRows × Each walks walkRows × Each selects selectionRows
