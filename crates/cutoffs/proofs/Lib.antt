@@ -9,3 +9,4 @@ pub mod Crossings
 pub mod Floors
 pub mod Witnesses
 pub mod Says
+pub mod Slips

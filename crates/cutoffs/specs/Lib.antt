@@ -1,5 +1,6 @@
 pub mod Hoists
 pub mod Walk
+pub mod Slips
 pub mod Cutoffs
 pub mod HeightCutoffs
 pub mod ClaimsCutoff
