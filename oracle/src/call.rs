@@ -4,7 +4,7 @@ use crate::draw::Draw;
 use crate::tally::{Distance, Row, Tally};
 use crate::words::float;
 
-/// What each call must reach in all.
+/// What a call must reach in all, where it says nothing else.
 pub const EACH_CALL: u64 = 1_000_000;
 
 #[derive(Clone, Copy, PartialEq)]
@@ -67,6 +67,8 @@ pub struct Call {
     pub name: &'static str,
     pub arguments: &'static [(&'static str, Kind)],
     pub answer: Answer,
+    /// How many inputs it must reach in all.
+    pub inputs: u64,
     pub ordinary: fn(&mut Draw) -> Vec<u64>,
     pub own: Vec<Own>,
     pub ours: Program,
@@ -208,13 +210,13 @@ impl Call {
             strata.push(Stratum { ordinary: own.ordinary, long: own.long, ..stratum });
         }
         let rest: u64 = strata.iter().map(|s| s.wanted).sum();
-        let ordinary = Stratum::new("ordinary", EACH_CALL.saturating_sub(rest).max(200_000), self.ordinary, |_| true);
+        let ordinary = Stratum::new("ordinary", self.inputs.saturating_sub(rest).max(self.inputs / 5), self.ordinary, |_| true);
         strata.insert(0, Stratum { ordinary: true, ..ordinary });
         strata
     }
 
     /// Each input of a stratum in turn, as long as `each` asks for more.
-    fn inputs(&self, stratum: &Stratum, mut each: impl FnMut(&[u64]) -> bool) {
+    fn each_input(&self, stratum: &Stratum, mut each: impl FnMut(&[u64]) -> bool) {
         let mut draw = Draw::named(&format!("{}, {}", self.name, stratum.name));
         for _ in 0..4 * stratum.wanted {
             let input = (stratum.draw)(&mut draw);
@@ -228,9 +230,9 @@ impl Call {
     pub fn compare(&self, tally: &mut Tally, part: u64) {
         for stratum in self.strata() {
             let wanted = stratum.wanted.div_ceil(part);
-            let mut row = Row::new(self.name, &stratum.name, self.answer, wanted);
+            let mut row = Row::new(self, &stratum.name, wanted);
             let mut distance = Distance::new(self.name, &stratum.name);
-            self.inputs(&stratum, |input| {
+            self.each_input(&stratum, |input| {
                 if (self.open)(input) {
                     row.open += 1;
                     return true;
@@ -253,7 +255,7 @@ impl Call {
         for stratum in self.strata().into_iter().filter(|stratum| !stratum.long) {
             let mut kept = 0;
             text += &format!("# {}: {}\n", self.name, stratum.name);
-            self.inputs(&stratum, |input| {
+            self.each_input(&stratum, |input| {
                 if (self.open)(input) {
                     return true;
                 }

@@ -1,6 +1,6 @@
 //! Layer 1: the four routines against docs/ROUTINES.md, the rest against Rust's std.
 
-use crate::call::{own, Answer, Call, Kind, Kind::*, Own};
+use crate::call::{own, Answer, Call, Kind, Kind::*, Own, EACH_CALL};
 use crate::draw::Draw;
 use crate::words::{bits, float};
 use crate::{port, written};
@@ -18,7 +18,19 @@ fn plain(
     ours: fn(&[u64]) -> Vec<u64>,
     theirs: fn(&[u64]) -> Vec<u64>,
 ) -> Call {
-    Call { number, name, arguments, answer: Answer::Floats, ordinary, own: vec![], ours, theirs, unaltered: None, open: |_| false }
+    Call {
+        number,
+        name,
+        arguments,
+        answer: Answer::Floats,
+        inputs: EACH_CALL,
+        ordinary,
+        own: vec![],
+        ours,
+        theirs,
+        unaltered: None,
+        open: |_| false,
+    }
 }
 
 pub fn calls() -> Vec<Call> {

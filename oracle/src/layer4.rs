@@ -1,6 +1,13 @@
 //! Layer 4 against spectrum_fitter.rs, with the port's four routines in it, and against document 01's validator.
 
+mod attempt_arguments;
+mod attempt_refusals;
+mod attempt_strata;
+mod attempts;
+mod attempts_port;
 pub mod read_back;
+mod run_table;
+mod searched;
 mod selection;
 mod spectra;
 mod starts;
@@ -8,13 +15,15 @@ mod tables;
 mod validator;
 mod verdicts;
 
+pub use run_table::{Run, RunTable};
 pub use starts::Search;
 
-use crate::call::{Answer, Call, Kind};
+use crate::call::{Answer, Call, Kind, EACH_CALL};
 use crate::draw::Draw;
 
 pub fn calls() -> Vec<Call> {
-    [spectra::calls(), tables::calls(), starts::calls(), verdicts::calls(), selection::calls()].into_iter().flatten().collect()
+    let first = [spectra::calls(), tables::calls(), starts::calls(), verdicts::calls()];
+    first.into_iter().chain([selection::calls(), attempts::calls()]).flatten().collect()
 }
 
 fn call(
@@ -26,5 +35,5 @@ fn call(
     ours: fn(&[u64]) -> Vec<u64>,
     theirs: fn(&[u64]) -> Vec<u64>,
 ) -> Call {
-    Call { number, name, arguments, answer, ordinary, own: vec![], ours, theirs, unaltered: None, open: |_| false }
+    Call { number, name, arguments, answer, inputs: EACH_CALL, ordinary, own: vec![], ours, theirs, unaltered: None, open: |_| false }
 }

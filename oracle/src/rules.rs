@@ -1,6 +1,7 @@
 //! The port's own rules, which the Rust lacks: document 01's refusals, the lowest number first.
 
 use crate::layer3::Problem;
+use crate::layer4::{Run, RunTable};
 
 /// A window end above 65,535, and one of 0.
 pub fn window(top: u64) -> Option<u64> {
@@ -56,6 +57,27 @@ pub fn of_a_fit(p: &Problem) -> [(u64, bool); 7] {
         (6, in_window.into_iter().all(|&n| recovered(n, used(p.scale)) == 0)),
         (7, p.theta.len() != list_length(p.weibull(), p.with_shelf())),
         (10, p.with_shelf() && p.table.len() as u64 <= end),
+    ]
+}
+
+/// What an attempt takes: 1, 2, 4, 5, 6, 7, 9 and 10, and whether each applies. 7 and 9 speak of converged runs alone; a list that does not
+/// lie in the lent numbers has the wrong length.
+pub fn of_an_attempt(t: &RunTable) -> [(u64, bool); 8] {
+    let p = &t.problem;
+    let [(_, few), (_, many), zero, outside, none, _, short] = of_a_fit(p);
+    let length = list_length(p.weibull(), p.with_shelf()) as u64;
+    let runs = t.runs();
+    let converged = |bad: &dyn Fn(&Run) -> bool| runs.iter().any(|run| run.converged && bad(run));
+    let lies = |run: &Run| run.place.checked_add(run.length).is_some_and(|end| end <= p.theta.len() as u64);
+    [
+        (1, few || t.valley < 2),
+        (2, many || t.valley > 65_535 || runs.len() > 65_535),
+        zero,
+        outside,
+        none,
+        (7, converged(&|run| run.length != length || !lies(run))),
+        (9, converged(&|run| !run.cost.is_finite() || run.cost <= 0.0) || !t.mass_limit.is_finite() || t.mass_limit < 1.0),
+        short,
     ]
 }
 

@@ -13,11 +13,20 @@ const SHAPES: [(f64, f64); 2] = [(0.5, 3.0), (0.75, 4.0)];
 const STEP: f64 = 0.5;
 const SPREAD: f64 = 1e-4;
 
-/// One of the starts over a problem's spectrum; the valley is taken at a third of the peak.
-pub fn start(d: &mut Draw, p: &Problem) -> Vec<f64> {
+/// The valley is taken at a third of the peak.
+pub fn valley(p: &Problem) -> u64 {
+    (p.peak / 3).max(2)
+}
+
+/// The starts over a problem's spectrum.
+pub fn starts(d: &mut Draw, p: &Problem) -> Vec<Vec<f64>> {
     let (mixture, hint) = (mixture(p), d.between(1.1, 6.0));
-    let share = empirical_shelf_share(&p.bins, (p.peak / 3).max(2) as usize, p.peak as usize);
-    let starts = fit_starts(&mixture, hint, share, &SEEDS, &SHAPES, None);
+    let share = empirical_shelf_share(&p.bins, valley(p) as usize, p.peak as usize);
+    fit_starts(&mixture, hint, share, &SEEDS, &SHAPES, None)
+}
+
+pub fn start(d: &mut Draw, p: &Problem) -> Vec<f64> {
+    let starts = starts(d, p);
     starts[d.below(starts.len() as u64) as usize].clone()
 }
 
@@ -31,7 +40,7 @@ pub fn problem(d: &mut Draw, error: u8, genome: u8, window_end: u64) -> Problem 
     p
 }
 
-type Point = (f64, Vec<f64>);
+pub type Point = (f64, Vec<f64>);
 
 struct Simplex<F> {
     cost: F,
@@ -40,6 +49,20 @@ struct Simplex<F> {
 }
 
 impl<F: FnMut(&[f64]) -> f64> Simplex<F> {
+    /// The start, and it with each coordinate a step on.
+    fn around(start: &[f64], cost: F) -> Simplex<F> {
+        let mut simplex = Simplex { cost, points: vec![], visited: vec![] };
+        for i in 0..=start.len() {
+            let mut point = start.to_vec();
+            if i > 0 {
+                point[i - 1] += STEP;
+            }
+            let point = simplex.visit(point);
+            simplex.points.push(point);
+        }
+        simplex
+    }
+
     fn visit(&mut self, point: Vec<f64>) -> Point {
         let visited = ((self.cost)(&point), point);
         self.visited.push(visited.clone());
@@ -99,18 +122,29 @@ impl<F: FnMut(&[f64]) -> f64> Simplex<F> {
 
 /// Every point that the search from `start` asks the cost of, in order, with the cost: to its end, or the first so many.
 pub fn path(start: &[f64], most: usize, cost: impl FnMut(&[f64]) -> f64) -> Vec<Point> {
-    let mut simplex = Simplex { cost, points: vec![], visited: vec![] };
-    for i in 0..=start.len() {
-        let mut point = start.to_vec();
-        if i > 0 {
-            point[i - 1] += STEP;
-        }
-        let point = simplex.visit(point);
-        simplex.points.push(point);
-    }
+    let mut simplex = Simplex::around(start, cost);
     while simplex.visited.len() < most && !(simplex.spread() < SPREAD) {
         simplex.step();
     }
     simplex.visited.truncate(most);
     simplex.visited
+}
+
+/// A search from its start to its end: the best point where the costs came together on a finite one above 0, and how long it ran.
+pub struct Outcome {
+    pub converged: Option<Point>,
+    pub iterations: u64,
+    pub capped: bool,
+}
+
+pub fn run(start: &[f64], most: u64, cost: impl FnMut(&[f64]) -> f64) -> Outcome {
+    let mut simplex = Simplex::around(start, cost);
+    let mut iterations = 0;
+    while iterations < most && !(simplex.spread() < SPREAD) {
+        simplex.step();
+        iterations += 1;
+    }
+    let together = simplex.spread() < SPREAD;
+    let best = simplex.points.into_iter().min_by(|a, b| a.0.total_cmp(&b.0)).filter(|best| best.0.is_finite() && best.0 > 0.0);
+    Outcome { converged: best.filter(|_| together), iterations, capped: !together }
 }

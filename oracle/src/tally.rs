@@ -1,13 +1,15 @@
 //! What was compared: a row for each call and stratum; and how far the unaltered Rust is away.
 
-use crate::call::{Answer, EACH_CALL};
+use crate::call::{Answer, Call};
 use crate::words::is_finite;
 
 pub struct Row {
     call: &'static str,
     stratum: String,
     answer: Answer,
+    /// Of the stratum, and of the call in all.
     wanted: u64,
+    inputs: u64,
     pub comparisons: u64,
     finite: u64,
     differences: u64,
@@ -26,12 +28,13 @@ fn hex(words: &[u64]) -> String {
 }
 
 impl Row {
-    pub fn new(call: &'static str, stratum: &str, answer: Answer, wanted: u64) -> Row {
+    pub fn new(call: &Call, stratum: &str, wanted: u64) -> Row {
         Row {
-            call,
+            call: call.name,
             stratum: stratum.into(),
-            answer,
+            answer: call.answer,
             wanted,
+            inputs: call.inputs,
             comparisons: 0,
             finite: 0,
             differences: 0,
@@ -239,7 +242,8 @@ impl Tally {
                 faults.push(format!("{}: not reached, {} of {}", row.name(), row.comparisons, row.wanted));
             }
         }
-        let short = self.calls().into_iter().filter(|call| self.comparisons(call) < EACH_CALL / part);
+        let wanted = |call: &str| self.of(call).next().expect("a call has strata").inputs;
+        let short = self.calls().into_iter().filter(|call| self.comparisons(call) < wanted(call) / part);
         faults.extend(short.map(|call| format!("{call}: {} comparisons are too few", self.comparisons(call))));
         faults.extend(self.hollow.iter().map(|name| format!("{name}: fewer than half of the answers are finite")));
         faults

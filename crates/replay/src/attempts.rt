@@ -29,7 +29,7 @@ pub(crate) const SELECT_FIT: u64 = 104;
 
 // ---- reasons by their numbers
 
-fn reason_number(why: FitRejection) -> u64 {
+pub(crate) fn reason_number(why: FitRejection) -> u64 {
     match why {
         FitRejection::OptimisationFailed => 0,
         FitRejection::NonFiniteLikelihood => 1,

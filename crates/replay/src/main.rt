@@ -10,6 +10,7 @@ mod layer3;
 mod lent;
 mod row;
 mod rows;
+mod run_tables;
 mod shapes;
 mod slices;
 mod spectra;

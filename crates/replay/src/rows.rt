@@ -11,6 +11,7 @@ use crate::layer3;
 use crate::lent;
 use crate::row;
 use crate::row::Row;
+use crate::run_tables;
 use crate::slices;
 use crate::spectra;
 use crate::starts;
@@ -67,6 +68,7 @@ fn holds(row: &[u64]) -> bool {
         spectra::RECOVER_BINS | spectra::EMPIRICAL_SHELF_SHARE => spectra::holds(r, row),
         starts::START_TABLES_REFUSAL..=starts::FIT_STARTS_LENT => starts::holds(r, row),
         attempts::VALIDATE_FIT..=attempts::SELECT_FIT => attempts::holds(call, row),
+        run_tables::ATTEMPT_FROM_NUMBERS => run_tables::holds(r, row),
         _ => agrees(answer(r), row),
     }
 }

@@ -95,7 +95,7 @@ impl Problem {
     }
 
     /// A start of document 01 with noise.
-    fn list(&self, d: &mut Draw) -> Vec<f64> {
+    pub fn list(&self, d: &mut Draw) -> Vec<f64> {
         let mut list = vec![d.between(-4.0, 4.0), d.between(-6.0, 2.0), d.between(-4.0, 4.0), d.between(-8.0, 2.0)];
         let error: &[f64] = if self.weibull() { &d.pick(&WEIBULL) } else { &d.pick(&PARETO) };
         list.extend(error.iter().map(|x| x + d.between(-1.0, 1.0)));

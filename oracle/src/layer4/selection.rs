@@ -1,5 +1,6 @@
 //! Attempts, and the fit that is selected out of four.
 
+use super::attempts::linked::REASONS;
 use super::call;
 use crate::call::{own, Answer, Call, Kind, Kind::*, Own};
 use crate::draw::Draw;
@@ -13,8 +14,8 @@ const ONE: &[(&str, Kind)] = &[("attempt", Other)];
 const FOUR: &[(&str, Kind)] = &[("attempts", Other)];
 
 /// An attempt in words: two families, three of presence and reason, iterations, capped starts, and the candidate.
-const BEFORE: usize = 7;
-const ATTEMPT: usize = BEFORE + FIT;
+pub const BEFORE: usize = 7;
+pub const ATTEMPT: usize = BEFORE + FIT;
 const HELD: usize = 2;
 const REJECTED: usize = 3;
 const REASON: usize = 4;
@@ -83,20 +84,7 @@ fn bound(best: f64, next: f64) -> f64 {
 // ---- the two programs
 
 fn reason(word: u64) -> FitRejection {
-    use FitRejection::*;
-    match word {
-        1 => NonFiniteLikelihood,
-        2 => InvalidComponents,
-        3 => InvalidWindowMass,
-        4 => ComponentMassExceeded,
-        5 => UnstableModeParameterisation,
-        6 => GenomeLobeOutsideFitWindow,
-        7 => ErrorModePastValley,
-        8 => PrimaryModeOutsideBand,
-        9 => RepeatModeTooEarly,
-        10 => PositiveLogLikelihood,
-        _ => OptimisationFailed,
-    }
+    REASONS.get(word as usize).copied().unwrap_or(FitRejection::OptimisationFailed)
 }
 
 fn theirs(w: &[u64]) -> FitAttempt {

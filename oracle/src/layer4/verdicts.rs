@@ -1,7 +1,7 @@
 //! The validator: a fit, the mass limit, the valley and the peak.
 
 use super::call;
-use super::validator::{refusals, rules as apply};
+use super::validator::{first, linked::rules as apply, refusals};
 use crate::call::{own, Answer, Call, Kind, Kind::*, Own};
 use crate::draw::Draw;
 use crate::layer3::fits::fit_and;
@@ -157,11 +157,6 @@ fn refused(w: &[u64]) -> [(u64, bool); 4] {
 
 fn applied(w: &[u64]) -> [bool; 10] {
     apply(&side::fit(w), w[VALLEY], w[PEAK], float(w, LIMIT))
-}
-
-/// The first rule that applies, and 0 for none.
-fn first(applies: [bool; 10]) -> u64 {
-    applies.iter().position(|&holds| holds).map_or(0, |i| i as u64 + 1)
 }
 
 fn written(w: &[u64]) -> Vec<u64> {

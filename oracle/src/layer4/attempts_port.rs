@@ -1,0 +1,74 @@
+//! The port's attempts over a run table, through its C interface.
+
+use super::RunTable;
+use crate::port::Attempt;
+
+#[repr(C)]
+pub struct AttemptAnswer {
+    pub number: u8,
+    pub attempt: Attempt,
+}
+
+extern "C" {
+    fn fog_attempt_from_numbers(
+        bins: *const u32,
+        bins_length: usize,
+        scale: f64,
+        window_end: usize,
+        valley: usize,
+        peak: usize,
+        error: u8,
+        genome: u8,
+        mass_limit: f64,
+        converged: *const bool,
+        converged_length: usize,
+        costs: *const f64,
+        costs_length: usize,
+        places: *const u64,
+        places_length: usize,
+        lengths: *const u64,
+        lengths_length: usize,
+        iterations: *const u64,
+        iterations_length: usize,
+        caps: *const bool,
+        caps_length: usize,
+        lists: *const f64,
+        lists_length: usize,
+        table: *mut f64,
+        room: usize,
+    ) -> AttemptAnswer;
+}
+
+/// The shelf's table is lent apart from the run table.
+pub fn attempt_from_numbers(t: &RunTable, table: &mut [f64]) -> AttemptAnswer {
+    let (p, room) = (&t.problem, table.len());
+    unsafe {
+        fog_attempt_from_numbers(
+            p.bins.as_ptr(),
+            p.bins.len(),
+            p.scale,
+            p.window_end as usize,
+            t.valley as usize,
+            p.peak as usize,
+            p.error,
+            p.genome,
+            t.mass_limit,
+            t.converged.as_ptr(),
+            t.converged.len(),
+            t.costs.as_ptr(),
+            t.costs.len(),
+            t.places.as_ptr(),
+            t.places.len(),
+            t.lengths.as_ptr(),
+            t.lengths.len(),
+            t.iterations.as_ptr(),
+            t.iterations.len(),
+            t.caps.as_ptr(),
+            t.caps.len(),
+            p.theta.as_ptr(),
+            p.theta.len(),
+            table.as_mut_ptr(),
+            room,
+        )
+    }
+}
