@@ -97,9 +97,7 @@ static void numbered(fog_number answer) {
     real(answer.value);
 }
 
-static void fitted(fog_fit_answer answer) {
-    const fog_fit *f = &answer.fit;
-    whole(answer.number);
+static void candidate(const fog_fit *f) {
     whole(f->error_model);
     whole(f->genome_model);
     whole(f->error_params.shape_present);
@@ -116,6 +114,11 @@ static void fitted(fog_fit_answer answer) {
     reals(f->component_log_totals, 3);
     real(f->observed_total);
     real(f->full_distinct_total);
+}
+
+static void fitted(fog_fit_answer answer) {
+    whole(answer.number);
+    candidate(&answer.fit);
 }
 
 /* ---- the calls, by the oracle's numbers */
@@ -151,6 +154,49 @@ static void unpack(void) {
     fitted(fog_unpack(bins, row[b], number(1), row[4], row[5], (uint8_t)row[6], (uint8_t)row[7], theta, row[8], number(2), row[3], table,
                       row[t]));
     reals(table, row[t]);
+}
+
+static double costs[ENTRIES];
+static bool converged[ENTRIES], caps[ENTRIES];
+static size_t places[ENTRIES], lengths[ENTRIES];
+static uint64_t iterations[ENTRIES];
+
+static size_t flags(size_t i, bool *entries) {
+    for (size_t k = 0; k < row[i]; k++) entries[k] = row[i + 1 + k] != 0;
+    return i + 1 + row[i];
+}
+
+static size_t sizes(size_t i, size_t *entries) {
+    for (size_t k = 0; k < row[i]; k++) entries[k] = row[i + 1 + k];
+    return i + 1 + row[i];
+}
+
+static size_t counts(size_t i, uint64_t *entries) {
+    memcpy(entries, &row[i + 1], row[i] * sizeof *entries);
+    return i + 1 + row[i];
+}
+
+/* Scale, valley, limit, a problem whose list holds the numbers of all lists, six columns; then the attempt, and the table from where it stands. */
+static void attempt_from_numbers(void) {
+    size_t b, t;
+    const size_t first = problem(4, &b, &t), second = flags(first, converged), third = floats(second, costs), fourth = sizes(third, places);
+    const size_t fifth = sizes(fourth, lengths), sixth = counts(fifth, iterations);
+    at = flags(sixth, caps);
+    const fog_attempt_answer answer = fog_attempt_from_numbers(
+        bins, row[b], number(1), row[4], row[2], row[5], (uint8_t)row[6], (uint8_t)row[7], number(3), converged, row[first], costs, row[second],
+        places, row[third], lengths, row[fourth], iterations, row[fifth], caps, row[sixth], theta, row[8], table, row[t]);
+    const fog_attempt *a = &answer.attempt;
+    const size_t stands = answer.number == 0 && row[7] != 0 ? row[4] + 1 : 0;
+    whole(answer.number);
+    whole(a->error_model);
+    whole(a->genome_model);
+    whole(a->has_candidate);
+    whole(a->rejection_present);
+    whole(a->rejection);
+    whole(a->total_iterations);
+    whole(a->capped_starts);
+    candidate(&a->candidate);
+    reals(table + stands, row[t] - stands);
 }
 
 static void heights(void) {
@@ -217,6 +263,7 @@ static int called(void) {
     case 89: return whole(fog_extra_parameters((uint8_t)row[1])), 1;
     case 90: return at = 3, whole(fog_list_length((uint8_t)row[1], (uint8_t)row[2])), 1;
     case 91: return at = 1 + FIT_WORDS, cutoff(fog_error_floor_cutoff(fit(1))), 1;
+    case 105: return attempt_from_numbers(), 1;
     default: return 0;
     }
 }
