@@ -44,13 +44,34 @@ pub fn changed(change: impl Fn(&mut Draw, &mut RunTable) + 'static) -> impl Fn(&
 
 // ---- which run is kept
 
-/// Costs of two values, or of one.
-fn level(d: &mut Draw) -> RunTable {
-    let mut t = RunTable::ordinary(d);
-    let costs = [d.octaves(4, 12), d.octaves(4, 12)];
-    let one = d.one_in(2);
-    t.costs.iter_mut().for_each(|cost| *cost = if one { costs[0] } else { d.pick(&costs) });
+/// Dispersions for which a list is always rejected, in some of the lists.
+fn some_rejected(d: &mut Draw) -> RunTable {
+    let (error, genome, runs) = (d.family(), d.family(), 2 + d.below(4));
+    let mut t = RunTable::of(d, error, genome, runs);
+    for run in t.runs() {
+        if d.one_in(2) {
+            t.problem.theta[run.place as usize + 3] = d.between(37.5, 42.0);
+        }
+    }
     t
+}
+
+/// By any of the rules.
+fn all_rejected(d: &mut Draw) -> RunTable {
+    let rule = 1 + d.below(8);
+    let runs = 2 + d.below(2);
+    turned_away(d, rule, runs)
+}
+
+/// Costs of two values, or of one.
+fn level(of: fn(&mut Draw) -> RunTable) -> impl Fn(&mut Draw) -> RunTable {
+    move |d| {
+        let mut t = of(d);
+        let costs = [d.octaves(4, 12), d.octaves(4, 12)];
+        let one = !d.one_in(4);
+        t.costs.iter_mut().for_each(|cost| *cost = if one { costs[0] } else { d.pick(&costs) });
+        t
+    }
 }
 
 /// Totals beyond the limit, and some shelves that are none.
@@ -79,20 +100,22 @@ fn kept() -> Vec<Own> {
     let valid = |run: &Judged| run.rule == 0;
     vec![
         passed("the least run valid", 2_000, RunTable::ordinary, move |t| ranked(t).first().is_some_and(valid)),
-        passed("the least rejected, a later one valid", 2_000, RunTable::ordinary, move |t| {
+        passed("the least rejected, a later one valid", 2_000, some_rejected, move |t| {
             let ranked = ranked(t);
             ranked.first().is_some_and(|run| run.rule > 0) && ranked.iter().any(valid)
         }),
-        passed("all rejected", 1_000, RunTable::ordinary, move |t| {
+        passed("all rejected", 1_000, all_rejected, move |t| {
             let ranked = ranked(t);
             !ranked.is_empty() && !ranked.iter().any(valid)
         }),
-        passed("a tie of valid runs", 1_000, level, move |t| tied(t, |run| run.rule == 0).iter().filter(|&&rule| rule == 0).count() > 1),
-        passed("a tie of a rejected run and a later valid one", 1_000, level, move |t| {
+        passed("a tie of valid runs", 1_000, level(RunTable::ordinary), move |t| {
+            tied(t, |run| run.rule == 0).iter().filter(|&&rule| rule == 0).count() > 1
+        }),
+        passed("a tie of a rejected run and a later valid one", 1_000, level(some_rejected), move |t| {
             let tied = tied(t, |run| run.rule == 0);
             tied.len() > 1 && tied[0] > 0
         }),
-        passed("a tie of rejected runs, none valid", 1_000, level, move |t| {
+        passed("a tie of rejected runs, none valid", 1_000, level(all_rejected), move |t| {
             !ranked(t).iter().any(valid) && tied(t, |run| run.rule > 0).len() > 1
         }),
         passed("a tie of runs rejected for two reasons, none valid", 500, two_reasons, move |t| {
@@ -147,7 +170,10 @@ fn turn_away(d: &mut Draw, t: &mut RunTable, rule: u64) {
             t.mass_limit = d.octaves(200, 1000);
             t.put_entry(3, || d.between(37.5, 42.0));
         }
-        6 => t.problem.peak = t.problem.window_end + 2 + d.below(9),
+        6 => {
+            t.mass_limit = d.octaves(200, 1000);
+            t.problem.peak = t.problem.window_end * 3 / 2 + 2 + d.below(9);
+        }
         7 => {
             t.valley = 2;
             t.put_entry(4, || d.between(-5.0, -3.0));
@@ -163,18 +189,20 @@ fn turn_away(d: &mut Draw, t: &mut RunTable, rule: u64) {
 }
 
 /// Rule 3 takes a window that holds a whole lobe.
-fn turned_away(rule: u64) -> impl Fn(&mut Draw) -> RunTable {
-    move |d| {
-        let (error, genome, runs) = (if rule == 7 { 0 } else { d.family() }, u8::from(rule == 2) | d.family(), 1 + d.below(3));
-        let window_end = if rule == 3 { 40 + d.below(20) } else { d.window() };
-        RunTable::to(d, error, genome, window_end, runs).then(|t| turn_away(d, t, rule))
-    }
+fn turned_away(d: &mut Draw, rule: u64, runs: u64) -> RunTable {
+    let (error, genome) = (if rule == 7 { 0 } else { d.family() }, u8::from(rule == 2) | d.family());
+    let window_end = if rule == 3 { 40 + d.below(20) } else { d.window() };
+    RunTable::to(d, error, genome, window_end, runs).then(|t| turn_away(d, t, rule))
 }
 
 fn reasons() -> Vec<Own> {
     (1..=8)
         .map(|rule: u64| {
-            passed(&format!("all rejected, the least by rule {rule}"), 500, turned_away(rule), move |t| {
+            let draw = move |d: &mut Draw| {
+                let runs = 1 + d.below(2);
+                turned_away(d, rule, runs)
+            };
+            passed(&format!("all rejected, the least by rule {rule}"), 500, draw, move |t| {
                 let ranked = ranked(t);
                 ranked.first().is_some_and(|run| run.rule == rule) && ranked.iter().all(|run| run.rule > 0)
             })
