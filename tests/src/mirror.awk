@@ -1,6 +1,7 @@
-# Writes the #[repr(C)] structs and the C functions of src/ again in C, to be compiled behind fogatise.h. The struct FlatFitAnswer is
-# fog_fit_answer in the header: it is laid out a second time, and static assertions hold sizes, and the place and the type of each field by
-# its name, against the header's. A function is declared a second time, which a C compiler refuses where its type is another.
+# Writes the #[repr(C)] structs and the C functions of some Rattle or Rust text again in C, to be compiled behind fogatise.h.
+# The struct FlatFitAnswer of src/, and FitAnswer of the Rust wrapper, is fog_fit_answer in the header: it is laid out a second time, and
+# static assertions hold sizes, and the place and the type of each field by its name, against the header's. A function is declared a second
+# time, which a C compiler refuses where its type is another.
 function flat(name) {
     sub(/^Flat/, "", name)
     gsub(/[A-Z]/, "_&", name)
