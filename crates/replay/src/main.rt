@@ -1,7 +1,6 @@
 // Replays the sample of the oracle's answers on standard input, and says how many rows it read and how many the port
 // answers otherwise.
 mod answers;
-mod attempts;
 mod cutoff_rows;
 mod fits;
 mod layer1;
@@ -15,6 +14,7 @@ mod shapes;
 mod slices;
 mod spectra;
 mod starts;
+mod verdict_rows;
 mod words;
 
 use libc::STDIN_FILENO;

@@ -2,7 +2,6 @@
 // starts with # is a comment.
 use crate::answers::Answer;
 use crate::answers::agrees;
-use crate::attempts;
 use crate::cutoff_rows;
 use crate::fits;
 use crate::layer1;
@@ -15,6 +14,7 @@ use crate::run_tables;
 use crate::slices;
 use crate::spectra;
 use crate::starts;
+use crate::verdict_rows;
 use crate::words::digit;
 
 // Where the replay stands: the word of the row that is being read, whether the row is a comment or has a byte that no
@@ -67,7 +67,7 @@ fn holds(row: &[u64]) -> bool {
         }
         spectra::RECOVER_BINS | spectra::EMPIRICAL_SHELF_SHARE => spectra::holds(r, row),
         starts::START_TABLES_REFUSAL..=starts::FIT_STARTS_LENT => starts::holds(r, row),
-        attempts::VALIDATE_FIT..=attempts::SELECT_FIT => attempts::holds(call, row),
+        verdict_rows::VALIDATE_FIT..=verdict_rows::SELECT_FIT => verdict_rows::holds(call, row),
         run_tables::ATTEMPT_FROM_NUMBERS => run_tables::holds(r, row),
         _ => agrees(answer(r), row),
     }

@@ -2,7 +2,6 @@
 ghost use Rattle.replay.specs.Counts.{Counts};
 use crate::answers::Answer;
 use crate::answers::agrees;
-use crate::attempts::reason_number;
 use crate::fits::fitted;
 use crate::lent::both_agree;
 use crate::lent::fill_bins;
@@ -12,6 +11,7 @@ use crate::shapes::error_of;
 use crate::shapes::genome_number;
 use crate::shapes::genome_of;
 use crate::slices::fill;
+use crate::verdict_rows::reason_number;
 use crate::words::MOST;
 use crate::words::behind;
 use crate::words::first;
@@ -19,10 +19,10 @@ use crate::words::flag;
 use crate::words::from;
 use crate::words::least;
 use crate::words::word;
-use fitter::attempting::attempt_from_numbers;
+use attempts::attempting::attempt_from_numbers;
+use attempts::settling::AttemptAnswer;
+use attempts::settling::Setup;
 use fitter::attempts::RejectionPart;
-use fitter::settling::AttemptAnswer;
-use fitter::settling::Setup;
 
 pub(crate) const ATTEMPT_FROM_NUMBERS: u64 = 105;
 
