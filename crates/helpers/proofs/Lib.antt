@@ -8,3 +8,4 @@ pub mod LogLaws
 pub mod Weights
 pub mod Says
 pub mod Ready
+pub mod Growths

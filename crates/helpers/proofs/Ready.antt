@@ -20,6 +20,7 @@ use Rattle.routines.specs.Ops.{_⊕_, _⊖_, ofCount}
 use Rattle.routines.proofs.Counts.{count-more, count-back}
 use Rattle.routines.proofs.Logarithms.{lgamma-with-is}
 use Rattle.helpers.specs.Hoists.{lobeOf, densityOf, densityWith, poissonOf, binomialOf, shelfLogsOf}
+use Rattle.helpers.specs.Kept.{growthOf}
 use Rattle.helpers.specs.Lobes.{nearlyPoisson, sizeOf, logQOf, lnDpoisOf, lnDnbinomOf}
 use Rattle.helpers.specs.LogSums.{lse2Of}
 use Rattle.helpers.specs.Masses.{recurrence, recurrenceStep, poissonRatio, binomialRatio}
@@ -80,7 +81,7 @@ module _ (ready : List Float) (top : ℕ) (held : Ready ready (top + 1)) (mean d
   next-log k h = held .logs (k + 1) (omega arith)
 
   pub lobe-mass-is : lobeMassOf (lobeOf mean dispersion) ready top ≡ logNbMassTo mean dispersion top
-  unfolding lobeMassOf lobeOf logNbMassTo poissonMassOf binomialMassOf ratioWith densityOf lnDpoisOf
+  unfolding lobeMassOf lobeOf logNbMassTo poissonMassOf binomialMassOf ratioWith growthOf densityOf lnDpoisOf
   lobe-mass-is = go (le dispersion nearlyPoisson) (density-is one mean dispersion)
     where
       go : (b : Bool) → let l = cond b (poissonOf mean) (binomialOf mean dispersion) in

@@ -6,5 +6,6 @@ pub mod Masses
 pub mod Hoists
 pub mod SingleCopies
 pub mod Prepared
+pub mod Kept
 pub mod Pairs
 pub mod Mixtures

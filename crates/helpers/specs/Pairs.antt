@@ -6,9 +6,9 @@ use mathlib.Core.Bool.{cond}
 use mathlib.Core.List.{List}
 use lib.Ieee.{Float}
 use Rattle.routines.specs.Constants.{one}
-use Rattle.routines.specs.Ln.{lnOf}
 use Rattle.routines.specs.Ops.{_⊕_, _⊖_, ofCount}
 use Rattle.helpers.specs.Hoists.{lobeOf, densityOf}
+use Rattle.helpers.specs.Kept.{growthOf}
 use Rattle.helpers.specs.Masses.{recurrence}
 use Rattle.helpers.specs.Prepared.{lnAt}
 use Rattle.helpers.specs.declared.hoists.Lobe.{Lobe}
@@ -20,10 +20,10 @@ lobesOf mean other dispersion = record { first = lobeOf mean dispersion; second 
 
 -- from a count's term to the next one's, with `log` for ln(count + 1)
 unfoldable pub ratioWith : Lobe → Float → Float → Float
-ratioWith l count log = cond (l .poisson) (l .rate ⊖ log) (lnOf (count ⊕ l .size) ⊖ log ⊕ l .slope)
+ratioWith l growth log = cond (l .poisson) (growth ⊖ log) (growth ⊖ log ⊕ l .slope)
 
 abbrev pub lobeRatio : Lobe → List Float → ℕ → Float
-lobeRatio l ready count = ratioWith l (ofCount count) (lnAt ready (count + 1))
+lobeRatio l ready count = ratioWith l (growthOf l (ofCount count)) (lnAt ready (count + 1))
 
 unfoldable pub lobeMassOf : Lobe → List Float → ℕ → Float
 lobeMassOf l ready top = recurrence (lobeRatio l ready) (densityOf l one) top .0

@@ -2,11 +2,15 @@
 // equal to the plain form.
 // Ported from src/preprocessing/math_helpers.rs of bacpop/sparrowhawk-asm, f1f8af1232, Apache-2.0; ported and changed.
 ghost use mathlib.Core.Path.{_≡_};
+ghost use Prim.Native.Nat.{_+_};
+ghost use Rattle.helpers.specs.Kept.{Kept};
 ghost use Rattle.helpers.specs.Pairs.{lobesOf, ratioWith, lobeMassesOf};
 use crate::hoists::Lobe;
 use crate::hoists::binomial_lobe;
 use crate::hoists::density;
 use crate::hoists::poisson_lobe;
+use crate::kept::growth_of;
+use crate::kept::keep;
 use crate::lobes::NEARLY_POISSON;
 use crate::log_sums::lse2;
 use crate::prepared::ln_at;
@@ -35,14 +39,14 @@ pub fn lobes_of(mean: f64, other: f64, dispersion: f64) -> Lobes
     }
 }
 
-// From a count's term to the next one's, with `log` for ln(count + 1).
-fn ratio_with(lobe: Lobe, count: f64, log: f64) -> f64
-    ensures { λ r. ⌜ r ≡ ratioWith lobe count log ⌝ }
+// From a count's term to the next one's, with the growth at the count and `log` for ln(count + 1).
+fn ratio_with(lobe: Lobe, growth: f64, log: f64) -> f64
+    ensures { λ r. ⌜ r ≡ ratioWith lobe growth log ⌝ }
 {
     if lobe.poisson {
-        return lobe.rate - log;
+        return growth - log;
     }
-    ln(count + lobe.size) - log + lobe.slope
+    growth - log + lobe.slope
 }
 
 pub struct LobeMasses {
@@ -50,9 +54,16 @@ pub struct LobeMasses {
     pub second: f64,
 }
 
-// ln of each lobe's mass on 1 to `top`.
-pub fn lobe_masses(first: Lobe, second: Lobe, ready: &[f64], top: u16) -> LobeMasses
+// ln of each lobe's mass on 1 to `top`. The growths on the way are left in `kept`.
+pub fn lobe_masses(
+    first: Lobe,
+    second: Lobe,
+    ready: &[f64],
+    kept: &mut [f64],
+    top: u16,
+) -> LobeMasses
     ensures { λ r. ⌜ r ≡ lobeMassesOf first second (now (ready .entry)) top ⌝ }
+    ensures { λ _. ⌜ Kept first second (now (kept .exit)) (top + 1) ⌝ }
 {
     let mut total = -1.0 / 0.0;
     let mut term = density(first, 1.0);
@@ -61,10 +72,14 @@ pub fn lobe_masses(first: Lobe, second: Lobe, ready: &[f64], top: u16) -> LobeMa
     let mut count: u32 = 1;
     while count <= (top as u32) {
         let log = ln_at(ready, count + 1);
+        let growth = growth_of(first, count as f64);
+        let other_growth = growth_of(second, count as f64);
+        keep(kept, 2 * (count as usize), growth);
+        keep(kept, 2 * (count as usize) + 1, other_growth);
         total = lse2(total, term);
         other_total = lse2(other_total, other_term);
-        term = term + ratio_with(first, count as f64, log);
-        other_term = other_term + ratio_with(second, count as f64, log);
+        term = term + ratio_with(first, growth, log);
+        other_term = other_term + ratio_with(second, other_growth, log);
         count += 1;
     }
     LobeMasses {

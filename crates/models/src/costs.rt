@@ -31,20 +31,47 @@ fn mode_held(p: Params) -> bool
     !(roundtrip(p.mean, p.dispersion, p.target_mode) > NB_MODE_ROUNDTRIP_TOLERANCE)
 }
 
-// The negative log-likelihood, and +inf for masses or a log-likelihood that can't be used.
-fn evaluate(bins: &[u32], scale: f64, top: u16, p: Params, ready: &[f64], table: &[f64]) -> f64
+// The places for what the masses keep of the lobes, two a count from 0 on: for the counts of every histogram file, and
+// for those of a short window.
+const MANY_KEPT: usize = 4096;
+
+const FEW_KEPT: usize = 512;
+
+// The negative log-likelihood, and +inf for masses or a log-likelihood that can't be used. Whatever `kept` holds is
+// written over.
+fn evaluate_in(
+    bins: &[u32],
+    scale: f64,
+    top: u16,
+    p: Params,
+    ready: &[f64],
+    kept: &mut [f64],
+    table: &[f64],
+) -> f64
     ensures { λ r. ⌜ r ≡ evaluatedAt (now (bins .entry)) scale top p (now (ready .entry)) (now (table .entry)) ⌝ }
 {
     let steady = steady_of(p);
-    let m = masses_at(p, steady, ready, table, top);
+    let m = masses_at(p, steady, ready, table, kept, top);
     if !masses_usable(m) {
         return 1.0 / 0.0;
     }
-    let total = likelihood(bins, scale, top, p, m, steady, ready, table);
+    let total = likelihood(bins, scale, top, p, m, steady, ready, kept, table);
     if is_finite(total) && total <= 0.0 {
         return -total;
     }
     1.0 / 0.0
+}
+
+// The same, with places of its own: few for a short window, since many take long to clear.
+fn evaluate(bins: &[u32], scale: f64, top: u16, p: Params, ready: &[f64], table: &[f64]) -> f64
+    ensures { λ r. ⌜ r ≡ evaluatedAt (now (bins .entry)) scale top p (now (ready .entry)) (now (table .entry)) ⌝ }
+{
+    if 2 * (top as usize) < FEW_KEPT {
+        let mut few = [0.0; FEW_KEPT];
+        return evaluate_in(bins, scale, top, p, ready, &mut few, table);
+    }
+    let mut many = [0.0; MANY_KEPT];
+    evaluate_in(bins, scale, top, p, ready, &mut many, table)
 }
 
 // The table stays as it is where the parameters are turned away.

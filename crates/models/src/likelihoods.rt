@@ -1,7 +1,8 @@
 // The log-likelihood of the window.
 // Ported from src/preprocessing/models.rs of bacpop/sparrowhawk-asm, f1f8af1232, Apache-2.0; ported and changed.
 ghost use mathlib.Core.Path.{_≡_};
-ghost use Prim.Native.Nat.{_+_};
+ghost use Prim.Native.Nat.{_+_, _≤_};
+ghost use Rattle.helpers.specs.Kept.{Kept};
 ghost use Rattle.models.specs.Hoists.{aheadOf, afterOf, pointFrom, pointAt, likelihoodAt};
 ghost use Rattle.models.specs.Spectra.{seenTerm};
 ghost use Rattle.routines.specs.Ops.{ofCount, _⊗_};
@@ -10,7 +11,7 @@ use crate::params::Params;
 use crate::spectra::recovered_at;
 use crate::steady::Steady;
 use crate::window_masses::WindowMasses;
-use helpers::hoists::density_with;
+use helpers::kept::density_at;
 use helpers::log_sums::lse3;
 use helpers::mixtures::mix_at;
 use helpers::prepared::gamma_at;
@@ -74,14 +75,18 @@ fn point(
     high: f64,
     low: f64,
     gamma: f64,
+    kept: &[f64],
     table: &[f64],
 ) -> f64
+    requires { ⌜ 1 ≤ count ⌝ }
+    requires { ⌜ Kept (steady .lobe) (steady .second) (now kept) (count + 1) ⌝ }
     ensures { λ r. ⌜ r ≡ pointFrom p m steady (now (table .entry)) count high low gamma ⌝ }
 {
     let shelf = p.shelf;
     let x = count as f64;
-    let lobe = density_with(steady.lobe, x, gamma);
-    let second = density_with(steady.second, x, gamma);
+    let at = 2 * (count as usize);
+    let lobe = density_at(steady.lobe, x, gamma, kept, at);
+    let second = density_at(steady.second, x, gamma, kept, at + 1);
     let tail = p.error_params
         .probability_with(steady.ln_tail, count, high, low);
     let single = mix_at(lobe, count, shelf, steady.logs, table);
@@ -101,8 +106,10 @@ fn add_point(
     steady: Steady,
     i: u16,
     ready: &[f64],
+    kept: &[f64],
     table: &[f64],
 ) -> Reached
+    requires { ⌜ Kept (steady .lobe) (steady .second) (now kept) (i + 2) ⌝ }
     requires { ⌜ reached .ahead ≡ aheadOf (p .«error_params») (now ready) (reached .ahead .bin) ⌝ }
     ensures { λ r. ⌜ r .total ≡ seenTerm n (reached .total) (ofCount n ⊗ pointAt p m steady (now (ready .entry)) (now (table .entry)) i) ⌝ }
     ensures { λ r. ⌜ r .ahead ≡ aheadOf (p .«error_params») (now (ready .entry)) (r .ahead .bin) ⌝ }
@@ -123,6 +130,7 @@ fn add_point(
         here.survival,
         next.survival,
         gamma,
+        kept,
         table,
     );
     Reached {
@@ -131,6 +139,7 @@ fn add_point(
     }
 }
 
+// `kept` is as the masses' loop leaves it.
 pub(crate) fn likelihood(
     bins: &[u32],
     scale: f64,
@@ -139,8 +148,10 @@ pub(crate) fn likelihood(
     m: WindowMasses,
     steady: Steady,
     ready: &[f64],
+    kept: &[f64],
     table: &[f64],
 ) -> f64
+    requires { ⌜ Kept (steady .lobe) (steady .second) (now kept) (top + 1) ⌝ }
     ensures { λ r. ⌜ r ≡ likelihoodAt (now (bins .entry)) scale top p m steady (now (ready .entry)) (now (table .entry)) ⌝ }
 {
     let error = p.error_params;
@@ -151,7 +162,7 @@ pub(crate) fn likelihood(
     let mut i: u16 = 0;
     while i < top {
         let n = recovered_at(bins, scale, i as usize);
-        reached = add_point(reached, n, p, m, steady, i, ready, table);
+        reached = add_point(reached, n, p, m, steady, i, ready, kept, table);
         i += 1;
     }
     reached.total

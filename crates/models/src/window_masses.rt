@@ -1,6 +1,8 @@
 // Each component's log mass inside the window.
 // Ported from src/preprocessing/models.rs of bacpop/sparrowhawk-asm, f1f8af1232, Apache-2.0; ported and changed.
 ghost use mathlib.Core.Path.{_≡_};
+ghost use Prim.Native.Nat.{_+_};
+ghost use Rattle.helpers.specs.Kept.{Kept};
 ghost use Rattle.models.specs.Hoists.{massesAt};
 ghost use Rattle.models.specs.Masses.{windowMassesOf, massUsable, massesUsable};
 use crate::params::Params;
@@ -20,20 +22,22 @@ pub(crate) struct WindowMasses {
     pub repeat: f64,
 }
 
-// `table` holds the shelf's entries and nothing else, and `steady` is the list's.
+// `table` holds the shelf's entries and nothing else, and `steady` is the list's. The lobes' growths are left in `kept`.
 pub(crate) fn masses_at(
     p: Params,
     steady: Steady,
     ready: &[f64],
     table: &[f64],
+    kept: &mut [f64],
     top: u16,
 ) -> WindowMasses
     ensures { λ r. ⌜ r ≡ massesAt p steady (now (ready .entry)) (now (table .entry)) top ⌝ }
+    ensures { λ _. ⌜ Kept (steady .lobe) (steady .second) (now (kept .exit)) (top + 1) ⌝ }
 {
     let shelf = p.shelf;
     let log = ln_at(ready, top as u32);
     let error = p.error_params.window_mass_with(steady.ln_tail, log);
-    let lobes = lobe_masses(steady.lobe, steady.second, ready, top);
+    let lobes = lobe_masses(steady.lobe, steady.second, ready, kept, top);
     let single = mix_mass(lobes.first, shelf, steady.logs, table, top);
     WindowMasses {
         error,
@@ -46,7 +50,8 @@ pub(crate) fn masses_at(
 pub(crate) fn masses_of(p: Params, table: &[f64], top: u16) -> WindowMasses
     ensures { λ r. ⌜ r ≡ windowMassesOf p (now (table .entry)) top ⌝ }
 {
-    masses_at(p, steady_of(p), &table[0..0], table, top)
+    let mut none = [0.0; 1];
+    masses_at(p, steady_of(p), &table[0..0], table, &mut none, top)
 }
 
 fn mass_usable(mass: f64) -> bool

@@ -1,23 +1,29 @@
--- `helpers::pairs::lobe_masses` meets its contract: the terms of both lobes are added up side by side. Assumes nothing.
+-- `helpers::pairs::lobe_masses` meets its contract: the terms of both lobes are added up side by side, and their
+-- growths are kept. Assumes nothing.
 use borrow.Author.Needs.{needs}
-use mathlib.Core.Path.{refl}
+use mathlib.Core.Path.{_≡_, refl, _∙_}
 use Prim.Native.Nat.{_+_, _-_}
 use native.Mathlib.Omega.{arith}
 use lib.Ieee.{div, neg, ofBits}
+use lib.ListN.{length}
 use Rattle.routines.specs.Constants.{one}
 use Rattle.helpers.specs.Hoists.{densityOf}
+use Rattle.helpers.specs.Kept.{Kept}
 use Rattle.helpers.specs.Pairs.{lobeRatio, lobeMassOf}
+use Rattle.helpers.proofs.Growths.{kept-none, kept-more}
 use Rattle.helpers.proofs.Recurrences.{Summed, sum-begins, sum-goes-on, sum-ends}
 use Rattle.helpers.proofs.pairs.lobe_masses.Statement.{statement}
 use Rattle.helpers.proofs.pairs.lobe_masses.Tie as tie
 
 abbrev Inv-loop : tie.InvT-loop
-Inv-loop first second ready top total₀ term₀ other-total₀ other-term₀ count₀ total term other-total other-term count =
+Inv-loop first second ready kept₀ top total₀ term₀ other-total₀ other-term₀ count₀ kept total term other-total other-term count =
     Summed (lobeRatio first ready) (densityOf first one) top total term count
     × Summed (lobeRatio second ready) (densityOf second one) top other-total other-term count
+    × Kept first second kept count
+    × (length kept ≡ length kept₀)
 
 abbrev μ-loop : tie.MeasureT-loop
-μ-loop first second ready top total₀ term₀ other-total₀ other-term₀ count₀ total term other-total other-term count =
+μ-loop first second ready kept₀ top total₀ term₀ other-total₀ other-term₀ count₀ kept total term other-total other-term count =
     top + 1 - count
 
 density-requires : tie.Need-density-requires Inv-loop μ-loop
@@ -28,7 +34,8 @@ density-requires-2 c κs = search needs
 
 loop-holds : tie.Need-loop-holds Inv-loop μ-loop
 unfolding div neg ofBits
-loop-holds c = (sum-begins _ _ _ _ _ refl (c .before .density .ensures), sum-begins _ _ _ _ _ refl (c .density2 .ensures))
+loop-holds c =
+    (sum-begins _ _ _ _ _ refl (c .before .density .ensures), sum-begins _ _ _ _ _ refl (c .density2 .ensures), kept-none _ _ _, refl)
 
 add-ln-at : tie.Need-add-ln-at Inv-loop μ-loop
 add-ln-at c = omega arith
@@ -36,20 +43,41 @@ add-ln-at c = omega arith
 ln-at-requires : tie.Need-ln-at-requires Inv-loop μ-loop
 ln-at-requires c κs = search needs
 
+int-to-float-growth-of : tie.Need-int-to-float-growth-of Inv-loop μ-loop
+int-to-float-growth-of c = search needs
+
+growth-of-requires : tie.Need-growth-of-requires Inv-loop μ-loop
+growth-of-requires c κs = search needs
+
+int-to-float-growth-of-2 : tie.Need-int-to-float-growth-of-2 Inv-loop μ-loop
+int-to-float-growth-of-2 c = search needs
+
+growth-of-requires-2 : tie.Need-growth-of-requires-2 Inv-loop μ-loop
+growth-of-requires-2 c κs = search needs
+
+mul-keep : tie.Need-mul-keep Inv-loop μ-loop
+mul-keep c = omega arith
+
+keep-requires : tie.Need-keep-requires Inv-loop μ-loop
+keep-requires c κs = search needs
+
+mul-keep-2 : tie.Need-mul-keep-2 Inv-loop μ-loop
+mul-keep-2 c = omega arith
+
+add-keep : tie.Need-add-keep Inv-loop μ-loop
+add-keep c = omega arith
+
+keep-requires-2 : tie.Need-keep-requires-2 Inv-loop μ-loop
+keep-requires-2 c κs = search needs
+
 lse2-requires : tie.Need-lse2-requires Inv-loop μ-loop
 lse2-requires c κs = search needs
 
 lse2-requires-2 : tie.Need-lse2-requires-2 Inv-loop μ-loop
 lse2-requires-2 c κs = search needs
 
-int-to-float-ratio-with : tie.Need-int-to-float-ratio-with Inv-loop μ-loop
-int-to-float-ratio-with c = search needs
-
 ratio-with-requires : tie.Need-ratio-with-requires Inv-loop μ-loop
 ratio-with-requires c κs = search needs
-
-int-to-float-ratio-with-2 : tie.Need-int-to-float-ratio-with-2 Inv-loop μ-loop
-int-to-float-ratio-with-2 c = search needs
 
 ratio-with-requires-2 : tie.Need-ratio-with-requires-2 Inv-loop μ-loop
 ratio-with-requires-2 c κs = search needs
@@ -62,21 +90,34 @@ loop-less c = omega arith
 
 loop-again : tie.Need-loop-again Inv-loop μ-loop
 loop-again c =
-    let first = c .before .before in
-    let sums = first .before .before in
-    let log = sums .before .before in
-    let inv = log .before .before .loop .inv in (
+    let first = c .before in
+    let sums = first .before in
+    let kept2 = sums .before .before .before .before in
+    let kept1 = kept2 .before .before .before .before in
+    let growth2 = kept1 .before .before in
+    let growth1 = growth2 .before .before in
+    let log = growth1 .before .before in
+    let turn = log .before .before .loop in
+    let inv = turn .inv in (
       sum-goes-on _ _ _ (inv .0) _ _ (omega arith) (sums .before .lse2 .ensures)
-          (rw (first .ratio-with .ensures, log .ln-at .ensures)),
+          (rw (first .ratio-with .ensures, growth1 .growth-of .ensures, log .ln-at .ensures)),
       sum-goes-on _ _ _ (inv .1) _ _ (omega arith) (sums .lse22 .ensures)
-          (rw (c .ratio-with2 .ensures, log .ln-at .ensures)),
+          (rw (c .ratio-with2 .ensures, growth2 .growth-of2 .ensures, log .ln-at .ensures)),
+      rw (kept2 .keep2 .ensures, kept1 .keep .ensures)
+          (kept-more (inv .2) _ _ (growth1 .growth-of .ensures) (growth2 .growth-of2 .ensures)),
+      kept2 .keep2 .kept .0 ∙ kept1 .keep .kept .0 ∙ inv .3,
     )
+
+same-length : tie.Need-same-length Inv-loop μ-loop
+same-length c = c .before .loop .inv .3
 
 returns : tie.Need-returns Inv-loop μ-loop
 unfolding lobeMassOf
 returns c =
-    let inv = c .before .loop .inv in
-    rw (sum-ends _ _ _ (inv .0) (omega arith), sum-ends _ _ _ (inv .1) (omega arith))
+    let turn = c .before in
+    let inv = turn .loop .inv in
+    let past : turn .loop .count ≡ turn .before .before .before .before .before .args .top + 1 = omega arith in
+    (rw (sum-ends _ _ _ (inv .0) (omega arith), sum-ends _ _ _ (inv .1) (omega arith)), rw past at (inv .2))
 
 pub lobe-masses-spec : {M : Type 1} → statement M
 lobe-masses-spec =
@@ -89,13 +130,21 @@ lobe-masses-spec =
     loop-holds
     add-ln-at
     ln-at-requires
+    int-to-float-growth-of
+    growth-of-requires
+    int-to-float-growth-of-2
+    growth-of-requires-2
+    mul-keep
+    keep-requires
+    mul-keep-2
+    add-keep
+    keep-requires-2
     lse2-requires
     lse2-requires-2
-    int-to-float-ratio-with
     ratio-with-requires
-    int-to-float-ratio-with-2
     ratio-with-requires-2
     add-count
     loop-less
     loop-again
+    same-length
     returns)

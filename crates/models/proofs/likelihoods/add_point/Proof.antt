@@ -4,6 +4,7 @@ use native.Mathlib.Omega.{arith}
 use borrow.Author.Tests.{eq-eqb, ne-eqb}
 use lib.Ieee.{Float}
 use Rattle.routines.specs.Ops.{_⊕_, _⊗_, ofCount}
+use Rattle.helpers.proofs.Growths.{kept-fewer}
 use Rattle.models.specs.Spectra.{seenTerm}
 use Rattle.models.proofs.Points.{step-is, next-stands}
 use borrow.Author.Needs.{needs}
@@ -12,10 +13,10 @@ use Rattle.models.proofs.likelihoods.add_point.Tie as tie
 
 returns : tie.Need-returns
 unfolding seenTerm
-returns c = (simp (eq-eqb _ _ (c .if1 .taken)), c .before .before .before .pre)
+returns c = (simp (eq-eqb _ _ (c .if1 .taken)), c .before .before .before .before .pre .1)
 
 ahead-at-requires : tie.Need-ahead-at-requires
-ahead-at-requires c κs = c .before .before .before .before .pre
+ahead-at-requires c κs = c .before .before .before .before .before .pre .1
 
 ahead-after-requires : tie.Need-ahead-after-requires
 ahead-after-requires c κs = search needs
@@ -27,10 +28,12 @@ gamma-at-requires : tie.Need-gamma-at-requires
 gamma-at-requires c κs = search needs
 
 point-requires : tie.Need-point-requires
-point-requires c κs = search needs
+point-requires c κs =
+    let start = c .before .before .before .before .before .before .before .before in
+    (omega arith, kept-fewer (start .pre .0) _ (omega arith))
 
-int-to-float-t17 : tie.Need-int-to-float-t17
-int-to-float-t17 c = search needs
+int-to-float-t18 : tie.Need-int-to-float-t18
+int-to-float-t18 c = search needs
 
 returns-2 : tie.Need-returns-2
 unfolding seenTerm
@@ -40,7 +43,7 @@ returns-2 c =
     let after = gamma .before in
     let at = after .before in
     let left = at .before .before in
-    let start = left .before .before .before in
+    let start = left .before .before .before .before in
     let a = start .args in
     let few = start .fits .i in
     let here = at .ahead-at .ensures in
@@ -53,4 +56,4 @@ returns-2 c =
 
 pub add-point-spec : {M : Type 1} → statement M
 add-point-spec =
-    tie.close (tie.spec returns ahead-at-requires ahead-after-requires add-count gamma-at-requires point-requires int-to-float-t17 returns-2)
+    tie.close (tie.spec returns ahead-at-requires ahead-after-requires add-count gamma-at-requires point-requires int-to-float-t18 returns-2)

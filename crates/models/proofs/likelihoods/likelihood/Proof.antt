@@ -5,6 +5,7 @@ use native.Mathlib.Omega.{arith}
 use lib.Ieee.{neg, ofBits}
 use Rattle.routines.specs.Constants.{zero}
 use Rattle.meaning.proofs.Loops.{Folded, begins, goes-on, ends}
+use Rattle.helpers.proofs.Growths.{kept-fewer}
 use Rattle.models.specs.Spectra.{observedStep, overObserved}
 use Rattle.models.specs.Hoists.{aheadOf, pointTermAt, likelihoodAt}
 use Rattle.models.proofs.Points.{standing}
@@ -13,12 +14,12 @@ use Rattle.models.proofs.likelihoods.likelihood.Statement.{statement}
 use Rattle.models.proofs.likelihoods.likelihood.Tie as tie
 
 abbrev Inv-loop : tie.InvT-loop
-Inv-loop bins scale top p m steady ready table reached₀ i₀ reached i =
+Inv-loop bins scale top p m steady ready kept table reached₀ i₀ reached i =
     (reached .ahead ≡ aheadOf (p .«error_params») ready (reached .ahead .bin))
     × Folded (observedStep bins scale (pointTermAt p m steady ready table)) (neg zero) 0 top (reached .total) i
 
 abbrev μ-loop : tie.MeasureT-loop
-μ-loop bins scale top p m steady ready table reached₀ i₀ reached i = top - i
+μ-loop bins scale top p m steady ready kept table reached₀ i₀ reached i = top - i
 
 ahead-of-requires : tie.Need-ahead-of-requires Inv-loop μ-loop
 ahead-of-requires c κs = search needs
@@ -34,7 +35,10 @@ recovered-at-requires : tie.Need-recovered-at-requires Inv-loop μ-loop
 recovered-at-requires c κs = search needs
 
 add-point-requires : tie.Need-add-point-requires Inv-loop μ-loop
-add-point-requires c κs = c .before .before .loop .inv .0
+add-point-requires c κs =
+    let turn = c .before .before in
+    let start = turn .before .before .before .before .before .before .before in
+    (kept-fewer (start .pre) _ (omega arith), turn .loop .inv .0)
 
 add-i : tie.Need-add-i Inv-loop μ-loop
 add-i c = omega arith

@@ -16,13 +16,25 @@ lobe-masses-requires c κs = search needs
 mix-mass-requires : tie.Need-mix-mass-requires
 mix-mass-requires c κs = search needs
 
+same-length : tie.Need-same-length
+same-length c = search needs
+
 returns : tie.Need-returns
 unfolding massesAt
 returns c =
-    let lobes = c .before in
-    let error = lobes .before in
-    rw (c .mix-mass .ensures, lobes .lobe-masses .ensures, error .window-mass-with .ensures, error .before .ln-at .ensures)
+    let lobes = c .before .before .before in
+    let error = lobes .before .before in (
+      rw (c .mix-mass .ensures, lobes .lobe-masses .ensures .0, error .window-mass-with .ensures, error .before .ln-at .ensures),
+      lobes .lobe-masses .ensures .1,
+    )
 
 pub masses-at-spec : {M : Type 1} → statement M
 masses-at-spec =
-    tie.close (tie.spec ln-at-requires window-mass-with-requires lobe-masses-requires mix-mass-requires returns)
+    tie.close
+    (tie.spec
+    ln-at-requires
+    window-mass-with-requires
+    lobe-masses-requires
+    mix-mass-requires
+    same-length
+    returns)

@@ -18,15 +18,19 @@ part-masses-at-start c = search needs
 part-masses-at-end : tie.Need-part-masses-at-end
 part-masses-at-end c = search needs
 
+slice-aggregate-masses-at : tie.Need-slice-aggregate-masses-at
+slice-aggregate-masses-at c = search needs
+
 masses-at-requires : tie.Need-masses-at-requires
 masses-at-requires c κs = search needs
 
 returns : tie.Need-returns
 returns c =
-    let steady = c .before .before in
+    let at = c .before in
+    let steady = at .before .before .before in
     let start = steady .before .before in
     let a = start .args in
-    c .masses-at .ensures
+    at .masses-at .ensures .0
     ∙ plain-masses (a .p) _ (a .table .now) (a .top) (omega (arith, start .fits .top)) (steady .steady-of .ensures)
 
 pub masses-of-spec : {M : Type 1} → statement M
@@ -37,5 +41,6 @@ masses-of-spec =
     sub-masses-at
     part-masses-at-start
     part-masses-at-end
+    slice-aggregate-masses-at
     masses-at-requires
     returns)

@@ -1,4 +1,4 @@
--- `models::costs::evaluate` meets its contract. Assumes nothing.
+-- `models::costs::evaluate_in` meets its contract. Assumes nothing.
 use mathlib.Core.Path.{_≡_, sym, _∙_}
 use mathlib.Core.Bool.{true, false}
 use mathlib.Core.Logic.{⊎-elim}
@@ -9,8 +9,8 @@ use Rattle.models.specs.Costs.{likelihoodUsable}
 use Rattle.models.specs.Masses.{massesUsable}
 use Rattle.models.specs.Prepared.{evaluatedAt}
 use Rattle.models.proofs.Costed.{not-finite, above-zero, at-most-zero, masses-stop, likelihood-stops, evaluates}
-use Rattle.models.proofs.costs.evaluate.Statement.{statement}
-use Rattle.models.proofs.costs.evaluate.Tie as tie
+use Rattle.models.proofs.costs.evaluate_in.Statement.{statement}
+use Rattle.models.proofs.costs.evaluate_in.Tie as tie
 
 steady-of-requires : tie.Need-steady-of-requires
 steady-of-requires c κs = search needs
@@ -21,16 +21,19 @@ masses-at-requires c κs = search needs
 masses-usable-requires : tie.Need-masses-usable-requires
 masses-usable-requires c κs = search needs
 
+same-length : tie.Need-same-length
+same-length c = search needs
+
 returns : tie.Need-returns
 unfolding div ofBits
 returns c =
     let known = c .before in
-    let masses = known .before in
-    masses-stop _ _ _ _ _ _ _ _ (masses .before .steady-of .ensures) (masses .masses-at .ensures)
+    let masses = known .before .before .before in
+    masses-stop _ _ _ _ _ _ _ _ (masses .before .before .steady-of .ensures) (masses .masses-at .ensures .0)
     (sym (known .masses-usable .ensures) ∙ not-true _ (c .if1 .taken))
 
 likelihood-requires : tie.Need-likelihood-requires
-likelihood-requires c κs = search needs
+likelihood-requires c κs = c .before .before .before .before .before .masses-at .ensures .1
 
 is-finite-requires : tie.Need-is-finite-requires
 is-finite-requires c κs = search needs
@@ -38,26 +41,34 @@ is-finite-requires c κs = search needs
 -- where the masses can be used and the log-likelihood is known
 module _ (c : tie.After-is-finite) where
   abbrev masses : tie.After-masses-at
-  masses = c .before .before .before .before
+  masses = c .before .before .before .before .before .before .before
 
   abbrev start : tie.Start
-  start = masses .before .before .before .before .before
+  start = masses .before .before .before .before .before .before .before
 
   usable : massesUsable (masses .masses-at .result) ≡ true
-  usable = sym (c .before .before .before .masses-usable .ensures) ∙ not-false _ (c .before .before .if1 .left)
+  usable =
+      let left = c .before .before .before in
+      sym (left .before .masses-usable .ensures) ∙ not-false _ (left .if1 .left)
 
   stopped : likelihoodUsable (c .before .likelihood .result) ≡ false → let a = start .args in
       inf false ≡ evaluatedAt (a .bins .now) (a .scale) (a .top) (a .p) (a .ready .now) (a .table .now)
   stopped u =
-      likelihood-stops _ _ _ _ _ _ _ _ (masses .before .steady-of .ensures) (masses .masses-at .ensures) _
+      likelihood-stops _ _ _ _ _ _ _ _ (masses .before .before .steady-of .ensures) (masses .masses-at .ensures .0) _
       (c .before .likelihood .ensures) usable u
+
+same-length-2 : tie.Need-same-length-2
+same-length-2 c = search needs
 
 returns-2 : tie.Need-returns-2
 returns-2 c =
     let known = c .before .before in
-    evaluates _ _ _ _ _ _ _ _ (masses known .before .steady-of .ensures) (masses known .masses-at .ensures) _
+    evaluates _ _ _ _ _ _ _ _ (masses known .before .before .steady-of .ensures) (masses known .masses-at .ensures .0) _
     (known .before .likelihood .ensures) (usable known)
     (at-most-zero _ (sym (known .is-finite .ensures) ∙ c .before .if2 .taken) (c .if3 .taken))
+
+same-length-3 : tie.Need-same-length-3
+same-length-3 c = search needs
 
 returns-3 : tie.Need-returns-3
 unfolding div ofBits
@@ -67,15 +78,18 @@ returns-3 c =
     stopped known
     (⊎-elim (λ t. above-zero _ (finite ∙ t .0 .taken) (t .1 .left)) (λ t. not-finite _ (finite ∙ t .left)) (c .if2 .came))
 
-pub evaluate-spec : {M : Type 1} → statement M
-evaluate-spec =
+pub evaluate-in-spec : {M : Type 1} → statement M
+evaluate-in-spec =
     tie.close
     (tie.spec
     steady-of-requires
     masses-at-requires
     masses-usable-requires
+    same-length
     returns
     likelihood-requires
     is-finite-requires
+    same-length-2
     returns-2
+    same-length-3
     returns-3)

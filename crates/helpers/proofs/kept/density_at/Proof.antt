@@ -1,0 +1,50 @@
+-- `helpers::kept::density_at` meets its contract. Assumes nothing.
+use mathlib.Core.Path.{sym, ap, _∙_}
+use lib.Ieee.{nan}
+use lib.ListN.{List·getD-eq-default}
+use Rattle.meaning.proofs.Overs.{getD-any}
+use Rattle.helpers.specs.Kept.{growthOf, densityFrom, growthAt}
+use Rattle.helpers.proofs.Growths.{density-from-is}
+use borrow.Author.Needs.{needs}
+use Rattle.helpers.proofs.kept.density_at.Statement.{statement}
+use Rattle.helpers.proofs.kept.density_at.Tie as tie
+
+mul-density-from : tie.Need-mul-density-from
+mul-density-from c = search needs
+
+shared-slice-read-density-from : tie.Need-shared-slice-read-density-from
+shared-slice-read-density-from c = search needs
+
+density-from-requires : tie.Need-density-from-requires
+density-from-requires c κs = search needs
+
+returns : tie.Need-returns
+unfolding growthAt
+returns c =
+    let inside = c .before .before in
+    let a = inside .before .before .args in
+    c .density-from .ensures
+    ∙ ap (densityFrom (a .lobe) (a .x) (a .gamma)) (getD-any (a .kept .now) (a .i) nan (growthOf (a .lobe) (a .x)) (inside .if1 .taken))
+
+density-with-requires : tie.Need-density-with-requires
+density-with-requires c κs = search needs
+
+returns-2 : tie.Need-returns-2
+unfolding growthAt
+returns-2 c =
+    let past = c .before in
+    let a = past .before .before .args in
+    c .density-with .ensures
+    ∙ sym (density-from-is (a .lobe) (a .x) (a .gamma))
+    ∙ ap (densityFrom (a .lobe) (a .x) (a .gamma)) (sym (List·getD-eq-default (a .kept .now) _ (past .if1 .left)))
+
+pub density-at-spec : {M : Type 1} → statement M
+density-at-spec =
+    tie.close
+    (tie.spec
+    mul-density-from
+    shared-slice-read-density-from
+    density-from-requires
+    returns
+    density-with-requires
+    returns-2)

@@ -1,0 +1,21 @@
+-- `helpers::kept::density_from` meets its contract. Assumes nothing.
+use Rattle.helpers.specs.Kept.{densityFrom}
+use borrow.Author.Needs.{needs}
+use Rattle.helpers.proofs.kept.density_from.Statement.{statement}
+use Rattle.helpers.proofs.kept.density_from.Tie as tie
+
+returns : tie.Need-returns
+unfolding densityFrom
+returns c = rw (c .before .before .if1 .taken)
+
+lgamma-with-requires : tie.Need-lgamma-with-requires
+lgamma-with-requires c κs = search needs
+
+returns-2 : tie.Need-returns-2
+unfolding densityFrom
+returns-2 c =
+    let called = c .before .before .before in
+    rw (called .before .before .if1 .left, called .lgamma-with .ensures)
+
+pub density-from-spec : {M : Type 1} → statement M
+density-from-spec = tie.close (tie.spec returns lgamma-with-requires returns-2)
