@@ -10,7 +10,7 @@ use Rattle.routines.specs.Constants.{zero, one}
 use Rattle.routines.specs.Expm1.{expm1Of}
 use Rattle.routines.specs.Ln.{lnOf}
 use Rattle.routines.specs.Ops.{_⊕_, _⊖_, _⊗_, ofCount}
-use Rattle.routines.proofs.Counts.{count-more, count-less, count-equals-one}
+use Rattle.routines.proofs.Counts.{count-more, count-less}
 use Rattle.helpers.specs.Hoists.{lobeOf, densityWith}
 use Rattle.helpers.specs.Lobes.{lnDnbinomOf}
 use Rattle.helpers.specs.Prepared.{lnAt, gammaAt, gammaWith}
@@ -18,7 +18,7 @@ use Rattle.helpers.proofs.Densities.{density-is}
 use Rattle.helpers.proofs.Ready.{Ready, nothing-ready, gamma-with-is, density-with-is}
 use Rattle.helpers.proofs.Ready.{lobe-mass-is, mix-at-is, mix-mass-is}
 use Rattle.models.specs.Errors.{survivalOf, lnTailOf, logProbabilityOf, logWindowMassTo}
-use Rattle.models.specs.Hoists.{survivalWith, probabilityWith, windowMassWith, steadyOf, massesAt, aheadOf}
+use Rattle.models.specs.Hoists.{survivalWith, logProbabilityBetween, windowMassWith, steadyOf, massesAt, aheadOf}
 use Rattle.models.specs.Hoists.{afterOf, pointFrom, pointAt, pointTermAt, likelihoodAt}
 use Rattle.models.specs.Likelihoods.{pointWith, pointOf, pointTerm, likelihoodOf}
 use Rattle.models.specs.Masses.{windowMassesOf}
@@ -80,13 +80,13 @@ module _ (ready : List Float) (end : ℕ) (few : end ≤ 65535) (held : Ready re
       (from-log e end (ofCount end ⊕ one) (omega arith) (up-and-down end few))
 
   probability-is : (e : ErrorParams) (i : ℕ) → i < end
-      → probabilityWith e (lnTailOf e) (i + 1) (survivalWith e (lnAt ready i)) (survivalWith e (lnAt ready (i + 1)))
+      → logProbabilityBetween e (lnTailOf e) (ofCount (i + 1)) (survivalWith e (lnAt ready i)) (survivalWith e (lnAt ready (i + 1)))
       ≡ logProbabilityOf e (ofCount (i + 1))
-  unfolding probabilityWith logProbabilityOf
+  unfolding logProbabilityBetween logProbabilityOf
   probability-is e i h =
       let here = from-log e i (ofCount (i + 1)) (omega arith) (count-less i (wide (i + 1) (omega arith))) in
       let next = from-log e (i + 1) (ofCount (i + 1) ⊕ one) (omega arith) (up-and-down (i + 1) (omega arith)) in
-      rw (here, next, count-equals-one (i + 1) (wide (i + 1) (omega arith)))
+      rw (here, next)
 
   -- ---- the masses
   pub masses-are : (p : Params) (table : List Float)

@@ -5,7 +5,6 @@
 use Prim.Native.Nat.{ℕ, _+_}
 use mathlib.Core.Bool.{cond}
 use mathlib.Core.List.{List}
-use lib.Dec.{eqb}
 use lib.Ieee.{Float, neg, eq}
 use Rattle.routines.specs.Constants.{one}
 use Rattle.routines.specs.Expm1.{expm1Of}
@@ -33,11 +32,6 @@ survivalWith p offset = neg (p .«tail_exponent») ⊗ offset ⊗ factorOf (p .�
 unfoldable pub logProbabilityBetween : ErrorParams → Float → Float → Float → Float → Float
 logProbabilityBetween p tail count here next =
     cond (eq count one) (lnOf (p .«singleton_probability»)) (tail ⊕ lnSubExpOf here next)
-
--- by the survivals from a count and from the next
-unfoldable pub probabilityWith : ErrorParams → Float → ℕ → Float → Float → Float
-probabilityWith p tail count high low =
-    cond (eqb count 1) (lnOf (p .«singleton_probability»)) (tail ⊕ lnSubExpOf high low)
 
 -- by the log of the window's end
 unfoldable pub windowMassWith : ErrorParams → Float → Float → Float
@@ -72,7 +66,7 @@ afterOf log p ready i = record { bin = i + 1; log = lnAt ready (i + 1 + 1); surv
 -- by the survivals from a count and from the next, and its lgamma
 unfoldable pub pointFrom : Params → WindowMasses → Steady → List Float → ℕ → Float → Float → Float → Float
 pointFrom p m s table count high low gamma =
-    lse3Of (p .«ln_error» ⊕ probabilityWith (p .«error_params») (s .«ln_tail») count high low ⊖ m .error)
+    lse3Of (p .«ln_error» ⊕ logProbabilityBetween (p .«error_params») (s .«ln_tail») (ofCount count) high low ⊖ m .error)
     (p .«ln_single» ⊕ mixAtOf (densityWith (s .lobe) (ofCount count) gamma) count (p .shelf) (s .logs) table ⊖ m .single)
     (p .«ln_repeat» ⊕ densityWith (s .second) (ofCount count) gamma ⊖ m .repeat)
 

@@ -3,7 +3,7 @@
 ghost use mathlib.Core.Path.{_≡_};
 ghost use Rattle.helpers.specs.Answers.{numberSays};
 ghost use Rattle.models.specs.Errors.{factorOf, survivalOf, lnTailOf, logProbabilityOf, logWindowMassTo, logWindowMassOf};
-ghost use Rattle.models.specs.Hoists.{survivalWith, logProbabilityBetween, probabilityWith, windowMassWith};
+ghost use Rattle.models.specs.Hoists.{survivalWith, logProbabilityBetween, windowMassWith};
 use helpers::answers::Number;
 use helpers::log_sums::ln_sub_exp;
 use meaning::limits::MOST;
@@ -91,16 +91,6 @@ impl ErrorParams {
             return ln(self.singleton_probability);
         }
         ln_tail + ln_sub_exp(here, next)
-    }
-
-    // ln of the probability of a count, with the tail's log and the survivals from the count and from the next at hand.
-    pub(crate) fn probability_with(self, ln_tail: f64, count: u32, high: f64, low: f64) -> f64
-        ensures { λ r. ⌜ r ≡ probabilityWith self «ln_tail» count high low ⌝ }
-    {
-        if count == 1 {
-            return ln(self.singleton_probability);
-        }
-        ln_tail + ln_sub_exp(high, low)
     }
 
     // ln of the probability of `count`.

@@ -88,7 +88,7 @@ fn point(
     let lobe = density_at(steady.lobe, x, gamma, kept, at);
     let second = density_at(steady.second, x, gamma, kept, at + 1);
     let tail = p.error_params
-        .probability_with(steady.ln_tail, count, high, low);
+        .log_probability_between(steady.ln_tail, x, high, low);
     let single = mix_at(lobe, count, shelf, steady.logs, table);
     lse3(
         p.ln_error + tail - m.error,

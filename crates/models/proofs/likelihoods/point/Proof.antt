@@ -22,8 +22,8 @@ add-density-at c = search needs
 density-at-requires-2 : tie.Need-density-at-requires-2
 density-at-requires-2 c κs = search needs
 
-probability-with-requires : tie.Need-probability-with-requires
-probability-with-requires c κs = search needs
+log-probability-between-requires : tie.Need-log-probability-between-requires
+log-probability-between-requires c κs = search needs
 
 mix-at-requires : tie.Need-mix-at-requires
 mix-at-requires c κs = search needs
@@ -44,7 +44,7 @@ returns c =
     let held = start .pre .1 in
     let here = lobe .density-at .ensures ∙ first-at-is held (a .count) (a .gamma) few (omega arith) in
     let there = second .density-at2 .ensures ∙ second-at-is held (a .count) (a .gamma) few (omega arith) in
-    rw (c .lse3 .ensures, mixed .mix-at .ensures, tail .probability-with .ensures)
+    rw (c .lse3 .ensures, mixed .mix-at .ensures, tail .log-probability-between .ensures)
     (rw (there, here))
 
 pub point-spec : {M : Type 1} → statement M
@@ -56,7 +56,7 @@ point-spec =
     density-at-requires
     add-density-at
     density-at-requires-2
-    probability-with-requires
+    log-probability-between-requires
     mix-at-requires
     lse3-requires
     returns)
