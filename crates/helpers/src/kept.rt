@@ -2,7 +2,6 @@
 // alone. What does not fit in is worked out again. proofs/Growths.antt shows that a slice filled so changes no number.
 ghost use mathlib.Core.Path.{_≡_};
 ghost use lib.ListN.{set};
-ghost use Rattle.routines.specs.Ops.{_⊕_};
 ghost use Rattle.helpers.specs.Kept.{growthOf, densityFrom, densityAt};
 use crate::hoists::Lobe;
 use crate::hoists::density_with;

@@ -37,8 +37,7 @@ const MANY_KEPT: usize = 4096;
 
 const FEW_KEPT: usize = 512;
 
-// The negative log-likelihood, and +inf for masses or a log-likelihood that can't be used. Whatever `kept` holds is
-// written over.
+// The negative log-likelihood, and +inf for masses or a log-likelihood that can't be used. `kept` may hold anything.
 fn evaluate_in(
     bins: &[u32],
     scale: f64,
