@@ -19,3 +19,4 @@ pub mod Beyond
 pub mod Highest
 pub mod Corners
 pub mod Says
+pub mod Outdone

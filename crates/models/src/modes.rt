@@ -2,6 +2,12 @@
 // Ported from src/preprocessing/models.rs of bacpop/sparrowhawk-asm, f1f8af1232, Apache-2.0; ported and changed:
 // a window end is refused by number, and so is a NaN among the heights compared.
 ghost use mathlib.Core.Path.{_≡_};
+ghost use mathlib.Core.Bool.{true};
+ghost use Prim.Native.Nat.{_<_};
+ghost use lib.Ieee.{lt};
+ghost use Rattle.routines.specs.Ops.{_⊕_, ofCount};
+ghost use Rattle.helpers.specs.LogSums.{lnSubExpOf};
+ghost use Rattle.models.specs.Hoists.{logProbabilityBetween};
 ghost use Rattle.helpers.specs.Answers.{countSays};
 ghost use Rattle.models.specs.Modes.{laterWins, withNan, higherWith, highestOf, errorModeOf};
 use crate::errors::ErrorParams;
@@ -55,6 +61,44 @@ fn higher(best: Standing, count: u32, here: f64) -> Standing
     }
 }
 
+// Whether a count is sure to be below `best`: from 2 on, where the tail's log and the step to the next survival are not
+// above 0, its log probability is at most its survival, and no NaN.
+fn outdone(best: f64, ln_tail: f64, count: u32, survival: f64, next: f64) -> bool
+    ensures { λ r. ⌜ (r ≡ true → (1 < count) × (lt («ln_tail» ⊕ lnSubExpOf survival next) best ≡ true)) ⌝ }
+{
+    if count <= 1 {
+        return false;
+    }
+    if !(survival < best) {
+        return false;
+    }
+    if !(ln_tail <= 0.0) {
+        return false;
+    }
+    if survival < next {
+        return false;
+    }
+    next - survival <= 0.0
+}
+
+// The best with one more count. Its log probability is worked out only where it may win.
+fn step(
+    best: Standing,
+    p: ErrorParams,
+    ln_tail: f64,
+    count: u32,
+    survival: f64,
+    next: f64,
+) -> Standing
+    ensures { λ r. ⌜ r ≡ higherWith (logProbabilityBetween p «ln_tail» (ofCount count) survival next) count best ⌝ }
+{
+    if outdone(best.log, ln_tail, count, survival, next) {
+        return best;
+    }
+    let here = p.log_probability_between(ln_tail, count as f64, survival, next);
+    higher(best, count, here)
+}
+
 // The survival of the next count is that count's own.
 fn highest(p: ErrorParams, top: u16) -> Standing
     ensures { λ r. ⌜ r ≡ highestOf p top ⌝ }
@@ -69,8 +113,7 @@ fn highest(p: ErrorParams, top: u16) -> Standing
     let mut count: u32 = 1;
     while count <= (top as u32) {
         let next = p.survival_with(ln(count as f64));
-        let here = p.log_probability_between(ln_tail, count as f64, survival, next);
-        best = higher(best, count, here);
+        best = step(best, p, ln_tail, count, survival, next);
         survival = next;
         count += 1;
     }

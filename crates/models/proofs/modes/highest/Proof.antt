@@ -44,14 +44,8 @@ ln-requires c κs = search needs
 survival-with-requires : tie.Need-survival-with-requires Inv-loop μ-loop
 survival-with-requires c κs = search needs
 
-int-to-float-log-probability-between : tie.Need-int-to-float-log-probability-between Inv-loop μ-loop
-int-to-float-log-probability-between c = search needs
-
-log-probability-between-requires : tie.Need-log-probability-between-requires Inv-loop μ-loop
-log-probability-between-requires c κs = search needs
-
-higher-requires : tie.Need-higher-requires Inv-loop μ-loop
-higher-requires c κs = search needs
+step-requires : tie.Need-step-requires Inv-loop μ-loop
+step-requires c κs = search needs
 
 add-count : tie.Need-add-count Inv-loop μ-loop
 add-count c = omega arith
@@ -62,18 +56,18 @@ loop-less c = omega arith
 loop-again : tie.Need-loop-again Inv-loop μ-loop
 unfolding higherOf
 loop-again c =
-    let between = c .before in
-    let log = between .before .before .before in
+    let survival = c .before in
+    let log = survival .before in
     let turn = log .before .before .before .loop in
     let inv = turn .inv in
     let few : turn .count ≤ 65535 = omega arith in
-    let next = next-survival (turn .count) few _ _ _ (between .before .before .survival-with .ensures) (log .ln .ensures) in (
+    let next = next-survival (turn .count) few _ _ _ (survival .survival-with .ensures) (log .ln .ensures) in (
       inv .0,
       next,
       goes-on _ _ _ _ (inv .2) _ (omega arith)
-          (c .higher .ensures
+          (c .step .ensures
           ∙ ap (λ (x : Float). higherWith x (turn .count) (turn .best))
-          (between .log-probability-between .ensures ∙ between-is (turn .count) few _ _ _ _ (inv .0) (inv .1) next)),
+          (between-is (turn .count) few _ _ _ _ (inv .0) (inv .1) next)),
     )
 
 returns : tie.Need-returns Inv-loop μ-loop
@@ -92,9 +86,7 @@ highest-spec =
     int-to-float-ln
     ln-requires
     survival-with-requires
-    int-to-float-log-probability-between
-    log-probability-between-requires
-    higher-requires
+    step-requires
     add-count
     loop-less
     loop-again
