@@ -9,5 +9,11 @@ pub mod Judgements
 pub mod Settlement
 pub mod Attempted
 pub mod Answered
+pub mod Turned
 pub mod Columned
 pub mod KeptRuns
+-- ---- for the walk by hand of a scan over a slice of structs
+pub mod LentOn
+pub mod SaidFacts
+pub mod FirstField
+pub mod RunSlices

@@ -4,4 +4,5 @@ pub mod Judging
 pub mod Columns
 pub mod Attempting
 pub mod Settling
+pub mod Turns
 pub mod Kept

@@ -3,6 +3,8 @@
 pub mod attempting;
 pub mod judging;
 pub mod run_columns;
+pub mod run_table;
 pub mod runs;
 pub mod settling;
 pub mod surveys;
+pub mod turns;
