@@ -1,7 +1,7 @@
 -- What the masses' loop keeps of two lobes changes no number: the density over a slice that holds their growths is the
 -- density; and how the loop fills such a slice. Assumes nothing.
-use Prim.Native.Nat.{ℕ, _+_, _*_, _≤_, _<_}
-use mathlib.Core.Path.{_≡_, refl, ap, _∙_, subst}
+use Prim.Native.Nat.{ℕ, zero, suc, _+_, _*_, _≤_, _<_}
+use mathlib.Core.Path.{_≡_, refl, sym, ap, _∙_, subst}
 use mathlib.Core.Bool.{Bool, true, false, cond}
 use mathlib.Core.List.{List}
 use mathlib.Core.Logic.{_⊎_, inl, inr}
@@ -12,13 +12,15 @@ use lib.Dec.{ltb}
 use lib.ListN.{length, set, List·getD-eq-default}
 use lib.Seq.{getD-set-same, getD-set-other, set-out}
 use lib.Ieee.{Float}
+use Rattle.meaning.specs.Fold.{fold}
+use Rattle.meaning.proofs.Folds.{fold-more, fold-none}
 use Rattle.routines.specs.Ops.{_⊕_, _⊖_, _⊗_, ofCount}
 use Rattle.routines.specs.Hoists.{lgammaWith}
 use Rattle.routines.specs.Lgamma.{lgammaOf}
 use Rattle.routines.specs.Ln.{lnOf}
 use Rattle.routines.proofs.Logarithms.{lgamma-with-is}
 use Rattle.helpers.specs.Hoists.{densityWith}
-use Rattle.helpers.specs.Kept.{growthOf, densityFrom, growthAt, densityAt, Keeps, Kept}
+use Rattle.helpers.specs.Kept.{growthOf, densityFrom, growthAt, densityAt, keepStep, keptAfter, Keeps, Kept}
 use Rattle.helpers.specs.declared.hoists.Lobe.{Lobe}
 
 -- ---- the density with its growth at hand
@@ -101,3 +103,22 @@ kept-more {l} {k} {kept} {end} held x y p q = record {
       (keeps-past (keeps-more (held .first) x p) (2 * end + 1) y (omega arith));
   second = keeps-more (keeps-past (held .second) _ x (omega arith)) y q;
 }
+
+-- ---- the slice that the loop leaves
+module _ (l k : Lobe) (held : List Float) where
+  one-more : (end : ℕ) → 1 ≤ end → Kept l k (fold (keepStep l k) 1 end held) end
+      → Kept l k (fold (keepStep l k) 1 (end + 1) held) (end + 1)
+  one-more end h so =
+      subst (λ (s : List Float). Kept l k s (end + 1)) (sym (fold-more (keepStep l k) 1 end held h))
+      (kept-more so _ _ refl refl)
+
+  all-kept : (top : ℕ) → Kept l k (fold (keepStep l k) 1 (top + 1) held) (top + 1)
+  all-kept zero =
+      subst (λ (s : List Float). Kept l k s 1) (sym (fold-none (keepStep l k) 1 1 held (omega arith))) (kept-none l k held)
+  all-kept (suc top) =
+      subst (λ (end : ℕ). Kept l k (fold (keepStep l k) 1 end held) end) (omega arith)
+      (one-more (top + 1) (omega arith) (all-kept top))
+
+  pub kept-after : (top : ℕ) → Kept l k (keptAfter l k top held) (top + 1)
+  unfolding keptAfter
+  kept-after = all-kept

@@ -6,8 +6,9 @@ use Prim.Native.Nat.{ℕ, _+_, _*_, _≤_, _<_}
 use mathlib.Core.Path.{_≡_}
 use mathlib.Core.Bool.{cond}
 use mathlib.Core.List.{List}
-use lib.ListN.{getD}
+use lib.ListN.{getD, set}
 use lib.Ieee.{Float}
+use Rattle.meaning.specs.Fold.{fold}
 use Rattle.routines.specs.Hoists.{lgammaWith}
 use Rattle.routines.specs.Ln.{lnOf}
 use Rattle.routines.specs.Ops.{_⊕_, _⊖_, _⊗_, ofCount}
@@ -29,6 +30,14 @@ growthAt l x kept i = getD kept i (growthOf l x)
 
 abbrev pub densityAt : Lobe → Float → Float → List Float → ℕ → Float
 densityAt l x gamma kept i = densityFrom l x gamma (growthAt l x kept i)
+
+-- ---- what the masses' loop leaves in the slice
+abbrev pub keepStep : Lobe → Lobe → ℕ → List Float → List Float
+keepStep l k n kept = set (set kept (2 * n) (growthOf l (ofCount n))) (2 * n + 1) (growthOf k (ofCount n))
+
+-- of the counts 1 to top; the rest as found
+unfoldable pub keptAfter : Lobe → Lobe → ℕ → List Float → List Float
+keptAfter l k top held = fold (keepStep l k) 1 (top + 1) held
 
 -- the slice holds a lobe's growths, in the j-th of two places for each count from 1 on and below `end`
 pub record Keeps (l : Lobe) (j : ℕ) (kept : List Float) (end : ℕ) : Type 0 where

@@ -19,7 +19,7 @@ pub fn growth_of(lobe: Lobe, count: f64) -> f64
 }
 
 // A number into its place, where the slice is long enough.
-pub fn keep(kept: &mut [f64], i: usize, growth: f64)
+pub(crate) fn keep(kept: &mut [f64], i: usize, growth: f64)
     ensures { λ _. ⌜ now (kept .exit) ≡ set (now (kept .entry)) i growth ⌝ }
 {
     if i < kept.len() {

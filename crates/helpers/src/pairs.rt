@@ -2,8 +2,7 @@
 // equal to the plain form.
 // Ported from src/preprocessing/math_helpers.rs of bacpop/sparrowhawk-asm, f1f8af1232, Apache-2.0; ported and changed.
 ghost use mathlib.Core.Path.{_≡_};
-ghost use Prim.Native.Nat.{_+_};
-ghost use Rattle.helpers.specs.Kept.{Kept};
+ghost use Rattle.helpers.specs.Kept.{keptAfter};
 ghost use Rattle.helpers.specs.Pairs.{lobesOf, ratioWith, lobeMassesOf};
 use crate::hoists::Lobe;
 use crate::hoists::binomial_lobe;
@@ -63,7 +62,7 @@ pub fn lobe_masses(
     top: u16,
 ) -> LobeMasses
     ensures { λ r. ⌜ r ≡ lobeMassesOf first second (now (ready .entry)) top ⌝ }
-    ensures { λ _. ⌜ Kept first second (now (kept .exit)) (top + 1) ⌝ }
+    ensures { λ _. ⌜ now (kept .exit) ≡ keptAfter first second top (now (kept .entry)) ⌝ }
 {
     let mut total = -1.0 / 0.0;
     let mut term = density(first, 1.0);

@@ -6,11 +6,11 @@ use Prim.Native.Nat.{_+_, _-_}
 use native.Mathlib.Omega.{arith}
 use lib.Ieee.{div, neg, ofBits}
 use lib.ListN.{length}
+use Rattle.meaning.proofs.Loops.{Folded, begins, goes-on, ends}
 use Rattle.routines.specs.Constants.{one}
 use Rattle.helpers.specs.Hoists.{densityOf}
-use Rattle.helpers.specs.Kept.{Kept}
+use Rattle.helpers.specs.Kept.{keepStep, keptAfter}
 use Rattle.helpers.specs.Pairs.{lobeRatio, lobeMassOf}
-use Rattle.helpers.proofs.Growths.{kept-none, kept-more}
 use Rattle.helpers.proofs.Recurrences.{Summed, sum-begins, sum-goes-on, sum-ends}
 use Rattle.helpers.proofs.pairs.lobe_masses.Statement.{statement}
 use Rattle.helpers.proofs.pairs.lobe_masses.Tie as tie
@@ -19,7 +19,7 @@ abbrev Inv-loop : tie.InvT-loop
 Inv-loop first second ready kept₀ top total₀ term₀ other-total₀ other-term₀ count₀ kept total term other-total other-term count =
     Summed (lobeRatio first ready) (densityOf first one) top total term count
     × Summed (lobeRatio second ready) (densityOf second one) top other-total other-term count
-    × Kept first second kept count
+    × Folded (keepStep first second) kept₀ 1 (top + 1) kept count
     × (length kept ≡ length kept₀)
 
 abbrev μ-loop : tie.MeasureT-loop
@@ -35,7 +35,7 @@ density-requires-2 c κs = search needs
 loop-holds : tie.Need-loop-holds Inv-loop μ-loop
 unfolding div neg ofBits
 loop-holds c =
-    (sum-begins _ _ _ _ _ refl (c .before .density .ensures), sum-begins _ _ _ _ _ refl (c .density2 .ensures), kept-none _ _ _, refl)
+    (sum-begins _ _ _ _ _ refl (c .before .density .ensures), sum-begins _ _ _ _ _ refl (c .density2 .ensures), begins _ _ 1 _ _ (omega arith) refl, refl)
 
 add-ln-at : tie.Need-add-ln-at Inv-loop μ-loop
 add-ln-at c = omega arith
@@ -103,8 +103,8 @@ loop-again c =
           (rw (first .ratio-with .ensures, growth1 .growth-of .ensures, log .ln-at .ensures)),
       sum-goes-on _ _ _ (inv .1) _ _ (omega arith) (sums .lse22 .ensures)
           (rw (c .ratio-with2 .ensures, growth2 .growth-of2 .ensures, log .ln-at .ensures)),
-      rw (kept2 .keep2 .ensures, kept1 .keep .ensures)
-          (kept-more (inv .2) _ _ (growth1 .growth-of .ensures) (growth2 .growth-of2 .ensures)),
+      goes-on _ _ 1 _ (inv .2) _ (omega arith)
+          (rw (kept2 .keep2 .ensures, kept1 .keep .ensures, growth1 .growth-of .ensures, growth2 .growth-of2 .ensures)),
       kept2 .keep2 .kept .0 ∙ kept1 .keep .kept .0 ∙ inv .3,
     )
 
@@ -112,12 +112,11 @@ same-length : tie.Need-same-length Inv-loop μ-loop
 same-length c = c .before .loop .inv .3
 
 returns : tie.Need-returns Inv-loop μ-loop
-unfolding lobeMassOf
+unfolding lobeMassOf keptAfter
 returns c =
     let turn = c .before in
     let inv = turn .loop .inv in
-    let past : turn .loop .count ≡ turn .before .before .before .before .before .args .top + 1 = omega arith in
-    (rw (sum-ends _ _ _ (inv .0) (omega arith), sum-ends _ _ _ (inv .1) (omega arith)), rw past at (inv .2))
+    (rw (sum-ends _ _ _ (inv .0) (omega arith), sum-ends _ _ _ (inv .1) (omega arith)), ends _ _ 1 _ (inv .2) (omega arith))
 
 pub lobe-masses-spec : {M : Type 1} → statement M
 lobe-masses-spec =

@@ -1,4 +1,5 @@
 -- `models::window_masses::masses_at` meets its contract. Assumes nothing.
+use Rattle.helpers.proofs.Growths.{kept-after}
 use Rattle.models.specs.Hoists.{massesAt}
 use borrow.Author.Needs.{needs}
 use Rattle.models.proofs.window_masses.masses_at.Statement.{statement}
@@ -25,7 +26,7 @@ returns c =
     let lobes = c .before .before .before in
     let error = lobes .before .before in (
       rw (c .mix-mass .ensures, lobes .lobe-masses .ensures .0, error .window-mass-with .ensures, error .before .ln-at .ensures),
-      lobes .lobe-masses .ensures .1,
+      rw (lobes .lobe-masses .ensures .1) (kept-after _ _ _ _),
     )
 
 pub masses-at-spec : {M : Type 1} → statement M
