@@ -23,7 +23,11 @@ use crate::draw::Draw;
 
 pub fn calls() -> Vec<Call> {
     let first = [costs::calls(), fits::calls(), params::calls(), errors::calls(), shelf_rules::calls(), recovery::calls()];
-    first.into_iter().chain([prepared_costs::calls(), many_heights::calls(), cutoffs::calls(), height_cutoffs::calls()]).flatten().collect()
+    first.into_iter().chain([prepared_costs::calls(), many_heights::calls(), cutoff_calls()]).flatten().collect()
+}
+
+pub fn cutoff_calls() -> Vec<Call> {
+    [cutoffs::calls(), height_cutoffs::calls()].into_iter().flatten().collect()
 }
 
 fn call(

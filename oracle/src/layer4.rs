@@ -3,7 +3,7 @@
 mod attempt_arguments;
 mod attempt_refusals;
 mod attempt_strata;
-mod attempts;
+pub mod attempts;
 mod attempts_port;
 pub mod read_back;
 mod run_table;
@@ -16,6 +16,7 @@ mod validator;
 mod verdicts;
 
 pub use run_table::{Run, RunTable};
+pub use selection::{ATTEMPT, BEFORE, REJECTED};
 pub use starts::Search;
 
 use crate::call::{Answer, Call, Kind, EACH_CALL};

@@ -65,7 +65,7 @@ macro_rules! theirs {
                 RunOutcome { converged, iterations: run.iterations, hit_cap: run.capped }
             }
 
-            fn words(a: &FitAttempt) -> Vec<u64> {
+            pub fn words(a: &FitAttempt) -> Vec<u64> {
                 let families = [u64::from(a.error_model != error_model(0)), u64::from(a.genome_model != genome_model(0))];
                 let reason = a.rejection.map(|why| REASONS.iter().position(|of| *of == why).expect("a reason has a number") as u64);
                 let said = [u64::from(a.candidate.is_some()), u64::from(reason.is_some()), reason.unwrap_or(0)];
@@ -74,17 +74,21 @@ macro_rules! theirs {
                 [&families[..], &said, &totals, &fit].concat()
             }
 
-            pub fn attempt(t: &RunTable) -> Vec<u64> {
-                if let Some(number) = t.refusal() {
-                    return answer_words(t, number, vec![0; ATTEMPT], &t.problem.table);
-                }
+            /// Of a table that gets no number.
+            pub fn attempted(t: &RunTable) -> FitAttempt {
                 let outcomes = t.runs().into_iter().map(|run| outcome(t, run)).collect();
                 let judge = |fit: &SpectrumFit, valley: usize, peak: usize| {
                     let rule = first(rules(fit, valley as u64, peak as u64, t.mass_limit));
                     (rule > 0).then(|| REASONS[rule as usize])
                 };
-                let attempt = attempt_from(&mixture(&t.problem), outcomes, t.valley as usize, t.problem.peak as usize, judge);
-                answer_words(t, 0, words(&attempt), &t.problem.table)
+                attempt_from(&mixture(&t.problem), outcomes, t.valley as usize, t.problem.peak as usize, judge)
+            }
+
+            pub fn attempt(t: &RunTable) -> Vec<u64> {
+                match t.refusal() {
+                    Some(number) => answer_words(t, number, vec![0; ATTEMPT], &t.problem.table),
+                    None => answer_words(t, 0, words(&attempted(t)), &t.problem.table),
+                }
             }
         }
     };

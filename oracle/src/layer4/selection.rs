@@ -17,7 +17,7 @@ const FOUR: &[(&str, Kind)] = &[("attempts", Other)];
 pub const BEFORE: usize = 7;
 pub const ATTEMPT: usize = BEFORE + FIT;
 const HELD: usize = 2;
-const REJECTED: usize = 3;
+pub const REJECTED: usize = 3;
 const REASON: usize = 4;
 const BIC: usize = BEFORE + 23;
 

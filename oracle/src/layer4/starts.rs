@@ -24,7 +24,7 @@ pub struct Search {
 }
 
 impl Search {
-    fn words(&self) -> Vec<u64> {
+    pub fn words(&self) -> Vec<u64> {
         let mut w = vec![self.hint.to_bits(), self.share.to_bits(), self.error.into(), self.genome.into()];
         let lent = self.lent.iter().flatten();
         for entries in lent.chain([&self.seeds, &self.shapes, &self.out]) {
@@ -55,7 +55,7 @@ impl Search {
     }
 
     /// How many numbers the starts have in all; document 01 has 2 Pareto rows and 3 Weibull rows.
-    fn needed(&self) -> usize {
+    pub fn needed(&self) -> usize {
         let rows = match &self.lent {
             Some([pareto, weibull]) => (if self.weibull() { weibull } else { pareto }).len() / 3,
             None => 2 + usize::from(self.weibull()),
