@@ -5,7 +5,7 @@ ghost use mathlib.Core.Bool.{true};
 ghost use lib.Ieee.{binary64, ofBits};
 
 // The most words that a row has.
-pub(crate) const MOST: usize = 200;
+pub(crate) const MOST: usize = 640;
 
 // A hexadecimal digit's value, and 16 for any other byte.
 pub(crate) fn digit(b: u8) -> u64 {
