@@ -1,9 +1,10 @@
 //! The whole path from a histogram file to cutoffs. `oracle/path` builds it twice: with the port's library, and without it, where the four
 //! routines are those of `written.rs`.
 //! Usage: path search altered|unaltered FILE FROM TO   what the searches from starts moved in these ways find; 0 is no move
-//!        path judge FILE FOUND                        the port beside the Rust; FOUND is what `search altered` found. Exits 1 on a difference
+//!        path judge FILE FOUND                        the port beside the Rust: for each step how many words were compared and how many
+//!                                                     differ; FOUND is what `search altered` found
 //!        path rows FILE                               the replay's rows of the path of one sample
-//!        path report SAMPLES DIR NAME ..              the tables, from what the searches found, which is in DIR
+//!        path report SAMPLES SEARCHED JUDGED NAME ..  the page, from what the two above printed, which is in these folders
 #![allow(dead_code)]
 
 mod argmin;
@@ -68,9 +69,6 @@ fn judge(path: &str, found: &str) {
     let mut path = judge::Path::of(&s);
     path.beside(&file, &s, &Found::all(&text(found))[0]);
     path.steps.iter().for_each(|step| println!("{} {} {}", step.compared, step.apart, step.name));
-    if path.steps.iter().any(|step| step.apart > 0) {
-        std::process::exit(1);
-    }
 }
 
 #[cfg(not(written))]
@@ -78,8 +76,8 @@ fn rows(path: &str) {
     print!("{}", judge::Path::of(&Sample::read(path)).rows);
 }
 
-fn told(samples: &str, found: &str, name: &str) -> report::Told {
-    let of = |build: &str| Found::all(&text(&format!("{found}/{name}.{build}")));
+fn told(samples: &str, searched: &str, judged: &str, name: &str) -> report::Told {
+    let of = |build: &str| Found::all(&text(&format!("{searched}/{name}.{build}")));
     let step = |line: &str| {
         let words: Vec<&str> = line.splitn(3, ' ').collect();
         (words[2].to_string(), words[0].parse().expect("a number"), words[1].parse().expect("a number"))
@@ -89,7 +87,7 @@ fn told(samples: &str, found: &str, name: &str) -> report::Told {
         sample: Sample::read(&format!("{samples}/{name}.histogram")),
         altered: of("altered"),
         unaltered: of("unaltered"),
-        judged: text(&format!("{found}/{name}.judged")).lines().map(step).collect(),
+        judged: text(&format!("{judged}/{name}")).lines().map(step).collect(),
     }
 }
 
@@ -103,7 +101,9 @@ fn main() {
         ["judge", path, found] => judge(path, found),
         #[cfg(not(written))]
         ["rows", path] => rows(path),
-        ["report", samples, found, names @ ..] => report::page(&names.iter().map(|name| told(samples, found, name)).collect::<Vec<_>>()),
+        ["report", samples, searched, judged, names @ ..] => {
+            report::page(&names.iter().map(|name| told(samples, searched, judged, name)).collect::<Vec<_>>());
+        }
         _ => panic!("path: this is no way to ask"),
     }
 }
