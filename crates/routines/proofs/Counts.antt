@@ -3,9 +3,9 @@
 use mathlib.Core.Path.{_≡_, refl, sym, ap, _∙_}
 use mathlib.Core.Bool.{Bool, true, false, _&&_, true≢false}
 use Prim.Native.Nat.{ℕ, _+_, _*_, _^_, _≤_, _<_}
-use native.Mathlib.Nat.{zero-lt-suc, add-comm, mul-one, mul-pos}
+use native.Mathlib.Nat.{zero-lt-suc, add-comm, mul-one, mul-pos, eq-of-mul-eq-mul-right}
 use native.Mathlib.Omega.{arith}
-use borrow.Author.Tests.{le-ltb, ne-eqb, eqb-true}
+use borrow.Author.Tests.{le-ltb, eq-eqb, ne-eqb, eqb-true, eqb-false}
 use lib.IntN.{ℤ}
 use lib.Dec.{eqb, le→leb}
 use lib.Ieee.{Float, nan, inf, fin, Format, binary64, up, down, round, sum, add, sub, neg, div, eq}
@@ -122,6 +122,49 @@ module _ (f : Format) where
           let l : x * 1 * q ≡ a * p * q = ap (λ (z : ℕ). z * q) h in
           omega arith
 
+-- ---- a comparison of whole numbers
+opened-level : (m k : ℕ) (e d : ℤ) → eq (fin false m e) (fin false k d) ≡ eqb (m * up e * down d) (k * up d * down e)
+unfolding eq
+opened-level m k e d = settled (eqb (m * up e * down d) (k * up d * down e))
+  where
+    settled : (b : Bool) → (b && true) ≡ b
+    settled true = refl
+    settled false = refl
+
+level-is : (x y : Float) (a b : ℕ) → Is x a → Is y b → eq x y ≡ eqb a b
+level-is nan y a b v w = absurd v
+level-is (inf s) y a b v w = absurd v
+level-is (fin s m e) nan a b v w = absurd w
+level-is (fin s m e) (inf t) a b v w = absurd w
+level-is (fin true m e) (fin t k d) a b v w = absurd (true≢false (v .0))
+level-is (fin false m e) (fin true k d) a b v w = absurd (true≢false (w .0))
+level-is (fin false m e) (fin false k d) a b v w =
+    opened-level m k e d ∙ whichever (eqb a b) refl
+  where
+    -- both are the numbers over one denominator
+    scaled : (x p q a : ℕ) → x * 1 ≡ a * p → x * q ≡ a * (p * q)
+    scaled x p q a h =
+        let l : x * 1 * q ≡ a * p * q = ap (λ (z : ℕ). z * q) h in
+        omega arith
+
+    turned-round : (y p q b : ℕ) → y * 1 ≡ b * q → y * p ≡ b * (p * q)
+    turned-round y p q b h =
+        let l : y * 1 * p ≡ b * q * p = ap (λ (z : ℕ). z * p) h in
+        omega arith
+
+    left : m * up e * down d ≡ a * (down e * down d)
+    left = scaled (m * up e) (down e) (down d) a (v .1)
+
+    right : k * up d * down e ≡ b * (down e * down d)
+    right = turned-round (k * up d) (down e) (down d) b (w .1)
+
+    whichever : (c : Bool) → eqb a b ≡ c → eqb (m * up e * down d) (k * up d * down e) ≡ c
+    whichever true h = eq-eqb _ _ (left ∙ ap (λ (n : ℕ). n * (down e * down d)) (eqb-true a b h) ∙ sym right)
+    whichever false h =
+        ne-eqb _ _ (λ (z : m * up e * down d ≡ k * up d * down e).
+        eqb-false a b h
+        (eq-of-mul-eq-mul-right (down e * down d) (mul-pos (down-pos e) (down-pos d)) a b (sym left ∙ z ∙ right)))
+
 -- what equals 1 is 1
 one-found : (x : Float) → eq x one ≡ true → Is x 1
 unfolding eq ofBits
@@ -163,6 +206,9 @@ count-more n h = sum-is binary64 (ofCount n) one n 1 (count-is n h) one-is
 pub count-less : (n : ℕ) → n + 1 ≤ 2 ^ 53 → ofCount (n + 1) ⊖ one ≡ ofCount n
 unfolding ofInt
 count-less n h = difference-is binary64 (ofCount (n + 1)) one n 1 (rw (add-comm 1 n) (count-is (n + 1) h)) one-is
+
+pub count-equals-one : (n : ℕ) → n ≤ 2 ^ 53 → eq (ofCount n) one ≡ eqb n 1
+count-equals-one n h = level-is (ofCount n) one n 1 (count-is n h) one-is
 
 pub count-back : (w n : ℕ) → n ≤ 2 ^ 53 → n < 2 ^ w → toUnsigned w (ofCount n) ≡ n
 unfolding inFloat
