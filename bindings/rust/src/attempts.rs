@@ -1,6 +1,7 @@
 //! What the runs of a configuration came to.
 
 use crate::raw;
+pub use crate::raw::Run;
 use crate::refusal::answered;
 use crate::{Configuration, ErrorModel, FitRejection, GenomeModel, Refusal, Spectrum, SpectrumFit};
 
@@ -87,7 +88,40 @@ impl Spectrum<'_> {
         Ok(FitAttempt::of(answer.attempt))
     }
 
-    // The place of `attempt_from`, over a slice of run structs, which the library does not have yet.
+    /// The same over a run table of structs, one for each run; `lists` has the numbers of their lists.
+    pub fn attempt_from(
+        &self,
+        configuration: Configuration,
+        mass_limit: f64,
+        runs: &[Run],
+        lists: &[f64],
+        table: &mut [f64],
+    ) -> Result<FitAttempt, Refusal> {
+        let setup = raw::Setup {
+            scale: self.scale,
+            window_end: self.window_end,
+            valley: self.valley,
+            peak: self.peak,
+            error: configuration.error.flat(),
+            genome: configuration.genome.flat(),
+            mass_limit,
+        };
+        let answer = unsafe {
+            raw::fog_attempt_from(
+                self.bins.as_ptr(),
+                self.bins.len(),
+                setup,
+                runs.as_ptr(),
+                runs.len(),
+                lists.as_ptr(),
+                lists.len(),
+                table.as_mut_ptr(),
+                table.len(),
+            )
+        };
+        answered(answer.number)?;
+        Ok(FitAttempt::of(answer.attempt))
+    }
 }
 
 impl FitAttempt {

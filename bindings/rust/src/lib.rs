@@ -46,7 +46,7 @@ mod shelf;
 mod spectrum;
 mod starts;
 
-pub use attempts::{FitAttempt, RunColumns};
+pub use attempts::{FitAttempt, Run, RunColumns};
 pub use cost::{prepare_window, Prepared};
 pub use cutoffs::SureCutoff;
 pub use densities::{discrete_nb_mode, ln_dbetabinom, ln_dnbinom, ln_single_copy, log_nb_mass, mix_single_copy, single_copy_log_mass};

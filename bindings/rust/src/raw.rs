@@ -116,6 +116,35 @@ pub struct Attempt {
 }
 
 #[repr(C)]
+pub struct Setup {
+    pub scale: f64,
+    pub window_end: usize,
+    pub valley: usize,
+    pub peak: usize,
+    pub error: u8,
+    pub genome: u8,
+    pub mass_limit: f64,
+}
+
+/// A run of the search. Where it did not converge, its cost and its list are not looked at.
+#[repr(C)]
+#[derive(Clone, Copy, Debug, Default, PartialEq)]
+pub struct Run {
+    /// Whether it converged. A run that did not counts for its iterations and its cap alone.
+    pub converged: bool,
+    /// Its cost, which is finite and above 0 for a converged run.
+    pub cost: f64,
+    /// Where its parameter list starts in the lists that are handed over beside it.
+    pub place: usize,
+    /// The length of its list.
+    pub length: usize,
+    /// Its iterations.
+    pub iterations: u64,
+    /// Whether it ran into its cap.
+    pub hit_cap: bool,
+}
+
+#[repr(C)]
 pub struct AttemptAnswer {
     pub number: u8,
     pub attempt: Attempt,
@@ -275,6 +304,17 @@ extern "C" {
         iterations_length: usize,
         caps: *const bool,
         caps_length: usize,
+        lists: *const f64,
+        lists_length: usize,
+        table: *mut f64,
+        table_length: usize,
+    ) -> AttemptAnswer;
+    pub fn fog_attempt_from(
+        bins: *const u32,
+        bins_length: usize,
+        setup: Setup,
+        runs: *const Run,
+        runs_length: usize,
         lists: *const f64,
         lists_length: usize,
         table: *mut f64,

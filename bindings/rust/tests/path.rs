@@ -1,4 +1,4 @@
-use fogatise::{fit_starts, select_fit, Configuration, ErrorModel, GenomeModel, Refusal, RunColumns, Seeds, Spectrum, SureCutoff};
+use fogatise::{fit_starts, select_fit, Configuration, ErrorModel, GenomeModel, Refusal, Run, RunColumns, Seeds, Spectrum, SureCutoff};
 
 const WEIBULL: Configuration = Configuration { error: ErrorModel::FreeSingletonWeibull, genome: GenomeModel::NegativeBinomial };
 const PARETO: Configuration = Configuration { error: ErrorModel::SingletonPareto, genome: GenomeModel::NegativeBinomial };
@@ -56,6 +56,19 @@ fn main() -> Result<(), Refusal> {
         spectrum.attempt_from_numbers(PARETO_SHELF, 1.1, &RunColumns::default(), &mut table)?,
     ];
     assert_eq!(attempts.iter().filter(|attempt| attempt.is_valid()).count(), 3);
+
+    // The same runs as structs.
+    let runs: Vec<Run> = (0..pareto.costs.len())
+        .map(|i| Run {
+            converged: pareto.converged[i],
+            cost: pareto.costs[i],
+            place: pareto.places[i],
+            length: pareto.lengths[i],
+            iterations: pareto.iterations[i],
+            hit_cap: pareto.caps[i],
+        })
+        .collect();
+    assert_eq!(spectrum.attempt_from(PARETO, 1.1, &runs, pareto.lists, &mut [])?, attempts[2]);
     assert_eq!((attempts[2].total_iterations, attempts[2].capped_starts), (1471, 1));
 
     // The Pareto family has the lowest BIC.

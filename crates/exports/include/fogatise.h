@@ -217,6 +217,30 @@ typedef struct {
     uint32_t capped_starts;
 } fog_attempt;
 
+/* The numbers of an attempt: the spectrum's scale and window end, what the validator asks, and the families. */
+typedef struct {
+    double scale;
+    size_t window_end;
+    size_t valley;
+    size_t peak;
+    uint8_t error;
+    uint8_t genome;
+    double mass_limit;
+} fog_setup;
+
+/*
+ * A run of the search. Its parameter list is the `length` numbers from `place` on of the lists that are handed over beside it. Where
+ * converged is false, cost, place and length are not looked at.
+ */
+typedef struct {
+    bool converged;
+    double cost;
+    size_t place;
+    size_t length;
+    uint64_t iterations;
+    bool hit_cap;
+} fog_run;
+
 /* Number 0 and the attempt; or a number, and an attempt with every field 0. */
 typedef struct {
     uint8_t number;
@@ -508,6 +532,10 @@ fog_attempt_answer fog_attempt_from_numbers(const uint32_t *bins, size_t bins_le
                                             size_t places_length, const size_t *lengths, size_t lengths_length,
                                             const uint64_t *iterations, size_t iterations_length, const bool *caps, size_t caps_length,
                                             const double *lists, size_t lists_length, double *table, size_t table_length);
+
+/* What fog_attempt_from_numbers answers over the six fields of the runs, with the numbers in one struct. */
+fog_attempt_answer fog_attempt_from(const uint32_t *bins, size_t bins_length, fog_setup setup, const fog_run *runs, size_t runs_length,
+                                    const double *lists, size_t lists_length, double *table, size_t table_length);
 
 /* Whether there is a candidate and no rejection. */
 bool fog_is_valid(fog_attempt attempt);

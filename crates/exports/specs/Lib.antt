@@ -4,3 +4,4 @@ pub mod FlatCutoffs
 pub mod FlatFile
 pub mod FlatAttempts
 pub mod FlatTables
+pub mod FlatSetups

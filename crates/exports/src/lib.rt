@@ -10,6 +10,7 @@ pub mod flat_cutoffs;
 pub mod four;
 pub mod masses;
 pub mod readers;
+pub mod run_slices;
 pub mod run_tables;
 pub mod shelf;
 pub mod spectra;

@@ -69,7 +69,7 @@ fn flat_attempt(attempt: FitAttempt) -> FlatAttempt
     }
 }
 
-fn flat_attempt_answer(answer: AttemptAnswer) -> FlatAttemptAnswer
+pub(crate) fn flat_attempt_answer(answer: AttemptAnswer) -> FlatAttemptAnswer
     ensures { λ r. ⌜ r ≡ sayAttempt answer ⌝ }
 {
     FlatAttemptAnswer {
@@ -78,7 +78,7 @@ fn flat_attempt_answer(answer: AttemptAnswer) -> FlatAttemptAnswer
     }
 }
 
-fn setup_of(
+pub(crate) fn setup_of(
     scale: f64,
     window_end: usize,
     valley: usize,
