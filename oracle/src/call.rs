@@ -61,6 +61,13 @@ impl Answer {
 
 type Program = fn(&[u64]) -> Vec<u64>;
 
+/// How much of a stratum is drawn: a part of 20 takes one input of each 20 that it is to have; then so many times as many.
+#[derive(Clone, Copy)]
+pub struct Size {
+    pub part: u64,
+    pub times: u64,
+}
+
 pub struct Call {
     /// The number by which the replay knows it.
     pub number: u64,
@@ -215,9 +222,10 @@ impl Call {
         strata
     }
 
-    /// Each input of a stratum in turn, as long as `each` asks for more.
-    fn each_input(&self, stratum: &Stratum, mut each: impl FnMut(&[u64]) -> bool) {
-        let mut draw = Draw::named(&format!("{}, {}", self.name, stratum.name));
+    /// Each input of a stratum in turn, as long as `each` asks for more. Every pass but the first has a seed of its own.
+    fn each_input(&self, stratum: &Stratum, pass: u64, mut each: impl FnMut(&[u64]) -> bool) {
+        let name = format!("{}, {}", self.name, stratum.name);
+        let mut draw = Draw::named(&if pass == 0 { name } else { format!("{name}, pass {pass}") });
         for _ in 0..4 * stratum.wanted {
             let input = (stratum.draw)(&mut draw);
             if (stratum.meets)(&input) && !each(&input) {
@@ -226,24 +234,26 @@ impl Call {
         }
     }
 
-    /// `part` of 20 takes one input of each 20 that a stratum is to have.
-    pub fn compare(&self, tally: &mut Tally, part: u64) {
+    pub fn compare(&self, tally: &mut Tally, size: Size) {
         for stratum in self.strata() {
-            let wanted = stratum.wanted.div_ceil(part);
-            let mut row = Row::new(self, &stratum.name, wanted);
+            let wanted = stratum.wanted.div_ceil(size.part);
+            let mut row = Row::new(self, &stratum.name, wanted * size.times);
             let mut distance = Distance::new(self.name, &stratum.name);
-            self.each_input(&stratum, |input| {
-                if (self.open)(input) {
-                    row.open += 1;
-                    return true;
-                }
-                let ours = (self.ours)(input);
-                row.compare(input, &ours, &(self.theirs)(input));
-                if let (true, Some(unaltered)) = (stratum.ordinary, self.unaltered) {
-                    distance.take(self.answer, &ours, &unaltered(input));
-                }
-                row.comparisons < wanted
-            });
+            for pass in 0..size.times {
+                let to = row.comparisons + wanted;
+                self.each_input(&stratum, pass, |input| {
+                    if (self.open)(input) {
+                        row.open += 1;
+                        return true;
+                    }
+                    let ours = (self.ours)(input);
+                    row.compare(input, &ours, &(self.theirs)(input));
+                    if let (true, Some(unaltered)) = (stratum.ordinary, self.unaltered) {
+                        distance.take(self.answer, &ours, &unaltered(input));
+                    }
+                    row.comparisons < to
+                });
+            }
             tally.add(row, stratum.ordinary);
             tally.distances.push(distance);
         }
@@ -255,7 +265,7 @@ impl Call {
         for stratum in self.strata().into_iter().filter(|stratum| !stratum.long) {
             let mut kept = 0;
             text += &format!("# {}: {}\n", self.name, stratum.name);
-            self.each_input(&stratum, |input| {
+            self.each_input(&stratum, 0, |input| {
                 if (self.open)(input) {
                     return true;
                 }

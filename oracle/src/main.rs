@@ -20,7 +20,7 @@ mod unaltered;
 mod words;
 mod written;
 
-use call::Call;
+use call::{Call, Size};
 use std::time::Instant;
 use tally::Tally;
 
@@ -32,22 +32,28 @@ const LONGEST: [usize; 3] = [64, 128, 200];
 /// Calls that the replay does not know.
 const NOT_REPLAYED: [u64; 3] = [83, 84, 93];
 
-/// What the command line asks for: one layer, one call, one input of so many, the replay's rows.
+/// What the command line asks for: one layer, one call, how many inputs, the replay's rows.
 struct Asked {
     layer: Option<u64>,
     call: Option<String>,
-    part: u64,
+    size: Size,
     sample: bool,
 }
 
+/// The number behind an option.
+fn number(option: &str, word: Option<String>) -> u64 {
+    word.and_then(|n| n.parse().ok()).filter(|&n| n > 0).unwrap_or_else(|| panic!("{option} takes a number above 0"))
+}
+
 fn asked() -> Asked {
-    let mut asked = Asked { layer: None, call: None, part: 1, sample: false };
+    let mut asked = Asked { layer: None, call: None, size: Size { part: 1, times: 1 }, sample: false };
     let mut words = std::env::args().skip(1);
     while let Some(word) = words.next() {
         match word.as_str() {
             "--layer" => asked.layer = words.next().and_then(|n| n.parse().ok()),
             "--call" => asked.call = words.next(),
-            "--part" => asked.part = words.next().and_then(|n| n.parse().ok()).filter(|&n| n > 0).expect("--part takes a number"),
+            "--part" => asked.size.part = number("--part", words.next()),
+            "--times" => asked.size.times = number("--times", words.next()),
             "--sample" => asked.sample = true,
             _ => panic!("oracle: {word} is no option"),
         }
@@ -64,23 +70,23 @@ impl Asked {
 }
 
 /// Prints the tables; whether all is well.
-fn compare(calls: &[Call], part: u64) -> bool {
+fn compare(calls: &[Call], size: Size) -> bool {
     let mut tally = Tally::default();
     for call in calls {
         let started = Instant::now();
-        call.compare(&mut tally, part);
+        call.compare(&mut tally, size);
         eprintln!("{} .. {} s", call.name, started.elapsed().as_secs());
     }
-    let mut faults = tally.faults(part);
+    let mut faults = tally.faults(size);
     println!("## The port against the Rust\n\n{}\n{}\n", tally.call_table(), tally.totals());
     println!("## The numbers that came back\n\n{}", tally.refusal_table());
     println!("## The port against the unaltered Rust\n\n{}", tally.call_distances());
-    if part == 1 && calls.iter().any(|call| call.name == "cost") {
+    if size.part == 1 && calls.iter().any(|call| call.name == "cost") {
         let (table, apart) = layer3::usability::table();
         println!("## How often a cost is infinite\n\n{table}");
         faults.extend(apart);
     }
-    if part == 1 && calls.iter().any(|call| call.name == "fit_starts") {
+    if size.part == 1 && calls.iter().any(|call| call.name == "fit_starts") {
         println!("## How a start reads back\n\n{}", layer4::read_back::table());
     }
     println!("## Each stratum\n\n{}", tally.comparison_table());
@@ -99,7 +105,7 @@ fn main() {
             let upper = usize::from(call.number >= 64) + usize::from(call.number >= 96);
             print!("{}", call.sample(ROWS[upper], LONGEST[upper]));
         }
-    } else if !compare(&calls, asked.part) {
+    } else if !compare(&calls, asked.size) {
         std::process::exit(1);
     }
 }

@@ -1,6 +1,6 @@
 //! What was compared: a row for each call and stratum; and how far the unaltered Rust is away.
 
-use crate::call::{Answer, Call};
+use crate::call::{Answer, Call, Size};
 use crate::words::is_finite;
 
 pub struct Row {
@@ -232,7 +232,7 @@ impl Tally {
     }
 
     /// Each difference's first input, and each stratum and call that was not reached.
-    pub fn faults(&self, part: u64) -> Vec<String> {
+    pub fn faults(&self, size: Size) -> Vec<String> {
         let mut faults = Vec::new();
         for row in &self.rows {
             if row.differences > 0 {
@@ -243,7 +243,7 @@ impl Tally {
             }
         }
         let wanted = |call: &str| self.of(call).next().expect("a call has strata").inputs;
-        let short = self.calls().into_iter().filter(|call| self.comparisons(call) < wanted(call) / part);
+        let short = self.calls().into_iter().filter(|call| self.comparisons(call) < wanted(call) / size.part * size.times);
         faults.extend(short.map(|call| format!("{call}: {} comparisons are too few", self.comparisons(call))));
         faults.extend(self.hollow.iter().map(|name| format!("{name}: fewer than half of the answers are finite")));
         faults
