@@ -3,11 +3,11 @@
 mod cost_strata;
 mod costs;
 mod cutoff_strata;
-mod cutoffs;
+pub mod cutoffs;
 mod errors;
 pub mod fits;
-mod height_cutoffs;
-mod many_heights;
+pub mod height_cutoffs;
+pub mod many_heights;
 mod params;
 mod prepared_costs;
 mod problem;

@@ -4,7 +4,7 @@ mod attempt_arguments;
 mod attempt_refusals;
 mod attempt_strata;
 pub mod attempts;
-mod attempts_port;
+pub mod attempts_port;
 pub mod read_back;
 mod run_table;
 mod searched;
@@ -12,7 +12,7 @@ mod selection;
 mod spectra;
 mod starts;
 mod tables;
-mod validator;
+pub mod validator;
 mod verdicts;
 
 pub use run_table::{Run, RunTable};

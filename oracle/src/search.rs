@@ -6,8 +6,8 @@ use crate::layer3::Problem;
 use crate::linked::spectrum_fitter::{empirical_shelf_share, fit_starts};
 use crate::spectra;
 
-const SEEDS: [f64; 3] = [2.0, 8.0, 15.0];
-const SHAPES: [(f64, f64); 2] = [(0.5, 3.0), (0.75, 4.0)];
+pub const SEEDS: [f64; 3] = [2.0, 8.0, 15.0];
+pub const SHAPES: [(f64, f64); 2] = [(0.5, 3.0), (0.75, 4.0)];
 
 /// How far each point of the first simplex is from the start, and the costs' spread at which the search ends.
 const STEP: f64 = 0.5;

@@ -24,13 +24,17 @@ fn thread_time() -> f64 {
     time.seconds as f64 * 1e9 + time.nanoseconds as f64
 }
 
-/// Work on the input of a number.
-pub type Side<'a> = &'a mut dyn FnMut(usize);
+/// Work on the input of a number, and what is laid ready for it before the clock starts.
+pub struct Side<'a> {
+    pub ready: &'a mut dyn FnMut(usize),
+    pub work: &'a mut dyn FnMut(usize),
+}
 
-fn slice(side: Side, inputs: impl Iterator<Item = usize>) -> f64 {
+fn slice(side: &mut Side, inputs: impl Iterator<Item = usize> + Clone) -> f64 {
+    inputs.clone().for_each(|i| (side.ready)(i));
     let start = thread_time();
     for i in inputs {
-        side(i);
+        (side.work)(i);
     }
     thread_time() - start
 }
@@ -50,25 +54,34 @@ fn sorted(mut values: Vec<f64>) -> Vec<f64> {
 }
 
 /// The sums of both sides over a run; the side that begins changes from slice to slice.
-fn run(inputs: usize, slices: usize, batch: usize, ours: Side, theirs: Side) -> [f64; 2] {
+fn run(inputs: usize, slices: usize, batch: usize, sides: &mut [Side; 2]) -> [f64; 2] {
     let mut times = [0.0; 2];
     for s in 0..slices {
         let chosen = (s * batch..(s + 1) * batch).map(|i| i % inputs);
         for turn in 0..2 {
             let side = (s + turn) % 2;
-            times[side] += slice(if side == 0 { &mut *ours } else { &mut *theirs }, chosen.clone());
+            times[side] += slice(&mut sides[side], chosen.clone());
         }
     }
     times
 }
 
-pub fn race(inputs: usize, divisor: usize, ours: Side, theirs: Side) -> Times {
-    slice(ours, 0..inputs);
-    let each = slice(theirs, 0..inputs) / inputs as f64;
+/// Ours, then theirs.
+pub fn race(inputs: usize, divisor: usize, mut sides: [Side; 2]) -> Times {
+    slice(&mut sides[0], 0..inputs);
+    let each = slice(&mut sides[1], 0..inputs) / inputs as f64;
     let batch = (SLICE / each).ceil() as usize;
     let slices = (SLICES / divisor).max(2);
-    let runs: Vec<[f64; 2]> = (0..RUNS).map(|_| run(inputs, slices, batch, ours, theirs)).collect();
+    let runs: Vec<[f64; 2]> = (0..RUNS).map(|_| run(inputs, slices, batch, &mut sides)).collect();
     let each = |side: usize| sorted(runs.iter().map(|t| t[side] / (slices * batch) as f64).collect())[RUNS / 2];
     let ratios = sorted(runs.iter().map(|t| t[0] / t[1]).collect());
     Times { ours: each(0), theirs: each(1), ratio: ratios[RUNS / 2], least: ratios[0], largest: ratios[RUNS - 1] }
+}
+
+/// The same over inputs that nothing is laid ready for.
+pub fn against<T>(inputs: &[T], divisor: usize, mut ours: impl FnMut(&T), mut theirs: impl FnMut(&T)) -> Times {
+    let at = |i: usize| std::hint::black_box(&inputs[i]);
+    let ours = Side { ready: &mut |_| {}, work: &mut |i| ours(at(i)) };
+    let theirs = Side { ready: &mut |_| {}, work: &mut |i| theirs(at(i)) };
+    race(inputs.len(), divisor, [ours, theirs])
 }
