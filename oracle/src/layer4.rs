@@ -8,7 +8,7 @@ pub mod attempts_port;
 pub mod read_back;
 mod run_table;
 mod searched;
-mod selection;
+pub mod selection;
 mod spectra;
 mod starts;
 mod tables;
@@ -16,7 +16,6 @@ pub mod validator;
 mod verdicts;
 
 pub use run_table::{Run, RunTable};
-pub use selection::{ATTEMPT, BEFORE, REJECTED};
 pub use starts::Search;
 
 use crate::call::{Answer, Call, Kind, EACH_CALL};

@@ -3,12 +3,12 @@
 
 use crate::call::Call;
 use crate::layer3::rust::FIT;
-use crate::layer4::{self, ATTEMPT};
+use crate::layer4::selection::ATTEMPT;
 use crate::lines::{line, run_words, Found};
 use crate::sample::{Sample, BUDGETS, CONFIGURATIONS};
 use crate::simplex::Run;
 use crate::words::push_bins;
-use crate::{layer3, port_side};
+use crate::{layer3, layer4, port_side};
 
 /// In the path's order.
 const STEPS: [&str; 8] = ["bins", "shelf share", "starts", "runs", "attempts", "selection", "cutoffs", "the same without the library"];

@@ -1,6 +1,6 @@
 //! The page of results, from what the searches found.
 
-use crate::layer4::{BEFORE, REJECTED};
+use crate::layer4::selection::{BEFORE, REJECTED};
 use crate::lines::Found;
 use crate::sample::{family, Sample, BUDGETS, CONFIGURATIONS};
 use crate::sides::linked;
