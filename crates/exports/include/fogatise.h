@@ -2,7 +2,7 @@
  * Fogatise for C and Rust: the static library that `rt staticlib exports` writes. Link it alone: it has the four routines too.
  *
  * Every function ends and answers for every argument, NaN and infinities included. None keeps a pointer, allocates, or reads or writes
- * anything but its arguments, so any of them may be called from several threads at once.
+ * anything but its arguments, so any of them may be called from several threads at once. A cost keeps up to 32 KiB of numbers on the stack.
  *
  * The library is for x86-64. The processor is assumed to be as it is when a program starts: it rounds to nearest, underflow is gradual, and
  * floating-point exceptions are masked. Infinities and NaNs are ordinary values here, so feenableexcept would end a program in the middle
@@ -351,9 +351,9 @@ size_t fog_list_length(uint8_t error, uint8_t genome);
 
 /*
  * The negative log-likelihood of the counts 1 to window_end at the parameters of a list. It is +inf where a parameter can't be used, the
- * mode does not come back, a log window mass is above 1e-12 or not finite, or the log-likelihood is not finite or above 0. Where the dispersion is between
- * 1 + 1e-9 and about 1.02, rounding alone lifts a mass above that at scattered points, so a search that ends there is worth another start
- * with theta[3] = -25, a Poisson.
+ * mode does not come back, a log window mass is above 1e-12 or not finite, or the log-likelihood is not finite or above 0. Where the
+ * dispersion is between 1 + 1e-9 and about 1.02, rounding alone lifts a mass above that at scattered points, so a search that ends there
+ * is worth another start with theta[3] = -25, a Poisson.
  *
  * It is of the sample. The bins are the library's: of a sketch, its counts times the scale. Each is divided by the scale, how many k-mers
  * of the library one of the sample stands for, and rounded with halves away from zero; a scale that is not finite or is below 1 becomes 1.
