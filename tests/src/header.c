@@ -176,15 +176,7 @@ static size_t counts(size_t i, uint64_t *entries) {
     return i + 1 + row[i];
 }
 
-/* Scale, valley, limit, a problem whose list holds the numbers of all lists, six columns; then the attempt, and the table from where it stands. */
-static void attempt_from_numbers(void) {
-    size_t b, t;
-    const size_t first = problem(4, &b, &t), second = flags(first, converged), third = floats(second, costs), fourth = sizes(third, places);
-    const size_t fifth = sizes(fourth, lengths), sixth = counts(fifth, iterations);
-    at = flags(sixth, caps);
-    const fog_attempt_answer answer = fog_attempt_from_numbers(
-        bins, row[b], number(1), row[4], row[2], row[5], (uint8_t)row[6], (uint8_t)row[7], number(3), converged, row[first], costs, row[second],
-        places, row[third], lengths, row[fourth], iterations, row[fifth], caps, row[sixth], theta, row[8], table, row[t]);
+static void attempted(fog_attempt_answer answer, size_t room) {
     const fog_attempt *a = &answer.attempt;
     const size_t stands = answer.number == 0 && row[7] != 0 ? row[4] + 1 : 0;
     whole(answer.number);
@@ -196,7 +188,32 @@ static void attempt_from_numbers(void) {
     whole(a->total_iterations);
     whole(a->capped_starts);
     candidate(&a->candidate);
-    reals(table + stands, row[t] - stands);
+    reals(table + stands, room - stands);
+}
+
+static size_t shorter(size_t a, size_t b) { return a < b ? a : b; }
+
+/*
+ * Scale, valley, limit, a problem whose list holds the numbers of all lists, six columns; then the attempt, and the table from where it
+ * stands. Once over the columns, and once over as many run structs as the shortest column has.
+ */
+static void attempt(void) {
+    static fog_run runs[ENTRIES];
+    size_t b, t;
+    const size_t first = problem(4, &b, &t), second = flags(first, converged), third = floats(second, costs), fourth = sizes(third, places);
+    const size_t fifth = sizes(fourth, lengths), sixth = counts(fifth, iterations), answer = flags(sixth, caps);
+    at = answer;
+    attempted(fog_attempt_from_numbers(bins, row[b], number(1), row[4], row[2], row[5], (uint8_t)row[6], (uint8_t)row[7], number(3), converged,
+                                       row[first], costs, row[second], places, row[third], lengths, row[fourth], iterations, row[fifth], caps,
+                                       row[sixth], theta, row[8], table, row[t]),
+              row[t]);
+
+    const size_t n = shorter(shorter(shorter(row[first], row[second]), shorter(row[third], row[fourth])), shorter(row[fifth], row[sixth]));
+    for (size_t i = 0; i < n; i++) runs[i] = (fog_run){converged[i], costs[i], places[i], lengths[i], iterations[i], caps[i]};
+    const fog_setup setup = {number(1), row[4], row[2], row[5], (uint8_t)row[6], (uint8_t)row[7], number(3)};
+    problem(4, &b, &t);
+    at = answer;
+    attempted(fog_attempt_from(bins, row[b], setup, runs, n, theta, row[8], table, row[t]), row[t]);
 }
 
 static void heights(void) {
@@ -263,7 +280,7 @@ static int called(void) {
     case 89: return whole(fog_extra_parameters((uint8_t)row[1])), 1;
     case 90: return at = 3, whole(fog_list_length((uint8_t)row[1], (uint8_t)row[2])), 1;
     case 91: return at = 1 + FIT_WORDS, cutoff(fog_error_floor_cutoff(fit(1))), 1;
-    case 105: return attempt_from_numbers(), 1;
+    case 105: return attempt(), 1;
     default: return 0;
     }
 }
