@@ -59,6 +59,24 @@ impl Answer {
     }
 }
 
+/// Where the words of an answer, behind its number, have a verdict, and where a count or what tells a run: the unaltered Rust's are held
+/// beside them.
+#[derive(Clone, Copy, Default)]
+pub struct Told {
+    pub verdict: &'static [usize],
+    /// One word is a count, or 0 for none; more of them tell a run.
+    pub which: &'static [usize],
+}
+
+impl Told {
+    pub const COUNT: Told = Told { verdict: &[], which: &[1] };
+    pub const VERDICT: Told = Told { verdict: &[1], which: &[] };
+
+    pub fn is_nothing(self) -> bool {
+        self.verdict.is_empty() && self.which.is_empty()
+    }
+}
+
 type Program = fn(&[u64]) -> Vec<u64>;
 
 /// How much of a stratum is drawn: a part of 20 takes one input of each 20 that it is to have; then so many times as many.
@@ -82,6 +100,8 @@ pub struct Call {
     pub theirs: Program,
     /// The Rust as it is, where it has the call.
     pub unaltered: Option<Program>,
+    /// What of its answer is compared beside its floats.
+    pub told: Told,
     /// Inputs for which Rust fixes no answer.
     pub open: fn(&[u64]) -> bool,
 }
@@ -90,8 +110,8 @@ pub struct Call {
 pub struct Stratum<'a> {
     pub name: String,
     wanted: u64,
-    /// Of ordinary parameters: the distances are taken here too.
-    pub ordinary: bool,
+    /// The distances are taken here too: of ordinary parameters, or where a tie or a limit decides.
+    pub measured: bool,
     /// No row of it is short enough to be replayed.
     long: bool,
     draw: Box<dyn Fn(&mut Draw) -> Vec<u64> + 'a>,
@@ -103,11 +123,15 @@ pub type Own = Stratum<'static>;
 
 impl<'a> Stratum<'a> {
     fn new(name: &str, wanted: u64, draw: impl Fn(&mut Draw) -> Vec<u64> + 'a, meets: impl Fn(&[u64]) -> bool + 'a) -> Stratum<'a> {
-        Stratum { name: name.into(), wanted, ordinary: false, long: false, draw: Box::new(draw), meets: Box::new(meets) }
+        Stratum { name: name.into(), wanted, measured: false, long: false, draw: Box::new(draw), meets: Box::new(meets) }
     }
 
     pub fn long(self) -> Stratum<'a> {
         Stratum { long: true, ..self }
+    }
+
+    pub fn measured(self) -> Stratum<'a> {
+        Stratum { measured: true, ..self }
     }
 
     /// The same inputs behind two further words.
@@ -128,7 +152,7 @@ pub fn ordinary_own(
     draw: impl Fn(&mut Draw) -> Vec<u64> + 'static,
     meets: impl Fn(&[u64]) -> bool + 'static,
 ) -> Own {
-    Stratum { ordinary: true, ..own(name, wanted, draw, meets) }
+    own(name, wanted, draw, meets).measured()
 }
 
 impl Call {
@@ -214,11 +238,11 @@ impl Call {
         let mut strata = self.common();
         for own in &self.own {
             let stratum = Stratum::new(&own.name, own.wanted, &own.draw, &own.meets);
-            strata.push(Stratum { ordinary: own.ordinary, long: own.long, ..stratum });
+            strata.push(Stratum { measured: own.measured, long: own.long, ..stratum });
         }
         let rest: u64 = strata.iter().map(|s| s.wanted).sum();
         let ordinary = Stratum::new("ordinary", self.inputs.saturating_sub(rest).max(self.inputs / 5), self.ordinary, |_| true);
-        strata.insert(0, Stratum { ordinary: true, ..ordinary });
+        strata.insert(0, ordinary.measured());
         strata
     }
 
@@ -238,7 +262,7 @@ impl Call {
         for stratum in self.strata() {
             let wanted = stratum.wanted.div_ceil(size.part);
             let mut row = Row::new(self, &stratum.name, wanted * size.times);
-            let mut distance = Distance::new(self.name, &stratum.name);
+            let mut distance = Distance::new(self.name, &stratum.name, self.told);
             for pass in 0..size.times {
                 let to = row.comparisons + wanted;
                 self.each_input(&stratum, pass, |input| {
@@ -248,13 +272,13 @@ impl Call {
                     }
                     let ours = (self.ours)(input);
                     row.compare(input, &ours, &(self.theirs)(input));
-                    if let (true, Some(unaltered)) = (stratum.ordinary, self.unaltered) {
+                    if let (true, Some(unaltered)) = (stratum.measured, self.unaltered) {
                         distance.take(self.answer, &ours, &unaltered(input));
                     }
                     row.comparisons < to
                 });
             }
-            tally.add(row, stratum.ordinary);
+            tally.add(row, stratum.measured);
             tally.distances.push(distance);
         }
     }

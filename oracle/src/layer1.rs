@@ -1,6 +1,6 @@
 //! Layer 1: the four routines against docs/ROUTINES.md, the rest against Rust's std.
 
-use crate::call::{own, Answer, Call, Kind, Kind::*, Own, EACH_CALL};
+use crate::call::{own, Answer, Call, Kind, Kind::*, Own, Told, EACH_CALL};
 use crate::draw::Draw;
 use crate::words::{bits, float};
 use crate::{port, written};
@@ -29,6 +29,7 @@ fn plain(
         ours,
         theirs,
         unaltered: None,
+        told: Told::default(),
         open: |_| false,
     }
 }

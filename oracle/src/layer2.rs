@@ -5,7 +5,7 @@ mod log_sums;
 mod masses;
 mod shelves;
 
-use crate::call::{Answer, Call, Kind, EACH_CALL};
+use crate::call::{Answer, Call, Kind, Told, EACH_CALL};
 use crate::draw::Draw;
 use crate::words::float;
 use crate::{linked, unaltered};
@@ -23,7 +23,8 @@ fn call(
     ours: fn(&[u64]) -> Vec<u64>,
     theirs: fn(&[u64]) -> Vec<u64>,
 ) -> Call {
-    Call { number, name, arguments, answer, inputs: EACH_CALL, ordinary, own: vec![], ours, theirs, unaltered: None, open: |_| false }
+    let (own, unaltered, told) = (vec![], None, Told::default());
+    Call { number, name, arguments, answer, inputs: EACH_CALL, ordinary, own, ours, theirs, unaltered, told, open: |_| false }
 }
 
 fn words(floats: &[f64]) -> Vec<u64> {

@@ -1,6 +1,6 @@
 //! What was compared: a row for each call and stratum; and how far the unaltered Rust is away.
 
-use crate::call::{Answer, Call, Size};
+use crate::call::{Answer, Call, Size, Told};
 use crate::words::is_finite;
 
 pub struct Row {
@@ -75,27 +75,39 @@ impl Row {
     }
 }
 
-/// Finite answers, where an answer has floats.
-fn finite(answer: Answer, n: u64) -> String {
-    if answer.has_floats() {
-        n.to_string()
+fn cell(there: bool, shown: impl ToString) -> String {
+    if there {
+        shown.to_string()
     } else {
         "-".into()
     }
 }
 
-/// How far the unaltered Rust's floats are from the port's.
+/// Finite answers, where an answer has floats.
+fn finite(answer: Answer, n: u64) -> String {
+    cell(answer.has_floats(), n)
+}
+
+/// How far the unaltered Rust's floats are from the port's, and how often it says something else.
 #[derive(Default)]
 pub struct Distance {
     call: &'static str,
     stratum: String,
+    told: Told,
     values: u64,
     equal: u64,
     ulp: u64,
     relative: f64,
     scaled: f64,
-    /// One side finite and the other not.
+    /// One side finite and the other not; or one with a count and the other with none.
     apart: u64,
+    /// Answers that have a verdict, a count or a run, and in how many of them each is another.
+    answers: u64,
+    numbers: u64,
+    verdicts: u64,
+    others: u64,
+    /// How far two counts are apart at most.
+    counts: u64,
 }
 
 /// A float's place among the floats, in order; the two zeros share one.
@@ -109,11 +121,43 @@ fn place(word: u64) -> i64 {
 }
 
 impl Distance {
-    pub fn new(call: &'static str, stratum: &str) -> Distance {
-        Distance { call, stratum: stratum.into(), ..Distance::default() }
+    pub fn new(call: &'static str, stratum: &str, told: Told) -> Distance {
+        Distance { call, stratum: stratum.into(), told, ..Distance::default() }
     }
 
+    /// The fields of two runs have no distance.
     pub fn take(&mut self, answer: Answer, ours: &[u64], unaltered: &[u64]) {
+        if self.told.is_nothing() || self.of_one(ours, unaltered) {
+            self.take_floats(answer, ours, unaltered);
+        }
+    }
+
+    /// Whether the two have the same number, and the same count or run.
+    fn of_one(&mut self, ours: &[u64], unaltered: &[u64]) -> bool {
+        self.answers += 1;
+        if ours[0] != unaltered[0] {
+            self.numbers += 1;
+            return false;
+        }
+        let differ = |places: &[usize]| ours[0] == 0 && places.iter().any(|&i| ours[i] != unaltered[i]);
+        let other = differ(self.told.which);
+        self.verdicts += u64::from(differ(self.told.verdict));
+        self.others += u64::from(other);
+        if let (true, &[i]) = (other, self.told.which) {
+            self.take_count(ours[i], unaltered[i]);
+        }
+        !other
+    }
+
+    fn take_count(&mut self, ours: u64, unaltered: u64) {
+        if ours == 0 || unaltered == 0 {
+            self.apart += 1;
+        } else {
+            self.counts = self.counts.max(ours.abs_diff(unaltered));
+        }
+    }
+
+    fn take_floats(&mut self, answer: Answer, ours: &[u64], unaltered: &[u64]) {
         for (&a, &b) in answer.floats(ours).iter().zip(answer.floats(unaltered)) {
             self.values += 1;
             if a == b {
@@ -136,12 +180,37 @@ impl Distance {
         self.relative = self.relative.max(other.relative);
         self.scaled = self.scaled.max(other.scaled);
         self.apart += other.apart;
+        self.answers += other.answers;
+        self.numbers += other.numbers;
+        self.verdicts += other.verdicts;
+        self.others += other.others;
+        self.counts = self.counts.max(other.counts);
         self
     }
 
+    fn is_taken(&self) -> bool {
+        self.values + self.answers > 0
+    }
+
     fn line(&self) -> String {
-        let far = format!("{} | {:.1e} | {:.1e} | {}", self.ulp, self.relative, self.scaled, self.apart);
-        format!("| {} | {} | {} | {} | {far} |\n", self.call, self.stratum, self.values, self.equal)
+        let (floats, said) = (self.values > 0, self.answers > 0);
+        let (verdicts, others, counts) = (!self.told.verdict.is_empty(), !self.told.which.is_empty(), self.told.which.len() == 1);
+        let cells = [
+            self.call.into(),
+            self.stratum.clone(),
+            cell(floats, self.values),
+            cell(floats, self.equal),
+            cell(floats, self.ulp),
+            cell(floats, format!("{:.1e}", self.relative)),
+            cell(floats, format!("{:.1e}", self.scaled)),
+            cell(floats || counts, self.apart),
+            cell(said, self.answers),
+            cell(said, self.numbers),
+            cell(verdicts, self.verdicts),
+            cell(others, self.others),
+            cell(counts, self.counts),
+        ];
+        format!("| {} |\n", cells.join(" | "))
     }
 }
 
@@ -149,13 +218,13 @@ impl Distance {
 pub struct Tally {
     rows: Vec<Row>,
     pub distances: Vec<Distance>,
-    /// Ordinary strata of which fewer than half of the answers are finite.
+    /// Measured strata of which fewer than half of the answers are finite.
     hollow: Vec<String>,
 }
 
 impl Tally {
-    pub fn add(&mut self, row: Row, ordinary: bool) {
-        if ordinary && row.answer.has_floats() && 2 * row.finite < row.comparisons {
+    pub fn add(&mut self, row: Row, measured: bool) {
+        if measured && row.answer.has_floats() && 2 * row.finite < row.comparisons {
             self.hollow.push(row.name());
         }
         self.rows.push(row);
@@ -191,22 +260,23 @@ impl Tally {
         text
     }
 
-    /// A row for each call that the unaltered Rust has, over its strata of ordinary parameters.
+    /// A row for each call that the unaltered Rust has, over the strata in which it is measured.
     pub fn call_distances(&self) -> String {
         let mut text = Tally::distance_head();
         for call in self.calls() {
-            let taken: Vec<&Distance> = self.distances.iter().filter(|d| d.call == call && d.values > 0).collect();
-            let all = taken.iter().fold(Distance::new(call, &format!("{} strata", taken.len())), |all, d| all.with(d));
-            if all.values > 0 {
-                text += &all.line();
+            let taken: Vec<&Distance> = self.distances.iter().filter(|d| d.call == call && d.is_taken()).collect();
+            if let Some(first) = taken.first() {
+                let none = Distance::new(call, &format!("{} strata", taken.len()), first.told);
+                text += &taken.iter().fold(none, |all, d| all.with(d)).line();
             }
         }
         text
     }
 
     fn distance_head() -> String {
-        let head = "| call | stratum | values | equal | max ulp | max relative | max \\|d\\|/(1+\\|v\\|) | one not finite |\n";
-        head.to_string() + "|---|---|---|---|---|---|---|---|\n"
+        let floats = "values | equal | max ulp | max relative | max \\|d\\|/(1+\\|v\\|) | one not finite or none";
+        let said = "answers | other number | other verdict | other count or run | counts apart, max";
+        format!("| call | stratum | {floats} | {said} |\n|{}\n", "---|".repeat(13))
     }
 
     /// A row for each stratum.
@@ -216,7 +286,7 @@ impl Tally {
     }
 
     pub fn distance_table(&self) -> String {
-        let taken = self.distances.iter().filter(|d| d.values > 0);
+        let taken = self.distances.iter().filter(|d| d.is_taken());
         Tally::distance_head() + &taken.map(Distance::line).collect::<String>()
     }
 

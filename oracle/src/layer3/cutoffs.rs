@@ -24,11 +24,11 @@ pub fn or_zero(cutoff: Option<u16>) -> u64 {
     cutoff.unwrap_or(0).into()
 }
 
-/// The number of a window end, or the Rust's answer.
-pub fn unless_refused(w: &[u64], beside: usize, answer: impl FnOnce(SpectrumFit) -> Vec<u64>) -> Vec<u64> {
+/// The number of a window end, or the Rust's answer for the fit of one of its builds.
+pub fn unless_refused<F>(w: &[u64], beside: usize, fit: fn(&[u64]) -> F, answer: impl FnOnce(F) -> Vec<u64>) -> Vec<u64> {
     match rules::window(w[END]) {
         Some(number) => [vec![number], vec![0; beside]].concat(),
-        None => answer(side::fit(w)),
+        None => answer(fit(w)),
     }
 }
 
@@ -51,7 +51,7 @@ pub fn sure(fit: &SpectrumFit, budget: f64) -> bool {
 }
 
 fn linked_sure(w: &[u64]) -> Vec<u64> {
-    unless_refused(w, 3, |fit| {
+    unless_refused(w, 3, side::fit, |fit| {
         let walk = u64::from(probabilities(&fit).is_some());
         vec![0, walk, u64::from(sure(&fit, budget(w))), or_zero(fit.hole_cutoff(budget(w)))]
     })
@@ -73,7 +73,7 @@ pub fn calls() -> Vec<Call> {
                 CUTOFF,
                 ordinary_hole,
                 |w| said(cutoffs::hole_cutoff(fit(w), budget(w))),
-                |w| unless_refused(w, 1, |fit| vec![0, or_zero(fit.hole_cutoff(budget(w)))]),
+                |w| unless_refused(w, 1, side::fit, |fit| vec![0, or_zero(fit.hole_cutoff(budget(w)))]),
             )
         },
         Call {

@@ -2,7 +2,7 @@
 
 use super::rust::{linked as side, unaltered as plain, FIT};
 use super::{call, Problem};
-use crate::call::{ordinary_own, own, Answer, Answer::Floats, Call, Kind, Kind::*, Own};
+use crate::call::{ordinary_own, own, Answer, Answer::Floats, Call, Kind, Kind::*, Own, Told};
 use crate::draw::Draw;
 use crate::words::{bits, fit, float};
 use crate::{port, rules};
@@ -103,17 +103,24 @@ fn of_unpack() -> Own {
 
 // ---- the error mode
 
-fn any_nan(w: &[u64]) -> bool {
-    let errors = side::fit(w).error_params;
-    (1..=w[END]).any(|count| errors.log_probability(count as f64).is_nan())
+macro_rules! error_mode {
+    ($side:ident, $any_nan:ident, $error_mode:ident) => {
+        fn $any_nan(w: &[u64]) -> bool {
+            let errors = $side::fit(w).error_params;
+            (1..=w[END]).any(|count| errors.log_probability(count as f64).is_nan())
+        }
+
+        fn $error_mode(w: &[u64]) -> Vec<u64> {
+            match rules::window(w[END]).or_else(|| $any_nan(w).then_some(8)) {
+                Some(number) => vec![number, 0],
+                None => vec![0, $side::fit(w).error_mode() as u64],
+            }
+        }
+    };
 }
 
-fn linked_error_mode(w: &[u64]) -> Vec<u64> {
-    match rules::window(w[END]).or_else(|| any_nan(w).then_some(8)) {
-        Some(number) => vec![number, 0],
-        None => vec![0, side::fit(w).error_mode() as u64],
-    }
-}
+error_mode!(side, any_nan, linked_error_mode);
+error_mode!(plain, any_plain_nan, plain_error_mode);
 
 /// Counts 1 and 2 as probable as each other, or every count without probability.
 fn level(d: &mut Draw) -> Vec<u64> {
@@ -142,7 +149,7 @@ fn strata_of_modes() -> Vec<Own> {
     let end = |name: &str, wanted, end| own(name, wanted, move |d| to(d, end), move |w| w[END] == end);
     vec![
         of_unpack(),
-        own("equal maxima, the later", 20_000, level, is_level),
+        own("equal maxima, the later", 20_000, level, is_level).measured(),
         end("window end 1", 20_000, 1),
         end("window end 2", 20_000, 2),
         own(
@@ -153,7 +160,8 @@ fn strata_of_modes() -> Vec<Own> {
                 to(d, end)
             },
             |w| w[END] >= 100,
-        ),
+        )
+        .measured(),
         end("window end 65,535", 300, 65_535),
         own(
             "refusal 2",
@@ -276,6 +284,8 @@ pub fn calls() -> Vec<Call> {
         },
         Call {
             own: strata_of_modes(),
+            unaltered: Some(plain_error_mode),
+            told: Told::COUNT,
             ..call(
                 70,
                 "error_mode",

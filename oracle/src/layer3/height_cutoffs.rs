@@ -4,8 +4,8 @@ use super::call;
 use super::cutoff_strata::{around_the_end, around_two, ends, fitted, inside, is_around_the_end, set, with_end, DISPERSION, MEAN};
 use super::cutoffs::{or_zero, said, unless_refused, CUTOFF};
 use super::fits::{fit_and, ordinary, END};
-use super::rust::{linked as side, FIT_WHOLES};
-use crate::call::{own, Call, Kind, Kind::*, Own};
+use super::rust::{linked as side, unaltered as plain, FIT_WHOLES};
+use crate::call::{own, Call, Kind, Kind::*, Own, Told};
 use crate::draw::Draw;
 use crate::words::{fit, float};
 use crate::{cutoffs, rules};
@@ -20,8 +20,8 @@ const TAIL: usize = FIT_WHOLES + 7;
 fn crossovers() -> Vec<Own> {
     let answers = |w: &[u64]| rules::window(w[END]).is_none() && side::fit(w).crossover().is_some_and(|c| c > 2);
     let mut strata = vec![
-        own("fits of unpack", 60_000, fitted, |w| w[END] >= 30),
-        own("a crossover above 2", 100_000, fitted, answers),
+        own("fits of unpack", 60_000, fitted, |w| w[END] >= 30).measured(),
+        own("a crossover above 2", 100_000, fitted, answers).measured(),
         own("mean around 2", 60_000, around_two, |w| (float(w, MEAN) - 2.0).abs() < 0.7),
         own("mean around the window end", 60_000, around_the_end, is_around_the_end),
     ];
@@ -38,8 +38,8 @@ fn all_bad(d: &mut Draw, end: u64) -> Vec<u64> {
 fn floors() -> Vec<Own> {
     let floor = |w: &[u64]| side::fit(w).error_floor_cutoff();
     let mut strata = vec![
-        own("fits of unpack", 60_000, fitted, |w| w[END] >= 30),
-        own("a floor above 2", 100_000, fitted, move |w| rules::window(w[END]).is_none() && floor(w) > 2),
+        own("fits of unpack", 60_000, fitted, |w| w[END] >= 30).measured(),
+        own("a floor above 2", 100_000, fitted, move |w| rules::window(w[END]).is_none() && floor(w) > 2).measured(),
         own(
             "no reference height",
             20_000,
@@ -78,6 +78,8 @@ pub fn calls() -> Vec<Call> {
     vec![
         Call {
             own: crossovers(),
+            unaltered: Some(|w| unless_refused(w, 1, plain::fit, |fit| vec![0, or_zero(fit.crossover())])),
+            told: Told::COUNT,
             ..call(
                 87,
                 "crossover",
@@ -85,11 +87,13 @@ pub fn calls() -> Vec<Call> {
                 CUTOFF,
                 ordinary,
                 |w| said(cutoffs::crossover(fit(w))),
-                |w| unless_refused(w, 1, |fit| vec![0, or_zero(fit.crossover())]),
+                |w| unless_refused(w, 1, side::fit, |fit| vec![0, or_zero(fit.crossover())]),
             )
         },
         Call {
             own: floors(),
+            unaltered: Some(|w| unless_refused(w, 1, plain::fit, |fit| vec![0, fit.error_floor_cutoff().into()])),
+            told: Told::COUNT,
             ..call(
                 91,
                 "error_floor_cutoff",
@@ -97,7 +101,7 @@ pub fn calls() -> Vec<Call> {
                 CUTOFF,
                 ordinary,
                 |w| said(cutoffs::error_floor_cutoff(fit(w))),
-                |w| unless_refused(w, 1, |fit| vec![0, fit.error_floor_cutoff().into()]),
+                |w| unless_refused(w, 1, side::fit, |fit| vec![0, fit.error_floor_cutoff().into()]),
             )
         },
     ]

@@ -99,11 +99,12 @@ fn tied(t: &RunTable, decides: fn(&Judged) -> bool) -> Vec<u64> {
 fn kept() -> Vec<Own> {
     let valid = |run: &Judged| run.rule == 0;
     vec![
-        passed("the least run valid", 2_000, RunTable::ordinary, move |t| ranked(t).first().is_some_and(valid)),
+        passed("the least run valid", 2_000, RunTable::ordinary, move |t| ranked(t).first().is_some_and(valid)).measured(),
         passed("the least rejected, a later one valid", 2_000, some_rejected, move |t| {
             let ranked = ranked(t);
             ranked.first().is_some_and(|run| run.rule > 0) && ranked.iter().any(valid)
-        }),
+        })
+        .measured(),
         passed("all rejected", 1_000, all_rejected, move |t| {
             let ranked = ranked(t);
             !ranked.is_empty() && !ranked.iter().any(valid)

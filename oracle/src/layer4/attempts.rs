@@ -2,9 +2,9 @@
 
 use super::attempt_refusals::{refusals, unequal};
 use super::attempts_port::{attempt_from_numbers, AttemptAnswer};
-use super::selection::{ATTEMPT, BEFORE};
+use super::selection::{ATTEMPT, BEFORE, HELD, REASON, REJECTED};
 use super::{attempt_arguments, attempt_strata, call, searched, RunTable};
-use crate::call::{Answer, Call, Kind, Kind::*, Own};
+use crate::call::{Answer, Call, Kind, Kind::*, Own, Told};
 use crate::layer3::rust::{FIT, FIT_FLOATS, FIT_WHOLES};
 use crate::words::{after, fit_words, lent};
 
@@ -12,6 +12,10 @@ const TABLE: &[(&str, Kind)] = &[("table", Other)];
 
 /// The attempt's whole numbers and its candidate's, then the candidate's floats; behind them what stands in the shelf's table.
 const ANSWER: Answer = Answer::Given { whole: BEFORE + FIT_WHOLES, floats: FIT_FLOATS };
+
+/// Whether there is a candidate, whether it is rejected, and why; and of which run it is, by its iterations and its log-likelihood, which is
+/// minus the run's cost.
+const TOLD: Told = Told { verdict: &[1 + HELD, 1 + REJECTED, 1 + REASON], which: &[BEFORE + FIT_WHOLES, 1 + BEFORE + FIT_WHOLES + 16] };
 
 /// Tables, where other calls have a million inputs: each has up to 24 fits.
 const TABLES: u64 = 50_000;
@@ -107,6 +111,7 @@ pub fn calls() -> Vec<Call> {
         inputs: TABLES,
         own: shared().into_iter().chain(unequal()).collect(),
         unaltered: Some(|w| unaltered::attempt(&RunTable::read(w))),
+        told: TOLD,
         ..call(
             105,
             "attempt_from_numbers",

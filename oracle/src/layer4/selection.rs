@@ -16,9 +16,9 @@ const FOUR: &[(&str, Kind)] = &[("attempts", Other)];
 /// An attempt in words: two families, three of presence and reason, iterations, capped starts, and the candidate.
 pub const BEFORE: usize = 7;
 pub const ATTEMPT: usize = BEFORE + FIT;
-const HELD: usize = 2;
+pub const HELD: usize = 2;
 pub const REJECTED: usize = 3;
-const REASON: usize = 4;
+pub const REASON: usize = 4;
 const BIC: usize = BEFORE + 23;
 
 // ---- drawing

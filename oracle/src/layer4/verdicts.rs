@@ -1,11 +1,11 @@
 //! The validator: a fit, the mass limit, the valley and the peak.
 
 use super::call;
-use super::validator::{first, linked::rules as apply, refusals};
-use crate::call::{own, Answer, Call, Kind, Kind::*, Own};
+use super::validator::{first, linked::rules as apply, refusals, unaltered::rules as apply_plain};
+use crate::call::{own, Answer, Call, Kind, Kind::*, Own, Told};
 use crate::draw::Draw;
 use crate::layer3::fits::fit_and;
-use crate::layer3::rust::{linked as side, FIT};
+use crate::layer3::rust::{linked as side, unaltered as plain, FIT};
 use crate::words::{fit, float};
 use crate::{port, rules};
 
@@ -149,7 +149,7 @@ fn refuse(d: &mut Draw, w: &mut [u64], number: u64) {
     }
 }
 
-// ---- the two programs
+// ---- the three programs
 
 fn refused(w: &[u64]) -> [(u64, bool); 4] {
     refusals(w[END], w[VALLEY], w[PEAK], float(w, LIMIT))
@@ -159,7 +159,11 @@ fn applied(w: &[u64]) -> [bool; 10] {
     apply(&side::fit(w), w[VALLEY], w[PEAK], float(w, LIMIT))
 }
 
-fn written(w: &[u64]) -> Vec<u64> {
+fn applied_plain(w: &[u64]) -> [bool; 10] {
+    apply_plain(&plain::fit(w), w[VALLEY], w[PEAK], float(w, LIMIT))
+}
+
+fn written(w: &[u64], applied: fn(&[u64]) -> [bool; 10]) -> Vec<u64> {
     match rules::first(&refused(w)) {
         Some(number) => vec![number, 0],
         None => vec![0, first(applied(w))],
@@ -187,9 +191,10 @@ fn changed(change: impl Fn(&mut Draw, &mut [u64]) + 'static) -> impl Fn(&mut Dra
 
 /// Each rule alone as the first, and each pair of rules that apply together, the first of which is the answer.
 fn strata_of_rules() -> Vec<Own> {
-    let mut strata = vec![own("valid", 100_000, valid, |w| reason(w) == Some(0))];
+    let mut strata = vec![own("valid", 100_000, valid, |w| reason(w) == Some(0)).measured()];
     for i in 1..=10 {
-        strata.push(own(&format!("rule {i}"), 20_000, changed(move |d, w| turn_away(d, w, i)), move |w| reason(w) == Some(i as u64)));
+        let rule = own(&format!("rule {i}"), 20_000, changed(move |d, w| turn_away(d, w, i)), move |w| reason(w) == Some(i as u64));
+        strata.push(rule.measured());
         for j in i + 1..=10 {
             let both = move |d: &mut Draw, w: &mut [u64]| {
                 turn_away(d, w, j);
@@ -218,7 +223,7 @@ fn strata_of_limits() -> Vec<Own> {
             put(w, TOTAL, d.beside(at, 4));
             put(w, TOTAL + 1, f64::NEG_INFINITY);
             put(w, TOTAL + 2, f64::NEG_INFINITY);
-        }, |w| reason(w) == Some(0) || reason(w) == Some(4)),
+        }, |w| reason(w) == Some(0) || reason(w) == Some(4)).measured(),
         passes("totals that are -inf", |_, w| (0..3).for_each(|i| put(w, TOTAL + i, f64::NEG_INFINITY)), |w| !applied(w)[3]),
         passes("a NaN among totals of -inf", |d, w| {
             (0..3).for_each(|i| put(w, TOTAL + i, f64::NEG_INFINITY));
@@ -237,11 +242,11 @@ fn strata_of_limits() -> Vec<Own> {
         passes("the error mode at the valley", |d, w| {
             errors_rise(d, w);
             w[VALLEY] = side::fit(w).error_mode() as u64;
-        }, |w| side::fit(w).error_mode() as u64 == w[VALLEY] && !applied(w)[6]),
+        }, |w| side::fit(w).error_mode() as u64 == w[VALLEY] && !applied(w)[6]).measured(),
         passes("the error mode one above the valley", |d, w| {
             errors_rise(d, w);
             w[VALLEY] = side::fit(w).error_mode() as u64 - 1;
-        }, |w| side::fit(w).error_mode() as u64 == w[VALLEY] + 1 && reason(w) == Some(7)),
+        }, |w| side::fit(w).error_mode() as u64 == w[VALLEY] + 1 && reason(w) == Some(7)).measured(),
         passes("the mode at and beside the band's ends", |d, w| {
             let ends = [(float(w, MEAN) as u64 + 1) * 4 / 3, float(w, MEAN) as u64 * 100 / 133];
             w[PEAK] = (d.pick(&ends) + d.below(3)).saturating_sub(1).max(2);
@@ -279,6 +284,8 @@ fn strata_of_refusals() -> Vec<Own> {
 pub fn calls() -> Vec<Call> {
     vec![Call {
         own: [strata_of_rules(), strata_of_limits(), strata_of_refusals()].into_iter().flatten().collect(),
-        ..call(102, "validate_fit", FITTED, Answer::Given { whole: 1, floats: 0 }, valid, judged, written)
+        unaltered: Some(|w| written(w, applied_plain)),
+        told: Told::VERDICT,
+        ..call(102, "validate_fit", FITTED, Answer::Given { whole: 1, floats: 0 }, valid, judged, |w| written(w, applied))
     }]
 }
