@@ -27,7 +27,8 @@
  *     fog_prepare_window            once for a window end
  *     fog_cost_prepared             what a search lowers: Nelder and Mead's method in the original, with 0.5 added to each number in turn
  *                                   for its first simplex
- *     fog_attempt_from_numbers      over the runs; the original's mass limit is 1.1
+ *     fog_attempt_from              over the runs as structs, or fog_attempt_from_numbers over their six arrays; the original's mass limit
+ *                                   is 1.1
  *   fog_select_fit                  the fit that is used
  *   fog_hole_cutoff_sure            the cutoff that a budget allows; fog_crossover and fog_error_floor_cutoff to compare it with
  */
