@@ -1,9 +1,9 @@
-// Links the port's two static libraries, and links again when one of them changes.
-use std::path::Path;
+// Links the port's two static libraries, from the folder that FOGATISE_LIB names, and links again when one of them changes.
+use std::path::PathBuf;
 
 fn main() {
-    let here = std::env::var("CARGO_MANIFEST_DIR").expect("cargo sets it");
-    let libraries = Path::new(&here).join("../target/staticlib");
+    println!("cargo:rerun-if-env-changed=FOGATISE_LIB");
+    let libraries = PathBuf::from(std::env::var_os("FOGATISE_LIB").expect("oracle/prepare sets it"));
     println!("cargo:rustc-link-search=native={}", libraries.display());
     for name in ["exports", "probe"] {
         println!("cargo:rustc-link-lib=static={name}");
