@@ -200,8 +200,10 @@ impl Call {
     fn any_put(&self, draw: &mut Draw) -> Vec<u64> {
         let mut words = (self.ordinary)(draw);
         for i in 0..self.arguments.len() {
-            if self.arguments[i].1 != Kind::Other {
-                words[i] = draw.word();
+            match self.arguments[i].1 {
+                Kind::Float => words[i] = draw.any().to_bits(),
+                Kind::Whole => words[i] = draw.word(),
+                Kind::Other => {}
             }
         }
         words

@@ -30,6 +30,13 @@ const EDGES: [f64; 26] = [
     1e300,
 ];
 
+/// The float of these bits. On Arm a signalling NaN becomes quiet: beside one the processor's maximum and minimum, which Rust's `max` and
+/// `min` are there, answer NaN, and on x86-64 the other operand, as they do beside a quiet one on both.
+fn float(bits: u64) -> f64 {
+    let quiet = cfg!(target_arch = "aarch64") && f64::from_bits(bits).is_nan();
+    f64::from_bits(bits | u64::from(quiet) << 51)
+}
+
 /// xoshiro256++, seeded by splitmix64 over a name.
 pub struct Draw([u64; 4]);
 
@@ -99,16 +106,16 @@ impl Draw {
     /// x or a neighbour at most `steps` away.
     pub fn beside(&mut self, x: f64, steps: u64) -> f64 {
         let moved = x.to_bits() + self.below(2 * steps + 1);
-        f64::from_bits(moved.saturating_sub(steps))
+        float(moved.saturating_sub(steps))
     }
 
     pub fn any(&mut self) -> f64 {
-        f64::from_bits(self.word())
+        float(self.word())
     }
 
     pub fn nan(&mut self) -> f64 {
         let payload = 1 + self.below((1 << 52) - 1);
-        f64::from_bits((self.below(2) << 63) | (0x7ff << 52) | payload)
+        float((self.below(2) << 63) | (0x7ff << 52) | payload)
     }
 
     pub fn infinity(&mut self) -> f64 {
