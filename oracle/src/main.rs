@@ -30,7 +30,7 @@ const ROWS: [usize; 3] = [8, 2, 1];
 const LONGEST: [usize; 3] = [64, 128, 200];
 
 /// Calls that the replay does not know.
-const NOT_REPLAYED: [u64; 3] = [83, 84, 93];
+const NOT_REPLAYED: [u64; 4] = [83, 84, 93, 106];
 
 /// What the command line asks for: one layer, one call, how many inputs, the replay's rows.
 struct Asked {

@@ -130,6 +130,64 @@ fn wide_dispersion(d: &mut Draw) -> Problem {
     with_dispersion(d, 0.0).then(|p| p.theta[3] = d.between(37.0, 700.0))
 }
 
+/// A window end of 130 to 259, with entry `i` of the list in this range.
+fn middling(d: &mut Draw, i: usize, from: f64, to: f64) -> Problem {
+    let end = 130 + d.below(130);
+    far(d, end).then(|p| p.theta[i] = d.between(from, to))
+}
+
+/// A dispersion of 2^52 to 2^53, whose doubles are 1 apart, and a target mode of a whole number and a half.
+fn half_off(d: &mut Draw) -> Problem {
+    let mut p = middling(d, 3, 36.1, 36.7);
+    p.peak = 2 + 4 * d.below(16);
+    p.theta[2] = d.between(-900.0, -750.0);
+    p
+}
+
+fn round_trip(p: &Problem) -> f64 {
+    let params = side::mixture(p).params(&p.theta);
+    (params.mean - (params.dispersion - 1.0) - params.target_mode).abs()
+}
+
+/// Both lobes inside the window but for what no double can tell.
+fn whole_lobes(d: &mut Draw) -> Problem {
+    let mut p = middling(d, 3, -30.0, -2.0);
+    p.peak = 50 + d.below(10);
+    p
+}
+
+/// The log of a mass above 0 by rounding.
+fn above_one(p: &Problem) -> bool {
+    let mixture = side::mixture(p);
+    let params = mixture.params(&p.theta);
+    let masses = mixture.log_window_masses(params, side::table(p, &params).as_deref());
+    masses.iter().any(|&mass| mass > 0.0) && masses.iter().all(|&mass| mass <= 1e-12)
+}
+
+/// What stands beside a limit of the cost's tests, on the side that is used. The limits are written out: a planted fault may move the Rust's.
+fn beside_limits(of: For) -> Vec<Own> {
+    let singleton = |p: &Problem| side::mixture(p).params(&p.theta).error_params.singleton_probability;
+    let told = |p: &Problem| p.refusal().is_none();
+    vec![
+        of.own(
+            "round trip of 0.25 to 0.5",
+            5_000,
+            |d| middling(d, 3, 35.4, 37.4),
+            move |p| told(p) && round_trip(p) > 0.25 && round_trip(p) < 0.5,
+        )
+        .long(),
+        of.own("round trip of exactly 0.5", 2_000, half_off, move |p| told(p) && round_trip(p) == 0.5).long(),
+        of.own(
+            "singleton probability 1 - 2^-52, the last below 1",
+            2_000,
+            |d| middling(d, 5, 35.7, 36.7),
+            move |p| told(p) && singleton(p) == 1.0 - f64::EPSILON,
+        )
+        .long(),
+        of.own("a window mass above 1 by rounding", 2_000, whole_lobes, move |p| told(p) && above_one(p)).long(),
+    ]
+}
+
 fn configurations(of: For) -> Vec<Own> {
     let four = [(0, 0, "Weibull"), (0, 1, "Weibull with shelf"), (1, 0, "Pareto"), (1, 1, "Pareto with shelf")];
     four.map(|(error, genome, name)| {
@@ -267,5 +325,8 @@ pub fn refusals(of: For) -> Vec<Own> {
 }
 
 pub fn strata(of: For) -> Vec<Own> {
-    [configurations(of), windows(of), lists(of), scales(of), tables(of), stops(of), refusals(of)].into_iter().flatten().collect()
+    [configurations(of), windows(of), lists(of), scales(of), tables(of), stops(of), beside_limits(of), refusals(of)]
+        .into_iter()
+        .flatten()
+        .collect()
 }

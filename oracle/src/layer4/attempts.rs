@@ -1,7 +1,7 @@
 //! Attempts over a run table: what one pair of families came to.
 
 use super::attempt_refusals::{refusals, unequal};
-use super::attempts_port::{attempt_from_numbers, AttemptAnswer};
+use super::attempts_port::{attempt_from, attempt_from_numbers, AttemptAnswer};
 use super::selection::{ATTEMPT, BEFORE, HELD, REASON, REJECTED};
 use super::{attempt_arguments, attempt_strata, call, searched, RunTable};
 use crate::call::{Answer, Call, Kind, Kind::*, Own, Told};
@@ -34,9 +34,14 @@ fn port_words(t: &RunTable, (answer, now): (AttemptAnswer, Vec<f64>)) -> Vec<u64
     answer_words(t, answer.number.into(), attempt, &now)
 }
 
-fn port_attempt(w: &[u64]) -> Vec<u64> {
+fn port_numbers(w: &[u64]) -> Vec<u64> {
     let t = RunTable::read(w);
     port_words(&t, lent(&t.problem.table, |table| attempt_from_numbers(&t, table)))
+}
+
+fn port_runs(w: &[u64]) -> Vec<u64> {
+    let t = RunTable::read(w);
+    port_words(&t, lent(&t.problem.table, |table| attempt_from(&t, table)))
 }
 
 macro_rules! theirs {
@@ -106,20 +111,18 @@ fn shared() -> Vec<Own> {
     [attempt_arguments::strata(), attempt_strata::strata(), refusals(), searched::strata()].into_iter().flatten().collect()
 }
 
-pub fn calls() -> Vec<Call> {
-    vec![Call {
+/// A form of the call, and the strata that it alone has.
+fn form(number: u64, name: &'static str, ours: fn(&[u64]) -> Vec<u64>, alone: Vec<Own>) -> Call {
+    Call {
         inputs: TABLES,
-        own: shared().into_iter().chain(unequal()).collect(),
+        own: shared().into_iter().chain(alone).collect(),
         unaltered: Some(|w| unaltered::attempt(&RunTable::read(w))),
         told: TOLD,
-        ..call(
-            105,
-            "attempt_from_numbers",
-            TABLE,
-            ANSWER,
-            |d| RunTable::ordinary(d).words(),
-            port_attempt,
-            |w| linked::attempt(&RunTable::read(w)),
-        )
-    }]
+        ..call(number, name, TABLE, ANSWER, |d| RunTable::ordinary(d).words(), ours, |w| linked::attempt(&RunTable::read(w)))
+    }
+}
+
+/// Over six columns, and over run structs, which are of one length.
+pub fn calls() -> Vec<Call> {
+    vec![form(105, "attempt_from_numbers", port_numbers, unequal()), form(106, "attempt_from", port_runs, vec![])]
 }

@@ -1,12 +1,35 @@
-//! The port's attempts over a run table, through its C interface.
+//! The port's attempts over a run table, through the two forms of its C interface.
 
-use super::RunTable;
+use super::{Run, RunTable};
 use crate::port::Attempt;
 
 #[repr(C)]
 pub struct AttemptAnswer {
     pub number: u8,
     pub attempt: Attempt,
+}
+
+/// The numbers of an attempt.
+#[repr(C)]
+struct Setup {
+    scale: f64,
+    window_end: usize,
+    valley: usize,
+    peak: usize,
+    error: u8,
+    genome: u8,
+    mass_limit: f64,
+}
+
+/// A run as a struct.
+#[repr(C)]
+struct FlatRun {
+    converged: bool,
+    cost: f64,
+    place: usize,
+    length: usize,
+    iterations: u64,
+    hit_cap: bool,
 }
 
 extern "C" {
@@ -32,6 +55,17 @@ extern "C" {
         iterations_length: usize,
         caps: *const bool,
         caps_length: usize,
+        lists: *const f64,
+        lists_length: usize,
+        table: *mut f64,
+        room: usize,
+    ) -> AttemptAnswer;
+    fn fog_attempt_from(
+        bins: *const u32,
+        bins_length: usize,
+        setup: Setup,
+        runs: *const FlatRun,
+        runs_length: usize,
         lists: *const f64,
         lists_length: usize,
         table: *mut f64,
@@ -71,4 +105,34 @@ pub fn attempt_from_numbers(t: &RunTable, table: &mut [f64]) -> AttemptAnswer {
             room,
         )
     }
+}
+
+impl FlatRun {
+    fn of(run: Run) -> FlatRun {
+        FlatRun {
+            converged: run.converged,
+            cost: run.cost,
+            place: run.place as usize,
+            length: run.length as usize,
+            iterations: run.iterations,
+            hit_cap: run.capped,
+        }
+    }
+}
+
+/// The same over run structs.
+pub fn attempt_from(t: &RunTable, table: &mut [f64]) -> AttemptAnswer {
+    let (p, room) = (&t.problem, table.len());
+    let runs: Vec<FlatRun> = t.runs().into_iter().map(FlatRun::of).collect();
+    let setup = Setup {
+        scale: p.scale,
+        window_end: p.window_end as usize,
+        valley: t.valley as usize,
+        peak: p.peak as usize,
+        error: p.error,
+        genome: p.genome,
+        mass_limit: t.mass_limit,
+    };
+    let (bins, length, lists, listed) = (p.bins.as_ptr(), p.bins.len(), p.theta.as_ptr(), p.theta.len());
+    unsafe { fog_attempt_from(bins, length, setup, runs.as_ptr(), runs.len(), lists, listed, table.as_mut_ptr(), room) }
 }
