@@ -1,5 +1,6 @@
 //! The time of the calls, beside the unaltered Rust, as one Markdown table. `measure/speed` builds it.
-//! Usage: speed DIVISOR CALL END: of the spectra and of the slices; one call, one window end, or `all`. Exits 1 if a bar is missed.
+//! Usage: speed DIVISOR CALL END [ROUNDS]: of the spectra and of the slices; one call, one window end, or `all`; for a profiler our side alone,
+//! so many times over the inputs. Exits 1 if a bar is missed.
 #![allow(dead_code)]
 
 #[path = "speed/agree.rs"]
@@ -117,7 +118,10 @@ the Rust's own rules, over fits that both accept. An attempt's outcomes are laid
 
 fn main() {
     let words: Vec<String> = std::env::args().skip(1).collect();
-    let [divisor, call, end] = &words[..] else { panic!("speed DIVISOR CALL END") };
+    let [divisor, call, end, rounds @ ..] = &words[..] else { panic!("speed DIVISOR CALL END [ROUNDS]") };
+    if let Some(rounds) = rounds.first() {
+        race::ROUNDS.set(rounds.parse().expect("the rounds are a number")).expect("they are set once");
+    }
     let divisor: usize = divisor.parse().expect("the divisor is a number");
     let asked = |which: &str, it: &str| which == "all" || which == it;
     let rows: Vec<Row> = rows().into_iter().filter(|row| asked(call, row.call)).collect();
