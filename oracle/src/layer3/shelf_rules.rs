@@ -39,6 +39,11 @@ fn beside_a_limit(d: &mut Draw) -> Vec<u64> {
     words(&s)
 }
 
+/// Alpha at or beside its limit, in a shelf that is valid otherwise.
+fn alpha_decides(d: &mut Draw) -> Vec<u64> {
+    words(&[d.between(0.01, 0.49), d.beside(1.0 - 1e-9, 3), d.between(0.5, 2.0)])
+}
+
 fn limits() -> Vec<Own> {
     vec![own("beside a limit", 300_000, beside_a_limit, |_| true)]
 }
@@ -52,6 +57,8 @@ pub fn calls() -> Vec<Call> {
         own("valid", 50_000, ordinary, valid),
         own("valid beside a limit", 20_000, beside_a_limit, valid),
         own("invalid beside a limit", 20_000, beside_a_limit, |w| !valid(w)),
+        // no row of it is in the sample, which is older
+        own("alpha beside its limit, the rest valid", 20_000, alpha_decides, |w| float(w, 0) < 0.5).long(),
     ];
     vec![
         Call {
