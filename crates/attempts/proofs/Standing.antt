@@ -4,7 +4,6 @@ use Prim.Native.Nat.{ℕ, zero, suc, _+_, _≤_}
 use mathlib.Core.Path.{_≡_, refl, sym, ap, _∙_}
 use mathlib.Core.Bool.{Bool, true, false}
 use mathlib.Core.List.{List, [], _∷_, _++_}
-use native.Mathlib.Nat.{not-suc-le-zero, le-of-suc-le-suc}
 use native.Mathlib.Omega.{arith}
 use borrow.Author.Tests.{ltb-false}
 use lib.Dec.{ltb, eqb}
@@ -14,6 +13,7 @@ use Rattle.meaning.specs.Lent.{onGive}
 use Rattle.meaning.specs.Over.{over}
 use Rattle.meaning.specs.Reply.{give, test, chain}
 use Rattle.meaning.specs.Rows.{most}
+use Rattle.meaning.proofs.Overs.{over-stands}
 use Rattle.helpers.specs.Shelves.{shelfTrialsOf, lastOf, shelfLogTableOf}
 use Rattle.helpers.specs.declared.shelves.Shelf.{Shelf}
 use Rattle.helpers.specs.declared.shelves.ShelfPart.the-variants.{Present}
@@ -27,22 +27,6 @@ use Rattle.models.specs.declared.families.ErrorModel.{ErrorModel}
 use Rattle.models.specs.declared.families.GenomeModel.{GenomeModel}
 use Rattle.models.specs.declared.families.GenomeModel.the-variants.{NegativeBinomial, ShelfNegativeBinomial}
 use Rattle.models.specs.declared.spectra.Window.{Window}
-
-module _ {A : Type 0} where
-  behind : (xs b : List A) (k : ℕ) → length xs ≤ k → drop k (xs ++ drop (length xs) b) ≡ drop k b
-  behind [] b k h = refl
-  behind (x ∷ xs) b zero h = absurd (not-suc-le-zero h)
-  behind (x ∷ xs) [] (suc k) h =
-      sym (ap (λ (ys : List A). drop k (xs ++ ys)) (none (length xs))) ∙ behind xs [] k (le-of-suc-le-suc h) ∙ none k
-    where
-      none : (n : ℕ) → _≡_ {A = List A} (drop n []) []
-      none zero = refl
-      none (suc n) = refl
-  behind (x ∷ xs) (y ∷ b) (suc k) h = behind xs b k (le-of-suc-le-suc h)
-
-  over-stands : (xs b : List A) (k : ℕ) → length xs ≤ k → drop k (over xs b) ≡ drop k b
-  unfolding over
-  over-stands xs b k h = behind xs b k h
 
 -- ---- a shelf has at most window end + 1 entries
 entries-window : (s : Shelf) (mean : Float) (top room : ℕ) → length (entriesIn (Present s) mean top room) ≤ top + 1

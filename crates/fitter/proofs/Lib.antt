@@ -1,7 +1,6 @@
 -- Laws of this layer.
 -- ---- recovery and the shelf share
 pub mod Recovered
-pub mod Sums
 pub mod ShareTests
 -- ---- the starts
 pub mod Writing

@@ -57,6 +57,14 @@ module _ {A : Type 0} (f : ℕ → A → A) where
       last : (b : ℕ) → b + 1 ≤ suc b
       last b = omega arith
 
+  -- a range that may be inverted: it ends where it starts, or at its end
+  pub fold-reach : (a b : ℕ) (z : A) → fold f a (a + (b - a)) z ≡ fold f a b z
+  unfolding fold
+  fold-reach a b z = ap (λ (n : ℕ). steps f a n z) (reach-length a b)
+    where
+      reach-length : (a b : ℕ) → a + (b - a) - a ≡ b - a
+      reach-length a b = omega arith
+
   -- what holds at the start, and is kept by each step, holds at the end
   steps-keep : (P : ℕ → A → Type 0) (a n b : ℕ) (z : A) → a + n ≡ b → ((k : ℕ) (x : A) → a ≤ k → k < b → P k x → P (suc k) (f k x)) → P a z → P b (steps f a n z)
   unfolding steps

@@ -27,6 +27,22 @@ module _ {A : Type 0} where
       ∙ sym (append-snoc xs v (drop (suc (length xs)) b))
       ∙ ap (λ (n : ℕ). xs ++ (v ∷ []) ++ drop n b) (sym (length-append xs (v ∷ []) ∙ add-one (length xs)))
 
+  -- what lies behind all that was written
+  behind : (xs b : List A) (k : ℕ) → length xs ≤ k → drop k (xs ++ drop (length xs) b) ≡ drop k b
+  behind [] b k h = refl
+  behind (x ∷ xs) b zero h = absurd (not-suc-le-zero h)
+  behind (x ∷ xs) [] (suc k) h =
+      sym (ap (λ (ys : List A). drop k (xs ++ ys)) (none (length xs))) ∙ behind xs [] k (le-of-suc-le-suc h) ∙ none k
+    where
+      none : (n : ℕ) → _≡_ {A = List A} (drop n []) []
+      none zero = refl
+      none (suc n) = refl
+  behind (x ∷ xs) (y ∷ b) (suc k) h = behind xs b k (le-of-suc-le-suc h)
+
+  pub over-stands : (xs b : List A) (k : ℕ) → length xs ≤ k → drop k (over xs b) ≡ drop k b
+  unfolding over
+  over-stands xs b k h = behind xs b k h
+
 -- an element that is there does not turn on what stands past the end
 pub getD-any : {A : Type 0} (l : List A) (i : ℕ) (d e : A) → i < length l → getD l i d ≡ getD l i e
 getD-any [] i d e h = absurd (not-suc-le-zero h)

@@ -36,7 +36,7 @@ turned false m e true n d = refl
 turned true m e false n d = ap (ltb 0) (add-comm (m * up e * down d) (n * up d * down e))
 turned true m e true n d = refl
 
-under : (y x b : Float) → lt y b ≡ true → lt y x ≡ false → isNan x ≡ false → lt x b ≡ true
+pub under : (y x b : Float) → lt y b ≡ true → lt y x ≡ false → isNan x ≡ false → lt x b ≡ true
 unfolding lt isNan
 under nan x b h k l = absurd (false≢true h)
 under (inf false) x nan h k l = absurd (false≢true h)
@@ -257,7 +257,7 @@ outdone tail high low b F t h l s =
     go false = falls b (high ⊕ log) tail (add-fits binary64 high log) (falls b high log F h low-log) t
 
 -- ---- what is below the best leaves it as it is
-asymmetric : (x y : Float) → lt x y ≡ true → (lt y x ≡ false) × (eq y x ≡ false)
+pub asymmetric : (x y : Float) → lt x y ≡ true → (lt y x ≡ false) × (eq y x ≡ false)
 unfolding lt eq
 asymmetric nan y h = absurd (false≢true h)
 asymmetric (inf true) nan h = absurd (false≢true h)

@@ -7,11 +7,11 @@ use lib.Ieee.{neg, ofBits}
 use Rattle.routines.specs.Constants.{zero}
 use Rattle.routines.specs.Ops.{_⊕_, ofCount}
 use Rattle.meaning.specs.Fold.{fold}
+use Rattle.meaning.proofs.Folds.{fold-reach}
 use Rattle.meaning.proofs.Loops.{Folded, begins, goes-on, ends}
 use Rattle.fitter.specs.Recovering.{recovered}
 use Rattle.fitter.specs.Shares.{massStep, massOf}
 use Rattle.fitter.proofs.Recovered.{recovered-length, recovered-at}
-use Rattle.fitter.proofs.Sums.{fold-reach}
 use Rattle.fitter.proofs.shares.mass.Statement.{statement}
 use Rattle.fitter.proofs.shares.mass.Tie as tie
 
