@@ -1,0 +1,32 @@
+-- `search::prices::price` meets its contract. Assumes nothing.
+use borrow.Author.Needs.{needs}
+use mathlib.Core.Path.{ap, _∙_}
+use lib.ListN.{drop}
+use Rattle.search.specs.Prices.{priceSaid, readyPriceOf, standsFrom}
+use Rattle.search.proofs.Stands.{prepared-stands}
+use Rattle.search.proofs.prices.price.Statement.{statement}
+use Rattle.search.proofs.prices.price.Tie as tie
+
+cost-prepared-requires : tie.Need-cost-prepared-requires
+cost-prepared-requires c κs = search needs
+
+price-said-requires : tie.Need-price-said-requires
+price-said-requires c κs = search needs
+
+same-length : tie.Need-same-length
+same-length c = search needs
+
+returns : tie.Need-returns
+unfolding readyPriceOf
+returns c =
+    let k = c .before .before .before .cost-prepared in
+    let a = c .before .before .before .before .before .before .before .before .before .args in
+    let p = a .problem in (
+      c .price-said .ensures ∙ ap priceSaid (k .ensures .0),
+      ap (drop (standsFrom p)) (k .ensures .1)
+          ∙ prepared-stands (a .bins .now) (p .scale) (p .«window_end») (p .peak) (p .error) (p .genome) (a .list .now)
+          (a .ready .now) (a .table .now),
+    )
+
+pub price-spec : {M : Type 1} → statement M
+price-spec = tie.close (tie.spec cost-prepared-requires price-said-requires same-length returns)

@@ -1,0 +1,211 @@
+-- `search::refusing::search_refusal` meets its contract: a row that has no number is passed over, once for all behind
+-- it. Assumes nothing.
+use Prim.Native.Nat.{ℕ, _≤_, _<_}
+use mathlib.Core.Path.{_≡_, refl, sym, _∙_}
+use mathlib.Core.Bool.{Bool, true, false}
+use mathlib.Core.List.{List, [], _∷_}
+use mathlib.Core.Logic.{inl, inr, ⊎-elim}
+use native.Mathlib.Omega.{arith}
+use borrow.Author.Needs.{needs}
+use borrow.Author.Tests.{lt-ltb, le-ltb, ltb-true, ltb-false}
+use lib.ListN.{length}
+use Rattle.meaning.specs.Reply.{Test, firstOf}
+use Rattle.meaning.specs.Rows.{most, inOrder, few, many, short}
+use Rattle.meaning.proofs.Chains.{stops, goes-on}
+use Rattle.meaning.proofs.Rows.{Some, few-clear, few-found, many-clear, many-found}
+use Rattle.models.specs.Prepared.{readyDemand}
+use Rattle.models.specs.Refusals.{spectrumTests, shortTable}
+use Rattle.search.specs.Refusing.{wrongStarts, shortRuns, searchTests}
+use Rattle.search.proofs.refusing.search_refusal.Statement.{statement}
+use Rattle.search.proofs.refusing.search_refusal.Tie as tie
+
+-- ---- the rows: each, and all behind it
+module _ (s : tie.Start) where
+  abbrev bins : ℕ
+  bins = length (s .args .bins .now)
+
+  abbrev lows : List ℕ
+  lows = s .args .problem .peak ∷ bins ∷ []
+
+  abbrev highs : List ℕ
+  highs = let p = s .args .problem in bins ∷ p .peak ∷ p .«window_end» ∷ s .args .runs ∷ []
+
+  abbrev spectrum : List Test
+  spectrum = let p = s .args .problem in spectrumTests (s .args .bins .now) (p .scale) (p .«window_end»)
+
+  abbrev table : List Test
+  table = let p = s .args .problem in shortTable (p .genome) (p .«window_end») (s .args .lent .table)
+
+  abbrev ready : List Test
+  ready = let a = s .args in short (a .lent .ready) (readyDemand (a .problem .«window_end»))
+
+  abbrev runs : List (List Test)
+  runs = let a = s .args in shortRuns (a .problem) (a .runs) (a .lent) ∷ []
+
+  abbrev after-table : List (List Test)
+  after-table = ready ∷ runs
+
+  abbrev after-wrong : List (List Test)
+  after-wrong = table ∷ after-table
+
+  abbrev after-spectrum : List (List Test)
+  after-spectrum = wrongStarts (s .args .wrong) ∷ after-wrong
+
+  abbrev after-high : List (List Test)
+  after-high = spectrum ∷ after-spectrum
+
+  abbrev all : List Test
+  all = let a = s .args in searchTests (a .bins .now) (a .problem) (a .runs) (a .wrong) (a .lent)
+
+  -- the number of these last rows is that of all
+  abbrev Number : List (List Test) → Type 0
+  Number rows = (n : ℕ) → n ≡ firstOf (inOrder rows) → n ≡ firstOf all
+
+-- ---- 1
+abbrev start-low : tie.Else2 → tie.Start
+start-low c = c .before .before .before .before
+
+returns : tie.Need-returns
+unfolding searchTests
+returns c =
+    let s = c .before .before .before in
+    let which : Some (λ (n : ℕ). n < 2) (lows s) =
+    ⊎-elim (λ t. inl (t .taken)) (λ t. inr (inl (ltb-true _ _ (t .1 .taken)))) (c .if1 .came) in
+    stops (few (lows s)) (inOrder (many (highs s) ∷ after-high s)) 1 (few-found (lows s) which) (omega arith)
+
+past-low : (c : tie.Else2) → Number (start-low c) (many (highs (start-low c)) ∷ after-high (start-low c))
+unfolding searchTests
+past-low c =
+    let s = start-low c in
+    let none = few-clear (lows s) (c .before .if1 .left, (ltb-false _ _ (c .if2 .left), tt)) in
+    goes-on (few (lows s)) (inOrder (many (highs s) ∷ after-high s)) refl none
+
+-- ---- 2
+returns-2 : tie.Need-returns-2
+returns-2 c =
+    let s = start-low (c .before) in
+    let which : Some (λ (n : ℕ). most < n) (highs s) =
+    ⊎-elim (λ t. inl (t .taken))
+    (⊎-elim (λ t. inr (inl (ltb-true _ _ (t .2 .taken))))
+    (⊎-elim (λ t. inr (inr (inl (ltb-true _ _ (t .4 .taken)))))
+    (λ t. inr (inr (inr (inl (ltb-true _ _ (t .5 .taken))))))))
+    (c .if3 .came) in
+    past-low (c .before) 2 (stops (many (highs s)) (inOrder (after-high s)) 2 (many-found (highs s) which) (omega arith))
+
+abbrev low : tie.Else6 → tie.Else2
+low c = c .before .before .before .before .before .before
+
+abbrev start-high : tie.Else6 → tie.Start
+start-high c = start-low (low c)
+
+past-high : (c : tie.Else6) → Number (start-high c) (after-high (start-high c))
+past-high c n h =
+    let s = start-high c in
+    let e5 = c .before in
+    let e4 = e5 .before .before in
+    let e3 = e4 .before .before in
+    let none = many-clear (highs s)
+    (e3 .if3 .left, (ltb-false _ _ (e4 .if4 .left), (ltb-false _ _ (e5 .if5 .left), (ltb-false _ _ (c .if6 .left), tt)))) in
+    past-low (low c) n (goes-on (many (highs s)) (inOrder (after-high s)) refl none n h)
+
+-- ---- 4, 5 and 6
+spectrum-refusal-requires : tie.Need-spectrum-refusal-requires
+spectrum-refusal-requires c κs = search needs
+
+returns-3 : tie.Need-returns-3
+returns-3 c =
+    let s = start-high (c .before .before) in
+    let first = c .before .spectrum-refusal .ensures in
+    past-high (c .before .before) _
+    (stops (spectrum s) (inOrder (after-spectrum s)) _ first (omega (arith, c .if7 .taken)))
+
+abbrev start-spectrum : tie.Else7 → tie.Start
+start-spectrum c = start-high (c .before .before)
+
+past-spectrum : (c : tie.Else7) → Number (start-spectrum c) (after-spectrum (start-spectrum c))
+past-spectrum c n h =
+    let s = start-spectrum c in
+    let none = sym (c .if7 .left) ∙ c .before .spectrum-refusal .ensures in
+    past-high (c .before .before) n
+    (goes-on (spectrum s) (inOrder (after-spectrum s)) (unfold spectrumTests in refl) none n h)
+
+-- ---- 7
+starts-wrong : (wrong : Bool) → wrong ≡ true → 7 ≡ firstOf (wrongStarts wrong)
+starts-wrong wrong e = rw e
+
+starts-right : (wrong : Bool) → wrong ≡ false → 0 ≡ firstOf (wrongStarts wrong)
+starts-right wrong e = rw e
+
+returns-4 : tie.Need-returns-4
+returns-4 c =
+    let s = start-spectrum (c .before) in
+    past-spectrum (c .before) 7
+    (stops (wrongStarts (s .args .wrong)) (inOrder (after-wrong s)) 7 (starts-wrong _ (c .if8 .taken)) (omega arith))
+
+past-wrong : (c : tie.Else8) → Number (start-spectrum (c .before)) (after-wrong (start-spectrum (c .before)))
+past-wrong c n h =
+    let s = start-spectrum (c .before) in
+    past-spectrum (c .before) n
+    (goes-on (wrongStarts (s .args .wrong)) (inOrder (after-wrong s)) refl (starts-right _ (c .if8 .left)) n h)
+
+-- ---- 10
+table-refusal-requires : tie.Need-table-refusal-requires
+table-refusal-requires c κs = search needs
+
+abbrev start-table : tie.Else9 → tie.Start
+start-table c = start-spectrum (c .before .before .before)
+
+returns-5 : tie.Need-returns-5
+returns-5 c =
+    let s = start-spectrum (c .before .before .before) in
+    let first = c .before .table-refusal .ensures in
+    past-wrong (c .before .before) _
+    (stops (table s) (inOrder (after-table s)) _ first (omega (arith, c .if9 .taken)))
+
+past-table : (c : tie.Else9) → Number (start-table c) (after-table (start-table c))
+past-table c n h =
+    let s = start-table c in
+    let none = sym (c .if9 .left) ∙ c .before .table-refusal .ensures in
+    past-wrong (c .before .before) n (goes-on (table s) (inOrder (after-table s)) refl none n h)
+
+-- the window end is within the limits
+abbrev high : tie.Else9 → tie.Else6
+high c = c .before .before .before .before .before
+
+end-few : (c : tie.Else9) → start-table c .args .problem .«window_end» ≤ most
+end-few c = ltb-false _ _ (high c .before .if5 .left)
+
+add-if10 : tie.Need-add-if10
+add-if10 c = omega (arith, end-few (c .before))
+
+mul-if10 : tie.Need-mul-if10
+mul-if10 c = omega (arith, end-few (c .before))
+
+returns-6 : tie.Need-returns-6
+returns-6 c = past-table (c .before .before .before) 10 (rw (lt-ltb _ _ (c .if10 .taken)))
+
+runs-refusal-requires : tie.Need-runs-refusal-requires
+runs-refusal-requires c κs = ltb-false _ _ (high (c .before .before .before) .if6 .left)
+
+returns-7 : tie.Need-returns-7
+unfolding shortRuns
+returns-7 c =
+    let e = c .before in
+    past-table (e .before .before .before) _ (rw (le-ltb _ _ (e .if10 .left)) (c .runs-refusal .ensures))
+
+pub search-refusal-spec : {M : Type 1} → statement M
+search-refusal-spec =
+    tie.close
+    (tie.spec
+    returns
+    returns-2
+    spectrum-refusal-requires
+    returns-3
+    returns-4
+    table-refusal-requires
+    returns-5
+    add-if10
+    mul-if10
+    returns-6
+    runs-refusal-requires
+    returns-7)

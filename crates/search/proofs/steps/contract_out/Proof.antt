@@ -1,0 +1,106 @@
+-- `search::steps::contract_out` meets its contract. Assumes nothing.
+use mathlib.Core.Path.{_≡_, ap, _∙_}
+use Prim.Native.Nat.{ℕ, _+_, _-_, _*_, _≤_, _<_}
+use mathlib.Core.List.{List}
+use native.Mathlib.Omega.{arith}
+use lib.ListN.{length}
+use lib.Ieee.{Float}
+use borrow.Author.Needs.{needs}
+use Rattle.search.specs.Prices.{readyPriceOf}
+use Rattle.search.specs.Rule.{shrunk}
+use Rattle.search.specs.Vertices.{rowsIn}
+use Rattle.search.proofs.RowLaws.{row-fits}
+use Rattle.search.proofs.Stepped.{out-taken, out-shrunk}
+use Rattle.search.proofs.steps.contract_out.Statement.{statement}
+use Rattle.search.proofs.steps.contract_out.Tie as tie
+
+module _ (t : tie.After-try-point) where
+  abbrev s : tie.Start
+  s = t .before .before .before .before .before .before .before .before .before .before .before
+
+  abbrev price : List Float → Float
+  price = let a = s .args in readyPriceOf (a .bins .now) (a .problem) (a .ready .now) (length (a .table .now))
+
+  some : 0 < s .args .w
+  some = omega arith
+
+try-point-requires : tie.Need-try-point-requires
+try-point-requires c κs = search needs
+
+sub-put : tie.Need-sub-put
+sub-put c = search needs
+
+put-requires : tie.Need-put-requires
+put-requires c κs = search needs
+
+same-length : tie.Need-same-length
+same-length c = search needs
+
+same-length-2 : tie.Need-same-length-2
+same-length-2 c = search needs
+
+same-length-3 : tie.Need-same-length-3
+same-length-3 c = search needs
+
+same-length-4 : tie.Need-same-length-4
+same-length-4 c = search needs
+
+returns : tie.Need-returns
+returns c =
+    let k = c .before .before in
+    let then = k .before .before .before in
+    let t = then .before .before .before .before .before in
+    let a = s t .args in (
+      k .put .ensures
+          ∙ out-taken (price t) (a .w) (a .rows .now) (s t .pre .0) (some t) (a .centre .now) (a .point .now) (a .reflected) _ _
+          (t .try-point .ensures .0) (t .try-point .ensures .1 .0) (then .if1 .taken),
+      t .try-point .ensures .1 .1,
+    )
+
+shrink-requires : tie.Need-shrink-requires
+shrink-requires c κs = search needs
+
+same-length-5 : tie.Need-same-length-5
+same-length-5 c = search needs
+
+same-length-6 : tie.Need-same-length-6
+same-length-6 c = search needs
+
+same-length-7 : tie.Need-same-length-7
+same-length-7 c = search needs
+
+same-length-8 : tie.Need-same-length-8
+same-length-8 c = search needs
+
+returns-2 : tie.Need-returns-2
+returns-2 c =
+    let k = c .before .before .before .before .before .before .before .before in
+    let else = k .before .before .before .before .before in
+    let t = else .before .before .before .before .before in
+    let a = s t .args in (
+      k .shrink .ensures .0
+          ∙ ap (λ (n : ℕ). shrunk (readyPriceOf (a .bins .now) (a .problem) (a .ready .now) n) (rowsIn (a .w) (a .w) (a .rows .now)))
+          (t .try-point .kept .1 .1 .1 .1 .1 .1 .1 .0)
+          ∙ out-shrunk (price t) (a .w) (a .rows .now) (s t .pre .0) (some t) (a .centre .now) (a .point .now) (a .reflected) _ _
+          (t .try-point .ensures .0) (t .try-point .ensures .1 .0) (else .if1 .left),
+      k .shrink .ensures .1 ∙ t .try-point .ensures .1 .1,
+    )
+
+pub contract-out-spec : {M : Type 1} → statement M
+contract-out-spec =
+    tie.close
+    (tie.spec
+    try-point-requires
+    sub-put
+    put-requires
+    same-length
+    same-length-2
+    same-length-3
+    same-length-4
+    returns
+    shrink-requires
+    same-length-5
+    same-length-6
+    same-length-7
+    same-length-8
+    returns-2)

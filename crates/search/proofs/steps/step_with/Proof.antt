@@ -1,0 +1,275 @@
+-- `search::steps::step_with` meets its contract. Assumes nothing.
+use mathlib.Core.Path.{_≡_, ap, _∙_}
+use Prim.Native.Nat.{ℕ, _+_, _-_, _*_, _≤_, _<_}
+use mathlib.Core.List.{List, _∷_}
+use native.Mathlib.Omega.{arith}
+use lib.ListN.{length}
+use lib.Ieee.{Float}
+use borrow.Author.Needs.{needs}
+use Rattle.search.specs.Prices.{readyPriceOf}
+use Rattle.search.specs.Rule.{expanded, contractedOut, contractedIn}
+use Rattle.search.specs.Vertices.{Vertex, rowsIn}
+use Rattle.search.proofs.RowLaws.{row-fits}
+use Rattle.search.proofs.Stepped.{last-part, below-best, below-second, below-worst, not-below}
+use Rattle.search.proofs.steps.step_with.Statement.{statement}
+use Rattle.search.proofs.steps.step_with.Tie as tie
+
+abbrev start : tie.After-slice-known5 → tie.Start
+start c = c .before .before .before .before .before .before .before
+
+-- the last row lies in the slice, and so does the one before it
+last-fits : (c : tie.After-slice-known5) → let w = start c .args .w in (w - 1) * w + w ≤ w * w
+last-fits c = row-fits (start c .args .w - 1) (start c .args .w) (start c .args .w) (omega arith)
+
+second-fits : (c : tie.After-slice-known5) → let w = start c .args .w in (w - 2) * w + w ≤ (w - 1) * w
+second-fits c = row-fits (start c .args .w - 2) (start c .args .w - 1) (start c .args .w) (omega arith)
+
+abbrev first : tie.After-try-point → tie.After-slice-known5
+first t = t .before .before .before .before .before .before .before .before .before .before .before
+
+abbrev tried : tie.After-slice-known9 → tie.After-try-point
+tried c = c .before .before .before .before .before
+
+module _ (t : tie.After-try-point) where
+  abbrev s : tie.Start
+  s = start (first t)
+
+  abbrev price : List Float → Float
+  price = let a = s .args in readyPriceOf (a .bins .now) (a .problem) (a .ready .now) (length (a .table .now))
+
+  -- the centroid, and the vertex reflected
+  abbrev middle : List Float
+  middle = t .before .before .before .before .before .before .before .before .centroid .last .1 .1 .0
+
+  abbrev reflected : Vertex
+  reflected = t .try-point .result ∷ t .try-point .last .1 .1 .1 .1 .1 .0
+
+  some : 0 < s .args .w
+  some = omega arith
+
+sub-n : tie.Need-sub-n
+sub-n c = search needs
+
+mul-worst : tie.Need-mul-worst
+mul-worst c = omega (arith, last-fits c)
+
+sub-second : tie.Need-sub-second
+sub-second c = omega (arith, second-fits c)
+
+add-from : tie.Need-add-from
+add-from c = omega (arith, last-fits c)
+
+add-to : tie.Need-add-to
+add-to c = omega (arith, last-fits c)
+
+centroid-requires : tie.Need-centroid-requires
+centroid-requires c κs = search needs
+
+mul-try-point : tie.Need-mul-try-point
+mul-try-point c = omega (arith, last-fits (c .before .before .before .before .before .before))
+
+sub-try-point : tie.Need-sub-try-point
+sub-try-point c = search needs
+
+part-try-point-start : tie.Need-part-try-point-start
+part-try-point-start c = search needs
+
+part-try-point-end : tie.Need-part-try-point-end
+part-try-point-end c = omega (arith, last-fits (c .before .before .before .before .before .before .before))
+
+try-point-requires : tie.Need-try-point-requires
+try-point-requires c κs = search needs
+
+slice-read-if1 : tie.Need-slice-read-if1
+slice-read-if1 c = omega (arith, last-fits (first (tried c)))
+
+expand-requires : tie.Need-expand-requires
+expand-requires c κs = search needs
+
+same-length : tie.Need-same-length
+same-length c = search needs
+
+same-length-2 : tie.Need-same-length-2
+same-length-2 c = search needs
+
+same-length-3 : tie.Need-same-length-3
+same-length-3 c = search needs
+
+same-length-4 : tie.Need-same-length-4
+same-length-4 c = search needs
+
+same-length-5 : tie.Need-same-length-5
+same-length-5 c = search needs
+
+returns : tie.Need-returns
+returns c =
+    let k = c .before .before .before .before .before .before in
+    let then = k .before .before .before .before .before .before in
+    let t = tried (then .before) in
+    let a = s t .args in (
+      k .expand .ensures .0
+          ∙ ap (λ (n : ℕ). expanded (readyPriceOf (a .bins .now) (a .problem) (a .ready .now) n) (rowsIn (a .w) (a .w) (a .rows .now)) (middle t) (reflected t))
+          (t .try-point .kept .1 .1 .1 .1 .1 .1 .1 .0)
+          ∙ below-best (price t) (a .w) (a .rows .now) (s t .pre .0) (some t) (s t .pre .1) _ _ (t .before .before .before .before .before .before .before .before .centroid .ensures)
+          (last-part (price t) (a .w) (a .rows .now) (s t .pre .0) (some t)) _ _ _ (t .try-point .ensures .0)
+          (t .try-point .ensures .1 .0) (then .if1 .taken),
+      k .expand .ensures .1 ∙ t .try-point .ensures .1 .1,
+    )
+
+mul-if2 : tie.Need-mul-if2
+mul-if2 c = omega (arith, last-fits (first (tried (c .before))), start (first (tried (c .before))) .good .1 .1 .1 .1 .1 .1 .0)
+
+slice-read-if2 : tie.Need-slice-read-if2
+slice-read-if2 c = omega (arith, last-fits (first (tried (c .before .before))))
+
+put-requires : tie.Need-put-requires
+put-requires c κs = search needs
+
+same-length-6 : tie.Need-same-length-6
+same-length-6 c = search needs
+
+same-length-7 : tie.Need-same-length-7
+same-length-7 c = search needs
+
+same-length-8 : tie.Need-same-length-8
+same-length-8 c = search needs
+
+same-length-9 : tie.Need-same-length-9
+same-length-9 c = search needs
+
+returns-2 : tie.Need-returns-2
+returns-2 c =
+    let k = c .before .before in
+    let then = k .before .before .before in
+    let else = then .before .before in
+    let t = tried (else .before) in
+    let a = s t .args in (
+      k .put .ensures ∙ below-second (price t) (a .w) (a .rows .now) (s t .pre .0) (some t) (s t .pre .1) _ _ (t .before .before .before .before .before .before .before .before .centroid .ensures)
+          (last-part (price t) (a .w) (a .rows .now) (s t .pre .0) (some t)) _ _ _ (t .try-point .ensures .0)
+          (t .try-point .ensures .1 .0) (else .if1 .left) (then .if2 .taken),
+      t .try-point .ensures .1 .1,
+    )
+
+mul-if3 : tie.Need-mul-if3
+mul-if3 c = omega (arith, last-fits (first (tried (c .before .before .before))), start (first (tried (c .before .before .before))) .good .1 .1 .1 .1 .1 .1 .0)
+
+slice-read-if3 : tie.Need-slice-read-if3
+slice-read-if3 c = omega (arith, last-fits (first (tried (c .before .before .before .before))))
+
+contract-out-requires : tie.Need-contract-out-requires
+contract-out-requires c κs = search needs
+
+same-length-10 : tie.Need-same-length-10
+same-length-10 c = search needs
+
+same-length-11 : tie.Need-same-length-11
+same-length-11 c = search needs
+
+same-length-12 : tie.Need-same-length-12
+same-length-12 c = search needs
+
+same-length-13 : tie.Need-same-length-13
+same-length-13 c = search needs
+
+same-length-14 : tie.Need-same-length-14
+same-length-14 c = search needs
+
+returns-3 : tie.Need-returns-3
+returns-3 c =
+    let k = c .before .before .before .before .before .before .before .before in
+    let then = k .before .before .before .before .before .before in
+    let second = then .before .before in
+    let else = second .before .before in
+    let t = tried (else .before) in
+    let a = s t .args in (
+      k .contract-out .ensures .0
+          ∙ ap (λ (n : ℕ). contractedOut (readyPriceOf (a .bins .now) (a .problem) (a .ready .now) n) (rowsIn (a .w) (a .w) (a .rows .now)) (middle t) (reflected t))
+          (t .try-point .kept .1 .1 .1 .1 .1 .1 .1 .0)
+          ∙ below-worst (price t) (a .w) (a .rows .now) (s t .pre .0) (some t) (s t .pre .1) _ _ (t .before .before .before .before .before .before .before .before .centroid .ensures)
+          (last-part (price t) (a .w) (a .rows .now) (s t .pre .0) (some t)) _ _ _ (t .try-point .ensures .0)
+          (t .try-point .ensures .1 .0) (else .if1 .left) (second .if2 .left) (then .if3 .taken),
+      k .contract-out .ensures .1 ∙ t .try-point .ensures .1 .1,
+    )
+
+contract-in-requires : tie.Need-contract-in-requires
+contract-in-requires c κs = search needs
+
+same-length-15 : tie.Need-same-length-15
+same-length-15 c = search needs
+
+same-length-16 : tie.Need-same-length-16
+same-length-16 c = search needs
+
+same-length-17 : tie.Need-same-length-17
+same-length-17 c = search needs
+
+same-length-18 : tie.Need-same-length-18
+same-length-18 c = search needs
+
+same-length-19 : tie.Need-same-length-19
+same-length-19 c = search needs
+
+returns-4 : tie.Need-returns-4
+returns-4 c =
+    let k = c .before .before .before .before .before .before .before .before in
+    let third = k .before .before .before .before .before in
+    let second = third .before .before in
+    let else = second .before .before in
+    let t = tried (else .before) in
+    let a = s t .args in (
+      k .contract-in .ensures .0
+          ∙ ap (λ (n : ℕ). contractedIn (readyPriceOf (a .bins .now) (a .problem) (a .ready .now) n) (rowsIn (a .w) (a .w) (a .rows .now)) (middle t))
+          (t .try-point .kept .1 .1 .1 .1 .1 .1 .1 .0)
+          ∙ not-below (price t) (a .w) (a .rows .now) (s t .pre .0) (some t) (s t .pre .1) _ _ (t .before .before .before .before .before .before .before .before .centroid .ensures)
+          (last-part (price t) (a .w) (a .rows .now) (s t .pre .0) (some t)) _ _ _ (t .try-point .ensures .0)
+          (t .try-point .ensures .1 .0) (else .if1 .left) (second .if2 .left) (third .if3 .left),
+      k .contract-in .ensures .1 ∙ t .try-point .ensures .1 .1,
+    )
+
+pub step-with-spec : {M : Type 1} → statement M
+step-with-spec =
+    tie.close
+    (tie.spec
+    sub-n
+    mul-worst
+    sub-second
+    add-from
+    add-to
+    centroid-requires
+    mul-try-point
+    sub-try-point
+    part-try-point-start
+    part-try-point-end
+    try-point-requires
+    slice-read-if1
+    expand-requires
+    same-length
+    same-length-2
+    same-length-3
+    same-length-4
+    same-length-5
+    returns
+    mul-if2
+    slice-read-if2
+    put-requires
+    same-length-6
+    same-length-7
+    same-length-8
+    same-length-9
+    returns-2
+    mul-if3
+    slice-read-if3
+    contract-out-requires
+    same-length-10
+    same-length-11
+    same-length-12
+    same-length-13
+    same-length-14
+    returns-3
+    contract-in-requires
+    same-length-15
+    same-length-16
+    same-length-17
+    same-length-18
+    same-length-19
+    returns-4)

@@ -1,0 +1,44 @@
+-- `search::steps::try_point` meets its contract. Assumes nothing.
+use mathlib.Core.Path.{ap, _∙_}
+use mathlib.Core.List.{List}
+use lib.ListN.{length}
+use lib.Ieee.{Float}
+use borrow.Author.Needs.{needs}
+use Rattle.search.specs.Points.{moved}
+use Rattle.search.specs.Prices.{readyPriceOf}
+use Rattle.search.proofs.steps.try_point.Statement.{statement}
+use Rattle.search.proofs.steps.try_point.Tie as tie
+
+copy-requires : tie.Need-copy-requires
+copy-requires c κs = search needs
+
+move-point-requires : tie.Need-move-point-requires
+move-point-requires c κs = search needs
+
+price-requires : tie.Need-price-requires
+price-requires c κs = search needs
+
+same-length : tie.Need-same-length
+same-length c = search needs
+
+same-length-2 : tie.Need-same-length-2
+same-length-2 c = search needs
+
+returns : tie.Need-returns
+returns c =
+    let p = c .before .before in
+    let m = p .before .before .before .before .before in
+    let k = m .before .before .before .before in
+    let a = k .before .before .before .before .before .before .before .before .args in
+    let e = m .move-point .ensures ∙ ap (λ (x : List Float). moved (a .how) x (a .other .now)) (k .copy .ensures) in (
+      e,
+      (
+        p .price .ensures .0 ∙ ap (readyPriceOf (a .bins .now) (a .problem) (a .ready .now) (length (a .table .now))) e,
+        p .price .ensures .1,
+      ),
+    )
+
+pub try-point-spec : {M : Type 1} → statement M
+try-point-spec =
+    tie.close
+    (tie.spec copy-requires move-point-requires price-requires same-length same-length-2 returns)

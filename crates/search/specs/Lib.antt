@@ -1,0 +1,16 @@
+pub mod Lists
+pub mod Vertices
+pub mod Order
+pub mod Ordered
+pub mod Points
+pub mod Spread
+pub mod Rule
+pub mod Firsts
+pub mod Turns
+pub mod Prices
+pub mod Progress
+pub mod Claims
+pub mod Refusing
+pub mod Reporting
+pub mod Searches
+pub mod Beginning
