@@ -37,12 +37,17 @@ impl Build {
         }
     }
 
-    /// A run from each start of each configuration; move 0 leaves the starts as they are.
-    pub fn runs(self, s: &Sample, moved: u64) -> Vec<Vec<Run>> {
-        let mut d = Draw::named(&format!("the path's starts, move {moved}"));
-        let by = if moved == 0 { 0.0 } else { MOVE };
-        let mut from = |start: Vec<f64>| -> Vec<f64> { start.into_iter().map(|x| x * (1.0 + by * d.between(-1.0, 1.0))).collect() };
-        let starts = CONFIGURATIONS.map(|f| self.starts(s, f).into_iter().map(&mut from).collect::<Vec<_>>());
+    /// A run from each start of each configuration.
+    pub fn runs(self, s: &Sample, way: u64) -> Vec<Vec<Run>> {
+        let starts = moved(CONFIGURATIONS.map(|f| self.starts(s, f)), way);
         CONFIGURATIONS.iter().zip(&starts).map(|(&f, starts)| starts.iter().map(|start| self.run(s, f, start)).collect()).collect()
     }
+}
+
+/// The starts of each configuration, moved in one way; 0 leaves them as they are.
+pub fn moved(starts: [Vec<Vec<f64>>; CONFIGURATIONS.len()], way: u64) -> [Vec<Vec<f64>>; CONFIGURATIONS.len()] {
+    let mut d = Draw::named(&format!("the path's starts, move {way}"));
+    let by = if way == 0 { 0.0 } else { MOVE };
+    let mut from = |start: Vec<f64>| -> Vec<f64> { start.into_iter().map(|x| x * (1.0 + by * d.between(-1.0, 1.0))).collect() };
+    starts.map(|starts| starts.into_iter().map(&mut from).collect())
 }

@@ -21,7 +21,7 @@ extern "C" {
 }
 
 /// Nanoseconds of processor time of this thread.
-fn thread_time() -> f64 {
+pub fn thread_time() -> f64 {
     const THREAD: i32 = 3;
     let mut time = Time { seconds: 0, nanoseconds: 0 };
     let status = unsafe { clock_gettime(THREAD, &mut time) };
