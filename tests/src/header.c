@@ -297,6 +297,10 @@ static int file_differs(void) {
         || broken.place != 5 || broken.items != 0 || written.number != 0 || written.items != 6 || memcmp(bytes, wanted, 6) != 0;
 }
 
+/* ---- the search, in tests/src/searches.c: how many answers are others */
+
+int searches_differ(void);
+
 /* ---- the rows */
 
 /* The next row; 0 at the end, and -1 for a line that is none. */
@@ -330,7 +334,7 @@ int main(void) {
         fputs("header: a line is no row\n", stderr);
         return 1;
     }
-    differences += file_differs();
-    printf("header: %u rows through the C interface, %u differences\n", rows, differences);
+    differences += file_differs() + searches_differ();
+    printf("header: %u rows and a search through the C interface, %u differences\n", rows, differences);
     return rows == 0 || differences != 0;
 }

@@ -1,4 +1,4 @@
-//! Fogatise from Rust: from the k-mer histogram of a sequencing sample and the runs of a search to a coverage cutoff.
+//! Fogatise from Rust: from the k-mer histogram of a sequencing sample to a coverage cutoff.
 //!
 //! This is a safe wrapper over the static library `libexports.a`, in which every function is proved to meet its contract; the wrapper
 //! itself is tested, not proved. Every call ends and answers for every argument, NaN and infinities included. Nothing is allocated:
@@ -13,10 +13,18 @@
 //! changes one of these, such as `feenableexcept` or an object linked with `-ffast-math`, changes answers or ends the program.
 //! Infinities and NaNs are ordinary values here; the sign and payload of a NaN that comes back are not part of an answer.
 //!
+//! # From a histogram to the cutoffs
+//!
+//! The library makes the starts, searches from each of them, and takes the runs:
+//!
+//! ```
+#![doc = include_str!("../tests/searches.rs")]
+//! ```
+//!
 //! # From a run table to the cutoffs
 //!
-//! The library has no search of its own. It makes the starts, works out the cost of a list ([`Spectrum::cost`]), and takes the runs that
-//! a search made of them:
+//! Another search may take the place of the library's own: it lowers the cost of a list ([`Spectrum::cost`], or faster
+//! [`Spectrum::cost_prepared`]), and hands its runs over:
 //!
 //! ```
 #![doc = include_str!("../tests/path.rs")]
@@ -41,6 +49,7 @@ mod raw;
 mod refusal;
 mod rejection;
 mod routines;
+mod searches;
 mod selection;
 mod shelf;
 mod spectrum;
@@ -56,6 +65,7 @@ pub use histogram::{read_histogram, write_histogram, MOST_FILE_BINS, MOST_FILE_B
 pub use refusal::Refusal;
 pub use rejection::FitRejection;
 pub use routines::{exp, expm1, lgamma, ln};
+pub use searches::{ReportRoom, Scratch, Searches};
 pub use selection::select_fit;
 pub use shelf::{shelf_log_table, shelf_trials, Shelf};
 pub use spectrum::Spectrum;

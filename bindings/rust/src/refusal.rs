@@ -22,14 +22,14 @@ pub enum Refusal {
     NoWindow,
     /// Number 6: every recovered bin in the window is zero.
     NothingRecovered,
-    /// Number 7: a parameter list has the wrong length or does not lie in the lists, start tables are not rows of three, or the
-    /// shapes are not pairs.
+    /// Number 7: a parameter list has the wrong length or does not lie in the lists, start tables are not rows of three, the shapes
+    /// are not pairs, or the starts of a search are no whole number of lists.
     WrongLength,
     /// Number 8: a log probability scanned for the error mode is a NaN.
     NanScanned,
     /// Number 9: a converged run's cost is not finite or not above 0, or the mass limit is not finite or is below 1.
     WrongLimitOrCost,
-    /// Number 10: lent memory is too short for the answer, or for the shelf table.
+    /// Number 10: lent memory is too short for the answer, for the shelf table, or for the runs of a search.
     TooShort,
     /// A number that this crate does not know.
     Unknown(u8),
@@ -62,10 +62,10 @@ impl Refusal {
             Refusal::AllBinsZero => "all bins are zero",
             Refusal::NoWindow => "the window end is 0, or beyond the bins",
             Refusal::NothingRecovered => "every recovered bin in the window is zero",
-            Refusal::WrongLength => "a parameter list, a start table or the shapes have the wrong length",
+            Refusal::WrongLength => "a parameter list, a start table, the shapes or the starts have the wrong length",
             Refusal::NanScanned => "a log probability scanned for the error mode is a NaN",
             Refusal::WrongLimitOrCost => "a converged run's cost or the mass limit is not finite or too small",
-            Refusal::TooShort => "lent memory is too short for the answer or for the shelf table",
+            Refusal::TooShort => "lent memory is too short for the answer, the shelf table or the runs",
             Refusal::Unknown(_) => "a number that this version of the crate does not know",
         }
     }

@@ -24,11 +24,11 @@
  *   then for each pair of families:
  *     fog_fit_starts                the lists from which to search. The original's seeds are 2, 8 and 15, its shapes 0.5, 3, 0.75, 4; its
  *                                   hint is 2 where the caller has none
- *     fog_prepare_window            once for a window end
- *     fog_cost_prepared             what a search lowers: Nelder and Mead's method in the original, with 0.5 added to each number in turn
- *                                   for its first simplex
- *     fog_attempt_from              over the runs as structs, or fog_attempt_from_numbers over their six arrays; the original's mass limit
- *                                   is 1.1
+ *     fog_begin_searches            the first simplex of each start
+ *     fog_run_searches              as many iterations of each as are wanted; again and again, over what was stored
+ *     fog_report_searches           what the runs have come to, in the arrays of a run table
+ *     fog_attempt_from_numbers      over those, or fog_attempt_from over runs as structs; the original's mass limit is 1.1. A search of the
+ *                                   caller's own lowers fog_cost_prepared, with fog_prepare_window once for a window end
  *   fog_select_fit                  the fit that is used
  *   fog_hole_cutoff_sure            the cutoff that a budget allows; fog_crossover and fog_error_floor_cutoff to compare it with
  */
@@ -53,10 +53,10 @@ extern "C" {
  *    5  the window end is 0, or beyond the bins where the call takes bins
  *    6  every recovered bin in the window is zero
  *    7  the list, or a converged run's, has the wrong length for its families, or does not lie in the lists; a table of error starts is not
- *       one or more rows of three; the shapes are not pairs
+ *       one or more rows of three; the shapes are not pairs; the starts of a search are not a whole number of lists
  *    8  a log probability scanned for the error mode is a NaN
  *    9  the mass limit is not finite or is below 1; a converged run's cost is not finite or not above 0
- *   10  a lent table or buffer is too short for the answer, or for the shelf table
+ *   10  a lent table or buffer is too short for the answer, for the shelf table, or for the runs of a search
  *
  * Each applies only to calls that take the thing named. Where several apply, the first of these comes back. A refusal leaves lent memory
  * as it was.
@@ -494,6 +494,74 @@ fog_written fog_fit_starts(uint8_t error, uint8_t genome, const double *seeds, s
 fog_written fog_fit_starts_lent(uint8_t error, uint8_t genome, const double *pareto, size_t pareto_length, const double *weibull,
                                 size_t weibull_length, const double *seeds, size_t seeds_length, double hint, double share,
                                 const double *shapes, size_t shapes_length, double *out, size_t out_length);
+
+/* ---- the search
+ *
+ * Nelder and Mead's method over fog_cost, for many runs at once, one from each start. With w = fog_list_length(error, genome) + 1, a simplex
+ * is w rows of w numbers, one behind the other; a row is a cost, and then the list that has it. Of run i, from 0 on,
+ *
+ *   simplexes   has its simplex, the w * w numbers from i * w * w on
+ *   iterations  at i, how many iterations it has made
+ *   stopped     at i, whether the test has stopped it
+ *
+ * That is all that is to be stored of runs that are to go on later: the numbers bit for bit, and of `stopped` true or false, no other byte.
+ * `ready` and `table` are scratch: what they hold before a call does not matter.
+ *
+ * An iteration orders the rows by cost, the earlier first on ties. Then the worst gives way to its reflection in the centroid of the others,
+ * or to a point twice or half as far behind the centroid, or half the way back from there, by what they cost; where none of these is taken,
+ * every row but the best goes half the way to the best. Before each iteration, the rows being in order, comes the test: the run stops where
+ * the mean squared deviation of its costs is below 1e-8; where a cost is infinite it goes on. The cap, 1,000 iterations and 2,000 with a
+ * shelf family, ends a run untested.
+ *
+ * Sizes, for `runs` runs: `simplexes` runs * w * w, `iterations` and `stopped` runs, `ready` 2 (window_end + 2), and with a shelf family
+ * `table` window_end + 1 entries; each may have more. An answer is the number of runs. Then what lies behind the last run stays as it was,
+ * the front of `ready` holds what fog_prepare_window writes, and with a shelf family the first window_end + 1 entries of `table` hold
+ * anything; what lies behind them stays as it was, and with a plain family all of `table`.
+ */
+
+/*
+ * Makes a run of each start: its simplex is the start and, for each number of it in turn, the start with 0.5 added to that number; it has
+ * made 0 iterations, and nothing has stopped it. `starts` is what fog_fit_starts wrote, or any other lists, one behind the other: the
+ * number of runs is starts_length over the list's length, and may be 0.
+ *
+ * The bins, the scale, the window end, the peak and the families are as in fog_cost. Refusals 1, 2 (also more than 65,535 starts), 4, 5, 6,
+ * 7 (starts_length is not a multiple of the list's length) and 10.
+ */
+fog_written fog_begin_searches(const uint32_t *bins, size_t bins_length, double scale, size_t window_end, size_t peak, uint8_t error,
+                               uint8_t genome, const double *starts, size_t starts_length, double *simplexes, size_t simplexes_length,
+                               uint64_t *iterations, size_t iterations_length, bool *stopped, size_t stopped_length, double *ready,
+                               size_t ready_length, double *table, size_t table_length);
+
+/*
+ * Each of the first `runs` runs goes on for at most `limit` turns. A turn is the test, and an iteration where it does not stop the run. A
+ * run that has stopped or has come to its cap stays as it is, so a limit of 2,000 or more ends every run. A call with the limit n and then
+ * one with m leave in `simplexes`, `iterations` and `stopped` what one call with n + m leaves, bit for bit.
+ *
+ * The bins, the scale, the window end, the peak and the families are those that the runs were begun with: no number tells of others. The
+ * costs in `simplexes` are taken as they stand there. Refusals 1, 2 (also more than 65,535 runs), 4, 5, 6 and 10.
+ */
+fog_written fog_run_searches(const uint32_t *bins, size_t bins_length, double scale, size_t window_end, size_t peak, uint8_t error,
+                             uint8_t genome, size_t runs, uint64_t limit, double *simplexes, size_t simplexes_length, uint64_t *iterations,
+                             size_t iterations_length, bool *stopped, size_t stopped_length, double *ready, size_t ready_length,
+                             double *table, size_t table_length);
+
+/*
+ * What each of the first `runs` runs has come to, in five arrays of `runs` entries; each may have more, which stay as they were. For run i
+ *
+ *   converged   whether the test has stopped it, and its cost is finite and above 0
+ *   costs       the least cost in its simplex
+ *   places      where the list with that cost starts in `simplexes`: the earlier row on ties
+ *   lengths     the length of that list
+ *   caps        whether the cap has ended it: its iterations are as many, and the test has not stopped it
+ *
+ * A run that is still to go on has neither converged nor come to its cap. With `iterations` as the sixth array, and `simplexes` as `lists`,
+ * these go into fog_attempt_from_numbers as they are; hand it `runs` as the length of each of the six. The answer is the number of runs.
+ * Refusals 2 (more than 65,535 runs) and 10 (`simplexes` is shorter than runs * w * w, or another array than `runs`).
+ */
+fog_written fog_report_searches(uint8_t error, uint8_t genome, size_t runs, const double *simplexes, size_t simplexes_length,
+                                const uint64_t *iterations, size_t iterations_length, const bool *stopped, size_t stopped_length,
+                                bool *converged, size_t converged_length, double *costs, size_t costs_length, size_t *places,
+                                size_t places_length, size_t *lengths, size_t lengths_length, bool *caps, size_t caps_length);
 
 /* ---- which fit is used */
 

@@ -5,3 +5,4 @@ pub mod FlatFile
 pub mod FlatAttempts
 pub mod FlatTables
 pub mod FlatSetups
+pub mod FlatSearches

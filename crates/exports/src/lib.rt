@@ -12,6 +12,7 @@ pub mod masses;
 pub mod readers;
 pub mod run_slices;
 pub mod run_tables;
+pub mod searches;
 pub mod shelf;
 pub mod spectra;
 pub mod starts;

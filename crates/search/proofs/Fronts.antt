@@ -30,7 +30,7 @@ list-at f (suc n) zero d h = refl
 list-at f (suc n) (suc i) d h = list-at (λ (k : ℕ). f (suc k)) n i d (le-of-suc-le-suc h)
 
 module _ {A : Type 0} (xs b : List A) (d : A) where
-  over-front : (i : ℕ) → i < length xs → getD (over xs b) i d ≡ getD xs i d
+  pub over-front : (i : ℕ) → i < length xs → getD (over xs b) i d ≡ getD xs i d
   unfolding over
   over-front i h = List·getD-append xs (drop (length xs) b) d i h
 

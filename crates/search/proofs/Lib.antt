@@ -32,8 +32,11 @@ pub mod ReadyPrices
 -- ---- many runs
 pub mod Searched
 pub mod Begun
+pub mod Slices
 -- ---- the report
 pub mod Reported
 pub mod ShortOnes
 pub mod ReportSaid
 pub mod BestLists
+pub mod Reports
+pub mod Leasts

@@ -1,0 +1,98 @@
+-- `exports::searches::fog_run_searches` meets its contract: what `run_searches` says, at the problem that C's numbers make. Assumes
+-- nothing.
+use borrow.Author.Needs.{needs}
+use Prim.Native.Nat.{ℕ}
+use mathlib.Core.Path.{_≡_, subst, _∙_}
+use mathlib.Core.List.{List}
+use lib.ListN.{length, drop}
+use lib.Ieee.{Float}
+use Rattle.meaning.specs.Lent.{onGive}
+use Rattle.meaning.specs.Reply.{Reply}
+use Rattle.search.specs.Prices.{priceOf, capOf, widthOf}
+use Rattle.search.specs.Searches.{simplexesAfter, iterationsAfter, stoppedAfter, lentOf, runSearchesOf, stoodFrom, readyAfter}
+use Rattle.search.specs.declared.prices.Problem.{Problem}
+use Rattle.exports.specs.Flat.{sayWritten}
+use Rattle.exports.proofs.searches.fog_run_searches.Statement.{statement}
+use Rattle.exports.proofs.searches.fog_run_searches.Tie as tie
+
+problem-of-requires : tie.Need-problem-of-requires
+problem-of-requires c κs = search needs
+
+run-searches-requires : tie.Need-run-searches-requires
+run-searches-requires c κs = search needs
+
+flat-written-requires : tie.Need-flat-written-requires
+flat-written-requires c κs = search needs
+
+same-length : tie.Need-same-length
+same-length c = search needs
+
+same-length-2 : tie.Need-same-length-2
+same-length-2 c = search needs
+
+same-length-3 : tie.Need-same-length-3
+same-length-3 c = search needs
+
+same-length-4 : tie.Need-same-length-4
+same-length-4 c = search needs
+
+same-length-5 : tie.Need-same-length-5
+same-length-5 c = search needs
+
+-- what stands in the shelf's table, at a problem and at another that is the same
+stands : (answer : Problem → Reply ℕ) (p q : Problem) (before after : List Float) → p ≡ q
+    → drop (stoodFrom p (answer p)) after ≡ drop (stoodFrom p (answer p)) before
+    → drop (stoodFrom q (answer q)) after ≡ drop (stoodFrom q (answer q)) before
+stands answer p q before after e h =
+    subst (λ (x : Problem). drop (stoodFrom x (answer x)) after ≡ drop (stoodFrom x (answer x)) before) e h
+
+abbrev called : tie.After-flat-written → tie.After-run-searches
+called c = c .before .before .before .before .before .before .before .before .before .before .before
+
+abbrev made : tie.After-flat-written → tie.After-problem-of
+made c = called c .before .before .before .before .before .before
+
+abbrev start : tie.After-flat-written → tie.Start
+start c = made c .before .before .before .before .before .before .before
+
+returns : tie.Need-returns
+returns c =
+    let said = called c .run-searches .ensures in
+    let e = made c .problem-of .ensures in
+    let a = start c .args in
+    let B = a .bins .now in
+    let X = a .simplexes .now in
+    let I = a .iterations .now in
+    let S = a .stopped .now in
+    let R = a .ready .now in
+    let T = a .table .now in
+    let w = said .0 ∙ (λ j. runSearchesOf B (e j) (a .runs) (lentOf X I S R T)) in (
+      c .flat-written .ensures ∙ (λ j. sayWritten (w j)),
+      (
+        said .1 .0 ∙ (λ j. onGive (runSearchesOf B (e j) (a .runs) (lentOf X I S R T)) (simplexesAfter (widthOf (e j)) X I S (a .runs) (priceOf B (e j) (length T)) (capOf (e j .genome)) (a .limit)) X),
+        (
+          said .1 .1 .0 ∙ (λ j. onGive (runSearchesOf B (e j) (a .runs) (lentOf X I S R T)) (iterationsAfter (widthOf (e j)) X I S (a .runs) (priceOf B (e j) (length T)) (capOf (e j .genome)) (a .limit)) I),
+          (
+            said .1 .1 .1 .0 ∙ (λ j. onGive (runSearchesOf B (e j) (a .runs) (lentOf X I S R T)) (stoppedAfter (widthOf (e j)) X I S (a .runs) (priceOf B (e j) (length T)) (capOf (e j .genome)) (a .limit)) S),
+            (
+              said .1 .1 .1 .1 .0 ∙ (λ j. readyAfter (e j) (runSearchesOf B (e j) (a .runs) (lentOf X I S R T)) R),
+              stands (λ (x : Problem). runSearchesOf B x (a .runs) (lentOf X I S R T)) _ _ T _ e (said .1 .1 .1 .1 .1),
+            ),
+          ),
+        ),
+      ),
+    )
+
+pub fog-run-searches-spec : {M : Type 1} → statement M
+fog-run-searches-spec =
+    tie.close
+    (tie.spec
+    problem-of-requires
+    run-searches-requires
+    flat-written-requires
+    same-length
+    same-length-2
+    same-length-3
+    same-length-4
+    same-length-5
+    returns)
