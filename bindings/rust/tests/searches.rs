@@ -57,7 +57,7 @@ fn main() -> Result<(), Refusal> {
     ];
     let fit = select_fit(&attempts).expect("one is valid");
     assert_eq!((fit.error_model, fit.shelf), (ErrorModel::SingletonPareto, None));
-    assert_eq!((fit.mean * 10.0).round(), 104.0);
+    assert_eq!((fit.mean * 10.0).round(), 106.0);
 
     // Three cutoffs: at most 100 of the genome's k-mers lost, single copies above errors, errors below the single-copy peak.
     assert_eq!(fit.hole_cutoff_sure(100.0)?, SureCutoff::Sure(Some(3)));
