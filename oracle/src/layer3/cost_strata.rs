@@ -149,11 +149,13 @@ fn round_trip(p: &Problem) -> f64 {
     (params.mean - (params.dispersion - 1.0) - params.target_mode).abs()
 }
 
-/// Both lobes inside the window but for what no double can tell.
+/// Both lobes inside the window but for what no double can tell; drawn again where no mass is above 1, which is most often so.
 fn whole_lobes(d: &mut Draw) -> Problem {
-    let mut p = middling(d, 3, -30.0, -2.0);
-    p.peak = 50 + d.below(10);
-    p
+    let mut draw = || {
+        let peak = 50 + d.below(10);
+        middling(d, 3, -30.0, -2.0).then(|p| p.peak = peak)
+    };
+    (0..7).map(|_| draw()).find(above_one).unwrap_or_else(draw)
 }
 
 /// The log of a mass above 0 by rounding.
@@ -172,7 +174,7 @@ fn beside_limits(of: For) -> Vec<Own> {
         of.own(
             "round trip of 0.25 to 0.5",
             5_000,
-            |d| middling(d, 3, 35.4, 37.4),
+            |d| middling(d, 3, 36.1, 36.7),
             move |p| told(p) && round_trip(p) > 0.25 && round_trip(p) < 0.5,
         )
         .long(),
