@@ -1,21 +1,10 @@
--- Floats by their bits: which patterns are a NaN's, and that one pattern has one value. Assumes nothing.
-use Prim.Native.Nat.{ℕ, _*_, _%_, _^_, _<_}
-use mathlib.Core.Path.{_≡_, refl, sym, ap, _∙_, subst}
-use mathlib.Core.Bool.{Bool, true, false, false≢true}
-use borrow.Author.Tests.{lt-ltb}
+-- Floats by their bits: NaNs are one value, and one pattern has one value. Assumes nothing.
+use mathlib.Core.Path.{_≡_, sym, ap, _∙_, subst}
+use mathlib.Core.Bool.{Bool, true}
 use lib.Dec.{T}
-use lib.Ieee.{Float, nan, inf, fin, binary64, isNan, ofBits, toBits, fits, ne}
+use lib.Ieee.{Float, binary64, ofBits, toBits, fits, ne}
 use lib.Ieee.Compare.{differs-from-itself}
-use lib.Ieee.Bits.{ofBits-toBits, nanBits-is, nanBits-above}
-
-nan-only : (x : Float) → isNan x ≡ true → nan ≡ x
-unfolding isNan
-nan-only nan h = refl
-nan-only (inf s) h = absurd (false≢true h)
-nan-only (fin s m e) h = absurd (false≢true h)
-
-pub above-is-nan : (n : ℕ) → 2047 * 2 ^ 52 < n % 2 ^ 63 → nan ≡ ofBits binary64 n
-above-is-nan n h = nan-only (ofBits binary64 n) (sym (nanBits-is binary64 n) ∙ nanBits-above binary64 n ∙ lt-ltb (2047 * 2 ^ 52) (n % 2 ^ 63) h)
+use lib.Ieee.Bits.{ofBits-toBits}
 
 -- what `x != x` found
 pub both-nan : (x y : Float) → ne x x ≡ true → ne y y ≡ true → x ≡ y

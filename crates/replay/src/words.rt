@@ -3,6 +3,7 @@ ghost use Prim.Native.Nat.{_≤_};
 ghost use mathlib.Core.Path.{_≡_};
 ghost use mathlib.Core.Bool.{true};
 ghost use lib.Ieee.{binary64, ofBits};
+use templates::floats::float;
 
 // The most words that a row has.
 pub(crate) const MOST: usize = 640;
@@ -57,16 +58,6 @@ pub(crate) fn first(words: &[u64], n: usize) -> &[u64] {
 // The same of floats.
 pub(crate) fn first_floats(x: &[f64], n: usize) -> &[f64] {
     if n < x.len() { &x[..n] } else { x }
-}
-
-// The float with these bits: a NaN for each pattern of one.
-pub(crate) fn float(bits: u64) -> f64
-    ensures { λ r. ⌜ r ≡ ofBits binary64 bits ⌝ }
-{
-    if bits % 0x8000_0000_0000_0000 > 0x7ff0_0000_0000_0000 {
-        return 0.0 / 0.0;
-    }
-    f64::from_bits(bits)
 }
 
 // Word i as a float.

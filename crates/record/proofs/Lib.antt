@@ -1,0 +1,5 @@
+-- What the functions' proofs cite, on plain values.
+pub mod Leanings
+pub mod Patterns
+pub mod Rows
+pub mod Windows

@@ -1,0 +1,50 @@
+use Rattle.templates.proofs.Cuts.{joined}
+use Rattle.record.specs.Record.{refusedOf}
+use borrow.Author.Needs.{needs}
+use Rattle.record.proofs.records.write_refused.Statement.{statement}
+use Rattle.record.proofs.records.write_refused.Tie as tie
+use Rattle.record.proofs.records.write_refused.Reads as reads
+use Rattle.record.proofs.records.write_refused.Lts as lts
+use Rattle.record.proofs.heads.put_asked.Reads as put-asked-reads
+use Rattle.record.proofs.heads.put_refusal.Reads as put-refusal-reads
+use Rattle.record.proofs.heads.put_spectrum.Reads as put-spectrum-reads
+use Rattle.record.proofs.records.put_last.Reads as put-last-reads
+
+-- src/records.rt:211:9
+put-asked-requires : tie.Need-put-asked-requires
+put-asked-requires c κs = search needs
+
+-- src/records.rt:212:9
+put-spectrum-requires : tie.Need-put-spectrum-requires
+put-spectrum-requires c κs = search needs
+
+-- src/records.rt:213:9
+put-refusal-requires : tie.Need-put-refusal-requires
+put-refusal-requires c κs = search needs
+
+-- src/records.rt:214:5
+put-last-requires : tie.Need-put-last-requires
+put-last-requires c κs = search needs
+
+-- src/records.rt:207:1
+same-length : tie.Need-same-length
+same-length c = search needs
+
+-- src/records.rt:207:1
+returns : tie.Need-returns
+unfolding refusedOf
+returns c =
+    joined _ _ _ _ _ _ _ _ (c .before .before .before .before .before .before .before .before .before .before .before .before .before .before .put-asked .ensures)
+    (joined _ _ _ _ _ _ _ _ (c .before .before .before .before .before .before .before .before .before .before .put-spectrum .ensures)
+    (joined _ _ _ _ _ _ _ _ (c .before .before .before .before .before .before .put-refusal .ensures) (c .before .before .put-last .ensures)))
+
+pub write-refused-spec : {M : Type 1} → statement M
+write-refused-spec =
+    tie.close
+    (tie.spec
+    put-asked-requires
+    put-spectrum-requires
+    put-refusal-requires
+    put-last-requires
+    same-length
+    returns)
