@@ -1,9 +1,9 @@
 -- Words and what they are read as, computed. Assumes nothing.
 use Prim.Native.Nat.{ℕ}
-use mathlib.Core.Path.{_≡_, refl}
-use mathlib.Core.List.{List, [], _∷_}
+use mathlib.Core.Path.{refl}
+use mathlib.Core.List.{[], _∷_}
 use mathlib.Core.Option.{Option, none, some}
-use lib.Ieee.{Float, binary64, ofBits, ofInt, div, round}
+use lib.Ieee.{Float, binary64, ofBits, ofInt, div}
 use Rattle.listing.specs.Listing.{ascii}
 use Rattle.arguments.specs.Numbers.{before, behind, allDigits, quotientOf, readDecimalOf, readWholeOf}
 use Rattle.arguments.specs.Claims.{Rows}

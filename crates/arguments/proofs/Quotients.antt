@@ -1,9 +1,9 @@
 -- A decimal's quotient: its tests in two parts, and that it is rounded once. Assumes nothing.
-use Prim.Native.Nat.{ℕ, _+_, _^_, _≤_, _<_}
+use Prim.Native.Nat.{ℕ, _+_, _^_, _≤_}
 use mathlib.Core.Path.{_≡_, refl, sym, ap, _∙_}
 use mathlib.Core.Bool.{Bool, true, false, cond, _&&_}
 use mathlib.Core.List.{List, _++_}
-use mathlib.Core.Option.{Option, none, some}
+use mathlib.Core.Option.{none, some}
 use native.Mathlib.Nat.{one-le-pow, zero-lt-suc}
 use native.Mathlib.Omega.{arith}
 use lib.Dec.{leb}
@@ -24,7 +24,8 @@ number-is bytes e =
     record { digits = are-digits bytes (t .1); one = leb-true 1 _ (n .0); most = leb-true _ 15 (n .1) }
 
 pub is-number : (bytes : List ℕ) → Number bytes → isNumber bytes ≡ true
-is-number bytes n = rw (le-leb 1 (length bytes) (n .one), le-leb (length bytes) 15 (n .most)) (digits-are bytes (n .digits))
+is-number bytes n =
+    rw (le-leb 1 (length bytes) (n .one), le-leb (length bytes) 15 (n .most)) (digits-are bytes (n .digits))
 
 -- what is given behind a test
 pub given : {A : Type 0} (t : Bool) (y x : A) → cond t (some y) none ≡ some x → (t ≡ true) × (y ≡ x)
@@ -38,8 +39,8 @@ module _ (a b : List ℕ) where
       → isNumber (a ++ b) ≡ (f && (d && e))
   joined p q r = rw (length-append a b, digits-join a b) (λ i. p i && (q i && r i))
 
-  pub refused : {f d e : Bool} → few (length a + length b) ≡ f → allDigits a ≡ d → allDigits b ≡ e → (f && (d && e)) ≡ false
-      → quotientOf a b ≡ none
+  pub refused : {f d e : Bool} → few (length a + length b) ≡ f → allDigits a ≡ d → allDigits b ≡ e
+      → (f && (d && e)) ≡ false → quotientOf a b ≡ none
   unfolding quotientOf
   refused p q r h = rw (joined p q r ∙ h)
 
@@ -52,12 +53,14 @@ module _ (a b : List ℕ) where
     quotient-is = rw (is-number (a ++ b) n)
 
     -- both counts are exact, so the quotient is rounded once
-    once : ofCount (valueOf 0 (a ++ b)) ⊘ ofCount (10 ^ length b) ≡ round binary64 false (valueOf 0 (a ++ b)) (10 ^ length b)
+    once : ofCount (valueOf 0 (a ++ b)) ⊘ ofCount (10 ^ length b)
+        ≡ round binary64 false (valueOf 0 (a ++ b)) (10 ^ length b)
     once =
         let v = value-small (a ++ b) (n .digits) (n .most) in
         let l : length a + length b ≤ 15 = rw length-append at (n .most) in
         let p = power-small (length b) 15 (omega arith) in
-        count-over (valueOf 0 (a ++ b)) (10 ^ length b) (omega arith) (one-le-pow (length b) 10 (zero-lt-suc 9)) (omega arith)
+        let one = one-le-pow (length b) 10 (zero-lt-suc 9) in
+        count-over (valueOf 0 (a ++ b)) (10 ^ length b) (omega arith) one (omega arith)
 
     pub rounded : quotientOf a b ≡ some (round binary64 false (valueOf 0 (a ++ b)) (10 ^ length b))
     rounded = quotient-is ∙ ap some once

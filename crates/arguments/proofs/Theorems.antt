@@ -1,18 +1,17 @@
 -- THE NUMBERS OF A COMMAND LINE. Assumes nothing.
-use Prim.Native.Nat.{ℕ, suc, _+_, _^_, _≤_, _<_}
-use mathlib.Core.Path.{_≡_, refl, sym, ap, _∙_, subst}
+use Prim.Native.Nat.{ℕ, _^_, _≤_, _<_}
+use mathlib.Core.Path.{_≡_, ap, _∙_}
 use mathlib.Core.Logic.{_⊎_, inl, inr, ⊎-elim}
-use mathlib.Core.Bool.{Bool, true, false, cond}
+use mathlib.Core.Bool.{false}
 use mathlib.Core.List.{List, [], _∷_, _++_, append-nil}
-use mathlib.Core.Option.{none, some}
-use native.Mathlib.Omega.{arith}
+use mathlib.Core.Option.{some}
 use lib.ListN.{length}
 use lib.Ieee.{Float, binary64, round}
 use Rattle.histogram.proofs.Tests.{below-or}
-use Rattle.listing.specs.Decimal.{decimalOf, valueOf, Digits}
+use Rattle.listing.specs.Decimal.{decimalOf, valueOf}
 use Rattle.listing.proofs.Decimals as listing
 use Rattle.listing.proofs.Theorems as listed
-use Rattle.arguments.specs.Numbers.{point, before, behind, isNumber, quotientOf, readDecimalOf, readWholeOf}
+use Rattle.arguments.specs.Numbers.{point, before, behind, isNumber, readDecimalOf, readWholeOf}
 use Rattle.arguments.specs.Claims.{Number, Pointed}
 use Rattle.arguments.proofs.Words.{pointed, plain, behind-digits}
 use Rattle.arguments.proofs.Values.{digits-front}

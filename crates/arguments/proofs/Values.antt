@@ -1,5 +1,5 @@
 -- Digits and their value: byte by byte, in two parts, and how large it is. Assumes nothing.
-use Prim.Native.Nat.{ℕ, zero, suc, _+_, _*_, _-_, _^_, _≤_, _<_}
+use Prim.Native.Nat.{ℕ, suc, _+_, _*_, _-_, _^_, _≤_, _<_}
 use mathlib.Core.Path.{_≡_, refl, sym, ap, _∙_, subst}
 use mathlib.Core.Bool.{Bool, true, false, _&&_, true≢false, and-assoc}
 use mathlib.Core.List.{List, [], _∷_, _++_}
@@ -45,7 +45,8 @@ value-end word k v h = rw (drop-of-length-le word h)
 pub digits-join : (a b : List ℕ) → allDigits (a ++ b) ≡ (allDigits a && allDigits b)
 unfolding allDigits
 digits-join [] b = refl
-digits-join (x ∷ a) b = ap (λ (t : Bool). isDigit x && t) (digits-join a b) ∙ sym (and-assoc (isDigit x) (allDigits a) (allDigits b))
+digits-join (x ∷ a) b =
+    ap (λ (t : Bool). isDigit x && t) (digits-join a b) ∙ sym (and-assoc (isDigit x) (allDigits a) (allDigits b))
 
 pub value-join : (v : ℕ) (a b : List ℕ) → valueOf v (a ++ b) ≡ valueOf (valueOf v a) b
 value-join v [] b = refl
@@ -84,7 +85,8 @@ value-below j v [] a h = rw (zero-plus j) h
     zero-plus n = omega arith
 value-below j v (d ∷ ds) a h =
     let e : length ds + suc j ≡ suc (length ds) + j = omega arith in
-    subst (λ (n : ℕ). valueOf (v * 10 + (d - 48)) ds < 10 ^ n) e (value-below (suc j) (v * 10 + (d - 48)) ds (a .2) (rw pow-suc (next (10 ^ j) (a .1) h)))
+    subst (λ (n : ℕ). valueOf (v * 10 + (d - 48)) ds < 10 ^ n) e
+    (value-below (suc j) (v * 10 + (d - 48)) ds (a .2) (rw pow-suc (next (10 ^ j) (a .1) h)))
   where
     next : (p : ℕ) → d ≤ 57 → v < p → v * 10 + (d - 48) < p * 10
     next p l g = omega arith

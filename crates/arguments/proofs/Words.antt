@@ -17,7 +17,8 @@ module _ (word : List ℕ) (k : ℕ) where
   unfolding before
   found h e = rw (drop-cons word k 0 h, eq-eqb (getD word k 0) point e)
 
-  pub passed : k < length word → (getD word k 0 ≡ point → ⊥) → before (drop k word) ≡ getD word k 0 ∷ before (drop (suc k) word)
+  pub passed : k < length word → (getD word k 0 ≡ point → ⊥)
+      → before (drop k word) ≡ getD word k 0 ∷ before (drop (suc k) word)
   unfolding before
   passed h n = rw (drop-cons word k 0 h, ne-eqb (getD word k 0) point n)
 

@@ -22,4 +22,5 @@ pub record Pointed (word : List ℕ) : Type 0 where
 
 -- each word of a table is read as the table says
 abbrev pub Rows : {A : Type 0} → (List ℕ → Option A) → List (List ℕ × Option A) → Type 0
-Rows {A} read rows = map (λ (row : List ℕ × Option A). read (row .0)) rows ≡ map (λ (row : List ℕ × Option A). row .1) rows
+Rows {A} read rows =
+    map (λ (row : List ℕ × Option A). read (row .0)) rows ≡ map (λ (row : List ℕ × Option A). row .1) rows

@@ -5,7 +5,8 @@ ghost use mathlib.Core.Bool.{true};
 ghost use Prim.Native.Nat.{_+_, _^_, _≤_, _<_};
 ghost use lib.ListN.{length};
 ghost use Rattle.listing.specs.Decimal.{valueOf};
-ghost use Rattle.arguments.specs.Numbers.{before, isDigit, allDigits, few, quotientOf, readDecimalOf, readWholeOf};
+ghost use Rattle.arguments.specs.Numbers.{before, isDigit, allDigits, few};
+ghost use Rattle.arguments.specs.Numbers.{quotientOf, readDecimalOf, readWholeOf};
 ghost use Rattle.arguments.specs.Answers.{decimalSays, wholeSays};
 use routines::casts::from_u64;
 

@@ -42,7 +42,7 @@ is-digit-requires : tie.Need-is-digit-requires Inv-loop μ-loop
 is-digit-requires c κs = search needs
 
 returns : tie.Need-returns Inv-loop μ-loop
-returns c = sym (turn (c .before) (not-true (c .before .is-digit .result) (c .if1 .taken)))
+returns c = sym (turn (c .before) (not-true _ (c .if1 .taken)))
 
 add-k : tie.Need-add-k Inv-loop μ-loop
 add-k c = search needs
@@ -51,11 +51,26 @@ loop-less : tie.Need-loop-less Inv-loop μ-loop
 loop-less c = search needs
 
 loop-again : tie.Need-loop-again Inv-loop μ-loop
-loop-again c = let l = c .before .before .before .before in (omega arith, rw (add-one (l .loop .k)) (turn (c .before) (not-false (c .before .is-digit .result) (c .if1 .left))))
+loop-again c =
+    let l = c .before .before .before .before in
+    (omega arith, rw (add-one (l .loop .k)) (turn (c .before) (not-false _ (c .if1 .left))))
 
 returns-2 : tie.Need-returns-2 Inv-loop μ-loop
-returns-2 c = let l = c .before in sym (l .loop .inv .1 ∙ digits-end (l .before .before .args .word .now) (l .loop .k) (c .loop-test .left))
+returns-2 c =
+    let l = c .before in
+    sym (l .loop .inv .1 ∙ digits-end (l .before .before .args .word .now) (l .loop .k) (c .loop-test .left))
 
 pub all-digits-spec : {M : Type 1} → statement M
 all-digits-spec =
-    tie.close (tie.spec Inv-loop μ-loop loop-holds shared-slice-read-is-digit is-digit-requires returns add-k loop-less loop-again returns-2)
+    tie.close
+    (tie.spec
+    Inv-loop
+    μ-loop
+    loop-holds
+    shared-slice-read-is-digit
+    is-digit-requires
+    returns
+    add-k
+    loop-less
+    loop-again
+    returns-2)

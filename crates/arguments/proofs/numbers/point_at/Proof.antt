@@ -25,8 +25,10 @@ shared-slice-read-if1 c = search needs
 
 returns : tie.Need-returns Inv-loop μ-loop
 returns c =
-    let l = c .before .before .before in
-    omega (arith, ap length (found (l .before .args .word .now) (l .loop .k) (c .before .before .loop-test .taken) (c .if1 .taken)))
+    let i = c .before .before in
+    let l = i .before in
+    let e = ap length (found (l .before .args .word .now) (l .loop .k) (i .loop-test .taken) (c .if1 .taken)) in
+    omega arith
 
 add-k : tie.Need-add-k Inv-loop μ-loop
 add-k c = search needs
@@ -36,12 +38,18 @@ loop-less c = search needs
 
 loop-again : tie.Need-loop-again Inv-loop μ-loop
 loop-again c =
-    let l = c .before .before .before in
-    let e = ap length (passed (l .before .args .word .now) (l .loop .k) (c .before .before .loop-test .taken) (c .if1 .left)) in
+    let i = c .before .before in
+    let l = i .before in
+    let e = ap length (passed (l .before .args .word .now) (l .loop .k) (i .loop-test .taken) (c .if1 .left)) in
     (omega arith, rw (add-one (l .loop .k)) (omega arith))
 
 returns-2 : tie.Need-returns-2 Inv-loop μ-loop
-returns-2 c = let l = c .before in omega (arith, ap length (not-found (l .before .args .word .now) (l .loop .k) (c .loop-test .left)))
+returns-2 c =
+    let l = c .before in
+    let e = ap length (not-found (l .before .args .word .now) (l .loop .k) (c .loop-test .left)) in
+    omega arith
 
 pub point-at-spec : {M : Type 1} → statement M
-point-at-spec = tie.close (tie.spec Inv-loop μ-loop loop-holds shared-slice-read-if1 returns add-k loop-less loop-again returns-2)
+point-at-spec =
+    tie.close
+    (tie.spec Inv-loop μ-loop loop-holds shared-slice-read-if1 returns add-k loop-less loop-again returns-2)

@@ -28,7 +28,10 @@ loop-less : tie.Need-loop-less Inv-loop μ-loop
 loop-less c = search needs
 
 loop-again : tie.Need-loop-again Inv-loop μ-loop
-loop-again c = let l = c .before in let p = pow-suc 10 (l .loop .k) in (omega arith, rw (add-one (l .loop .k)) (omega arith))
+loop-again c =
+    let l = c .before in
+    let p = pow-suc 10 (l .loop .k) in
+    (omega arith, rw (add-one (l .loop .k)) (omega arith))
 
 returns : tie.Need-returns Inv-loop μ-loop
 returns c = let l = c .before in l .loop .inv .1 ∙ ap (λ k. 10 ^ k) (omega arith)

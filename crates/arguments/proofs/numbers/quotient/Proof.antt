@@ -1,13 +1,12 @@
 -- `arguments::numbers::quotient` meets its contract. Assumes nothing.
-use Prim.Native.Nat.{ℕ, _+_, _^_, _≤_, _<_}
-use mathlib.Core.Path.{_≡_, refl, sym, ap, _∙_}
-use mathlib.Core.Bool.{true, false}
+use Prim.Native.Nat.{ℕ, _+_, _≤_}
+use mathlib.Core.Path.{_≡_, refl, sym, _∙_}
+use mathlib.Core.Bool.{true}
 use mathlib.Core.List.{List, _++_}
 use native.Mathlib.Omega.{arith}
 use lib.ListN.{length, length-append}
 use borrow.Author.Needs.{needs}
 use borrow.Author.Tests.{not-true, not-false}
-use Rattle.listing.specs.Decimal.{valueOf}
 use Rattle.arguments.specs.Numbers.{few, allDigits}
 use Rattle.arguments.specs.Claims.{Number}
 use Rattle.arguments.proofs.Values.{digits-front, value-join, value-small}
@@ -26,13 +25,13 @@ abbrev first : tie.Else2 → tie.After-is-few
 first c = c .before .before .before
 
 few-enough : (c : tie.Else1) → few (length (whole (c .before)) + length (places (c .before))) ≡ true
-few-enough c = let f = c .before in sym (f .is-few .ensures) ∙ not-false (f .is-few .result) (c .if1 .left)
+few-enough c = let f = c .before in sym (f .is-few .ensures) ∙ not-false _ (c .if1 .left)
 
 in-front : (c : tie.Else2) → allDigits (whole (first c)) ≡ true
-in-front c = let d = c .before in sym (d .all-digits .ensures) ∙ not-false (d .all-digits .result) (c .if2 .left)
+in-front c = let d = c .before in sym (d .all-digits .ensures) ∙ not-false _ (c .if2 .left)
 
 behind : (c : tie.Else3) → allDigits (places (first (c .before .before))) ≡ true
-behind c = let d = c .before in sym (d .all-digits2 .ensures) ∙ not-false (d .all-digits2 .result) (c .if3 .left)
+behind c = let d = c .before in sym (d .all-digits2 .ensures) ∙ not-false _ (c .if3 .left)
 
 number : (c : tie.Else3) → (let f = first (c .before .before) in Number (whole f ++ places f))
 number c =
@@ -52,7 +51,8 @@ is-few-requires c κs = search needs
 returns : tie.Need-returns
 returns c =
     let f = c .before in
-    sym (refused (whole f) (places f) (sym (f .is-few .ensures) ∙ not-true (f .is-few .result) (c .if1 .taken)) refl refl refl)
+    let no = sym (f .is-few .ensures) ∙ not-true _ (c .if1 .taken) in
+    sym (refused (whole f) (places f) no refl refl refl)
 
 all-digits-requires : tie.Need-all-digits-requires
 all-digits-requires c κs = search needs
@@ -61,7 +61,7 @@ returns-2 : tie.Need-returns-2
 returns-2 c =
     let d = c .before in
     let f = d .before .before in
-    let no : allDigits (whole f) ≡ false = sym (d .all-digits .ensures) ∙ not-true (d .all-digits .result) (c .if2 .taken) in
+    let no = sym (d .all-digits .ensures) ∙ not-true _ (c .if2 .taken) in
     sym (refused (whole f) (places f) (few-enough (d .before)) no refl refl)
 
 all-digits-requires-2 : tie.Need-all-digits-requires-2
@@ -72,7 +72,7 @@ returns-3 c =
     let d = c .before in
     let e = d .before in
     let f = first e in
-    let no : allDigits (places f) ≡ false = sym (d .all-digits2 .ensures) ∙ not-true (d .all-digits2 .result) (c .if3 .taken) in
+    let no = sym (d .all-digits2 .ensures) ∙ not-true _ (c .if3 .taken) in
     sym (refused (whole f) (places f) (few-enough (e .before .before)) (in-front e) no refl)
 
 value-of-requires : tie.Need-value-of-requires
@@ -87,7 +87,8 @@ value-of-requires-2 c κs =
     let e = c .before in
     let f = first (e .before .before) in
     let n = number e in
-    (behind e, rw (c .value-of .ensures, ← value-join 0 (whole f) (places f)) (value-small (whole f ++ places f) (n .digits) (n .most)))
+    let v = value-small (whole f ++ places f) (n .digits) (n .most) in
+    (behind e, rw (c .value-of .ensures, ← value-join 0 (whole f) (places f)) v)
 
 from-u64-requires : tie.Need-from-u64-requires
 from-u64-requires c κs = search needs

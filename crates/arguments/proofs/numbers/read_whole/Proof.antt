@@ -1,6 +1,6 @@
 -- `arguments::numbers::read_whole` meets its contract. Assumes nothing.
-use mathlib.Core.Path.{_≡_, refl, sym, ap, _∙_}
-use mathlib.Core.Bool.{true, false, _&&_}
+use mathlib.Core.Path.{_≡_, sym, ap, _∙_}
+use mathlib.Core.Bool.{true, _&&_}
 use mathlib.Core.List.{List}
 use mathlib.Core.Option.{some}
 use Prim.Native.Nat.{ℕ}
@@ -19,10 +19,10 @@ word c = c .before .before .args .word .now
 
 -- what the tests let pass
 few-enough : (c : tie.Else1) → few (length (word (c .before))) ≡ true
-few-enough c = let f = c .before in sym (f .is-few .ensures) ∙ not-false (f .is-few .result) (c .if1 .left)
+few-enough c = let f = c .before in sym (f .is-few .ensures) ∙ not-false _ (c .if1 .left)
 
 digits : (c : tie.Else2) → allDigits (word (c .before .before .before)) ≡ true
-digits c = let d = c .before in sym (d .all-digits .ensures) ∙ not-false (d .all-digits .result) (c .if2 .left)
+digits c = let d = c .before in sym (d .all-digits .ensures) ∙ not-false _ (c .if2 .left)
 
 number : (c : tie.Else2) → Number (word (c .before .before .before))
 number c = let e = c .before .before in number-is (word (e .before)) (λ i. few-enough e i && digits c i)
@@ -33,7 +33,7 @@ is-few-requires c κs = search needs
 returns : tie.Need-returns
 returns c =
     let f = c .before in
-    let no : few (length (word f)) ≡ false = sym (f .is-few .ensures) ∙ not-true (f .is-few .result) (c .if1 .taken) in
+    let no = sym (f .is-few .ensures) ∙ not-true _ (c .if1 .taken) in
     sym (not-whole (word f) (λ i. no i && allDigits (word f)))
 
 all-digits-requires : tie.Need-all-digits-requires
@@ -43,11 +43,13 @@ returns-2 : tie.Need-returns-2
 returns-2 c =
     let d = c .before in
     let f = d .before .before in
-    let no : allDigits (word f) ≡ false = sym (d .all-digits .ensures) ∙ not-true (d .all-digits .result) (c .if2 .taken) in
+    let no = sym (d .all-digits .ensures) ∙ not-true _ (c .if2 .taken) in
     sym (not-whole (word f) (λ i. few-enough (d .before) i && no i))
 
 value-of-requires : tie.Need-value-of-requires
-value-of-requires c κs = let n = number c in (digits c, value-small (word (c .before .before .before)) (n .digits) (n .most))
+value-of-requires c κs =
+    let n = number c in
+    (digits c, value-small (word (c .before .before .before)) (n .digits) (n .most))
 
 returns-3 : tie.Need-returns-3
 returns-3 c =

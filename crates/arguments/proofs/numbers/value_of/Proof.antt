@@ -25,11 +25,14 @@ digit : (c : tie.In-loop Inv-loop μ-loop) →
     (let l = c .before in
     let ds = l .before .before .args .digits .now in
     (48 ≤ getD ds (l .loop .k) 0) × (allDigits (drop (suc (l .loop .k)) ds) ≡ true))
-digit c = let l = c .before in digit-here (l .before .before .args .digits .now) (l .loop .k) (c .loop-test .taken) (l .loop .inv .1)
+digit c =
+    let l = c .before in
+    digit-here (l .before .before .args .digits .now) (l .loop .k) (c .loop-test .taken) (l .loop .inv .1)
 
 -- with it the value is no larger than the whole
 bound : (c : tie.In-loop Inv-loop μ-loop) →
-    (let l = c .before in l .loop .value * 10 + (getD (l .before .before .args .digits .now) (l .loop .k) 0 - 48) < 10 ^ 15)
+    (let l = c .before in
+    l .loop .value * 10 + (getD (l .before .before .args .digits .now) (l .loop .k) 0 - 48) < 10 ^ 15)
 bound c =
     let l = c .before in
     let s = l .before .before in
@@ -77,7 +80,10 @@ loop-again c =
     )
 
 returns : tie.Need-returns Inv-loop μ-loop
-returns c = let l = c .before in sym (value-end (l .before .before .args .digits .now) (l .loop .k) (l .loop .value) (c .loop-test .left)) ∙ l .loop .inv .2
+returns c =
+    let l = c .before in
+    let ds = l .before .before .args .digits .now in
+    sym (value-end ds (l .loop .k) (l .loop .value) (c .loop-test .left)) ∙ l .loop .inv .2
 
 pub value-of-spec : {M : Type 1} → statement M
 value-of-spec =
