@@ -1,12 +1,15 @@
 -- `arguments::numbers::quotient` meets its contract. Assumes nothing.
 use Prim.Native.Nat.{ℕ, _+_, _≤_}
-use mathlib.Core.Path.{_≡_, refl, sym, _∙_}
+use mathlib.Core.Path.{_≡_, refl, sym, ap, _∙_}
 use mathlib.Core.Bool.{true}
 use mathlib.Core.List.{List, _++_}
+use mathlib.Core.Option.{some}
 use native.Mathlib.Omega.{arith}
 use lib.ListN.{length, length-append}
 use borrow.Author.Needs.{needs}
 use borrow.Author.Tests.{not-true, not-false}
+use Rattle.routines.specs.Ops.{_⊘_, ofCount}
+use Rattle.listing.specs.Decimal.{valueOf}
 use Rattle.arguments.specs.Numbers.{few, allDigits}
 use Rattle.arguments.specs.Claims.{Number}
 use Rattle.arguments.proofs.Values.{digits-front, value-join, value-small}
@@ -101,9 +104,18 @@ from-u64-requires-2 c κs = search needs
 
 returns-4 : tie.Need-returns-4
 returns-4 c =
-    let e = c .before .before .before .before .before in
+    let p = c .before in
+    let u = p .before in
+    let w = u .before in
+    let v = w .before in
+    let e = v .before in
     let f = first (e .before .before) in
-    cc (quotient-is (whole f) (places f) (number e), value-join 0 (whole f) (places f))
+    let a = whole f in
+    let b = places f in
+    let n = w .value-of2 .ensures ∙ ap (λ (n : ℕ). valueOf n b) (v .value-of .ensures) ∙ sym (value-join 0 a b) in
+    let over = u .from-u64 .ensures ∙ ap ofCount n in
+    let under = c .from-u642 .ensures ∙ ap ofCount (p .power-of-ten .ensures) in
+    (λ i. some (over i ⊘ under i)) ∙ sym (quotient-is a b (number e))
 
 pub quotient-spec : {M : Type 1} → statement M
 quotient-spec =
