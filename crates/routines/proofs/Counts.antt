@@ -1,5 +1,5 @@
--- Whole numbers up to 2 ^ 53 as `f64`: sums, differences, what is left over 1, rounding, the way back and a comparison
--- are those of the numbers. Assumes nothing.
+-- Whole numbers up to 2 ^ 53 as `f64`: sums, differences, quotients, rounding, the way back and a comparison are those
+-- of the numbers. Assumes nothing.
 use mathlib.Core.Path.{_≡_, refl, sym, ap, _∙_}
 use mathlib.Core.Bool.{Bool, true, false, _&&_, true≢false}
 use Prim.Native.Nat.{ℕ, _+_, _*_, _^_, _≤_, _<_}
@@ -95,31 +95,31 @@ module _ (f : Format) where
           let r : y * 1 * p ≡ b * q * p = ap (λ (z : ℕ). z * p) k in
           omega arith
 
-  over-one : (x y : Float) (a : ℕ) → Is x a → Is y 1 → div f x y ≡ round f false a 1
-  over-one nan y a v w = absurd v
-  over-one (inf s) y a v w = absurd v
-  over-one (fin s m e) nan a v w = absurd w
-  over-one (fin s m e) (inf t) a v w = absurd w
-  over-one (fin true m e) (fin t k d) a v w = absurd (true≢false (v .0))
-  over-one (fin false m e) (fin true k d) a v w = absurd (true≢false (w .0))
-  over-one (fin false m e) (fin false k d) a v w =
-      let same : k * up d ≡ down d = flat (k * up d) (down d) (w .1) in
-      opened-quotient m k e d (ne-eqb k 0 (some k (up d) (down d) same (down-pos d)))
-      ∙ ap (λ (z : ℕ). round f false (m * up e * down d) (z * down e)) same
-      ∙ round-same f false _ (down d * down e) a 1 (mul-pos (down-pos d) (down-pos e)) (zero-lt-suc 0)
-      (cross (m * up e) (down e) (down d) a (v .1))
+  quotient-is : (x y : Float) (a b : ℕ) → 0 < b → Is x a → Is y b → div f x y ≡ round f false a b
+  quotient-is nan y a b h v w = absurd v
+  quotient-is (inf s) y a b h v w = absurd v
+  quotient-is (fin s m e) nan a b h v w = absurd w
+  quotient-is (fin s m e) (inf t) a b h v w = absurd w
+  quotient-is (fin true m e) (fin t k d) a b h v w = absurd (true≢false (v .0))
+  quotient-is (fin false m e) (fin true k d) a b h v w = absurd (true≢false (w .0))
+  quotient-is (fin false m e) (fin false k d) a b h v w =
+      let some : 0 < k * up d = above (k * up d) (b * down d) (w .1) (mul-pos h (down-pos d)) in
+      opened-quotient m k e d (ne-eqb k 0 (never k (up d) some))
+      ∙ round-same f false _ (k * up d * down e) a b (mul-pos some (down-pos e)) h
+      (cross (m * up e) (down e) (k * up d) (down d) a b (v .1) (w .1))
     where
-      flat : (y q : ℕ) → y * 1 ≡ 1 * q → y ≡ q
-      flat y q h = omega arith
+      above : (y z : ℕ) → y * 1 ≡ z → 0 < z → 0 < y
+      above y z h p = omega arith
 
-      some : (k u q : ℕ) → k * u ≡ q → 0 < q → k ≡ 0 → ⊥
-      some k u q h p z =
+      never : (k u : ℕ) → 0 < k * u → k ≡ 0 → ⊥
+      never k u h z =
           let none : k * u ≡ 0 * u = ap (λ (n : ℕ). n * u) z in
           omega arith
 
-      cross : (x p q a : ℕ) → x * 1 ≡ a * p → x * q * 1 ≡ a * (q * p)
-      cross x p q a h =
-          let l : x * 1 * q ≡ a * p * q = ap (λ (z : ℕ). z * q) h in
+      cross : (x p y q a b : ℕ) → x * 1 ≡ a * p → y * 1 ≡ b * q → x * q * b ≡ a * (y * p)
+      cross x p y q a b h k =
+          let l : x * 1 * (q * b) ≡ a * p * (q * b) = ap (λ (z : ℕ). z * (q * b)) h in
+          let r : y * 1 * (a * p) ≡ b * q * (a * p) = ap (λ (z : ℕ). z * (a * p)) k in
           omega arith
 
 -- ---- a comparison of whole numbers
@@ -218,5 +218,9 @@ count-back w n h k = unsigned-back binary64 w n (le→leb n (2 ^ 53) h) k .1
 pub count-over-one : (d : Float) (n : ℕ) → eq d one ≡ true → n ≤ 2 ^ 53 → roundOf (ofCount n ⊘ d) ≡ ofCount n
 unfolding ofInt
 count-over-one d n e h =
-    ap roundOf (over-one binary64 (ofCount n) d n (count-is n h) (one-found d e))
+    ap roundOf (quotient-is binary64 (ofCount n) d n 1 (zero-lt-suc 0) (count-is n h) (one-found d e))
     ∙ whole-stays (ofCount n) n (count-is n h)
+
+-- a quotient of counts is rounded once
+pub count-over : (n d : ℕ) → n ≤ 2 ^ 53 → 0 < d → d ≤ 2 ^ 53 → ofCount n ⊘ ofCount d ≡ round binary64 false n d
+count-over n d h p k = quotient-is binary64 (ofCount n) (ofCount d) n d p (count-is n h) (count-is d k)

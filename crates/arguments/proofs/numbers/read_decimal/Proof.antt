@@ -1,0 +1,95 @@
+-- `arguments::numbers::read_decimal` meets its contract. Assumes nothing.
+use Prim.Native.Nat.{ℕ, _+_, _≤_}
+use mathlib.Core.Path.{sym, ap, _∙_}
+use native.Mathlib.Nat.{sub-zero}
+use native.Mathlib.Omega.{arith}
+use lib.ListN.{length, take}
+use lib.Seq.{drop-length}
+use borrow.Author.Needs.{needs}
+use Rattle.arguments.specs.Numbers.{before, quotientOf, readDecimalOf}
+use Rattle.arguments.proofs.Words.{front, back, plain, rest}
+use Rattle.arguments.proofs.numbers.read_decimal.Statement.{statement}
+use Rattle.arguments.proofs.numbers.read_decimal.Tie as tie
+
+point-at-requires : tie.Need-point-at-requires
+point-at-requires c κs = search needs
+
+add-behind : tie.Need-add-behind
+add-behind c = search needs
+
+sub-quotient : tie.Need-sub-quotient
+sub-quotient c = search needs
+
+part-quotient-start : tie.Need-part-quotient-start
+part-quotient-start c = search needs
+
+part-quotient-end : tie.Need-part-quotient-end
+part-quotient-end c = search needs
+
+sub-quotient-2 : tie.Need-sub-quotient-2
+sub-quotient-2 c = search needs
+
+part-quotient-start-2 : tie.Need-part-quotient-start-2
+part-quotient-start-2 c = search needs
+
+part-quotient-end-2 : tie.Need-part-quotient-end-2
+part-quotient-end-2 c = search needs
+
+quotient-requires : tie.Need-quotient-requires
+quotient-requires c κs = search needs
+
+returns : tie.Need-returns
+unfolding readDecimalOf
+returns c =
+    let t = c .before .before .before in
+    let p = t .before in
+    let word = p .before .before .args .word .now in
+    let k = p .point-at .result in
+    let e = p .point-at .ensures in
+    let whole = ap (λ (j : ℕ). take j word) (sub-zero k) ∙ front word k e (t .if1 .taken) in
+    let places = rest word (k + 1) ∙ back word k e (t .if1 .taken) in
+    c .quotient .ensures ∙ (λ i. quotientOf (whole i) (places i))
+
+sub-quotient-3 : tie.Need-sub-quotient-3
+sub-quotient-3 c = search needs
+
+part-quotient-start-3 : tie.Need-part-quotient-start-3
+part-quotient-start-3 c = search needs
+
+part-quotient-end-3 : tie.Need-part-quotient-end-3
+part-quotient-end-3 c = search needs
+
+quotient-requires-2 : tie.Need-quotient-requires-2
+quotient-requires-2 c κs = search needs
+
+returns-2 : tie.Need-returns-2
+unfolding readDecimalOf
+returns-2 c =
+    let l = c .before .before in
+    let p = l .before in
+    let word = p .before .before .args .word .now in
+    let e = p .point-at .ensures in
+    let h : length word ≤ length (before word) = omega arith in
+    let no-point = plain word h in
+    let places = rest word (length word) ∙ drop-length word ∙ sym (no-point .1) in
+    c .quotient2 .ensures ∙ (λ i. quotientOf (sym (no-point .0) i) (places i))
+
+pub read-decimal-spec : {M : Type 1} → statement M
+read-decimal-spec =
+    tie.close
+    (tie.spec
+    point-at-requires
+    add-behind
+    sub-quotient
+    part-quotient-start
+    part-quotient-end
+    sub-quotient-2
+    part-quotient-start-2
+    part-quotient-end-2
+    quotient-requires
+    returns
+    sub-quotient-3
+    part-quotient-start-3
+    part-quotient-end-3
+    quotient-requires-2
+    returns-2)

@@ -1,0 +1,2 @@
+// The words of a command line, from their bytes.
+pub mod numbers;
