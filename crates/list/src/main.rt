@@ -1,6 +1,4 @@
 // Lists the histogram file on standard input: its bins, or the place where it is refused.
-mod input;
-mod output;
 mod status;
 
 ghost use mathlib.Core.Path.{_≡_};
@@ -14,17 +12,17 @@ use histogram::reader::FileRead;
 use histogram::reader::LONGEST_FILE;
 use histogram::reader::MAX_FILE_BINS;
 use histogram::reader::read_histogram;
-use input::Input;
-use input::read_input;
 use libc::STDERR_FILENO;
 use libc::STDOUT_FILENO;
 use listing::text::LONGEST_LISTING;
 use listing::text::list_histogram;
 use listing::text::list_refusal;
 use meaning::answers::Written;
-use output::write_output;
 use status::asks_status;
 use status::tell;
+use streams::input::Input;
+use streams::input::read_input;
+use streams::output::write_output;
 
 // One byte more than the longest accepted file has.
 const ENOUGH: usize = LONGEST_FILE + 1;

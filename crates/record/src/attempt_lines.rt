@@ -94,7 +94,10 @@ pub(crate) fn put_attempt(out: &mut [u8], at: usize, k: u64, a: FitAttempt, budg
         floor.part,
         floor.at,
     ];
-    fill(out, at, b"attempt#.error_model {FreeSingletonWeibull|SingletonPareto}
+    fill(
+        out,
+        at,
+        b"attempt#.error_model {FreeSingletonWeibull|SingletonPareto}
 attempt#.genome_model {NegativeBinomial|ShelfNegativeBinomial}
 attempt#.reason {valid|OptimisationFailed|NonFiniteLikelihood|InvalidComponents|InvalidWindowMass|ComponentMassExceeded|UnstableModeParameterisation|GenomeLobeOutsideFitWindow|ErrorModePastValley|PrimaryModeOutsideBand|RepeatModeTooEarly|PositiveLogLikelihood}
 attempt#.cost {-|~}
@@ -104,5 +107,7 @@ attempt#.capped_starts #
 attempt#.hole {none|#|-}{ sure| unsure: the allowed share is not finite| unsure: a probability is not from 0 to 2| no walk| refused|}
 attempt#.crossover {none|#|-}
 attempt#.error_floor {none|#|-}
-", &values)
+",
+        &values,
+    )
 }

@@ -107,7 +107,10 @@ pub(crate) fn put_fit(out: &mut [u8], at: usize, f: SpectrumFit) -> usize
         pattern(f.observed_total),
         pattern(f.full_distinct_total),
     ];
-    fill(out, at, b"fit.error_model {FreeSingletonWeibull|SingletonPareto}
+    fill(
+        out,
+        at,
+        b"fit.error_model {FreeSingletonWeibull|SingletonPareto}
 fit.genome_model {NegativeBinomial|ShelfNegativeBinomial}
 fit.w_error ~
 fit.w_single ~
@@ -138,5 +141,7 @@ fit.component_log_totals.1 ~
 fit.component_log_totals.2 ~
 fit.observed_total ~
 fit.full_distinct_total ~
-", &values)
+",
+        &values,
+    )
 }

@@ -13,6 +13,7 @@ pub const VERSION: u64 = 1;
 // The dispersions that the starts begin at, beside the hint, and the shapes of their shelves, each a retained fraction and a
 // concentration: the Rust's.
 pub const SEEDS: [f64; 3] = [2.0, 8.0, 15.0];
+
 pub const SHAPES: [f64; 4] = [0.5, 3.0, 0.75, 4.0];
 
 pub struct Asked {
@@ -81,7 +82,10 @@ pub(crate) fn put_asked(out: &mut [u8], at: usize, a: Asked) -> usize
         pattern(shapes[2]),
         pattern(shapes[3]),
     ];
-    fill(out, at, b"fogatise pick
+    fill(
+        out,
+        at,
+        b"fogatise pick
 version #
 valley #
 peak #
@@ -100,7 +104,9 @@ configuration.1 SingletonPareto NegativeBinomial
 configuration.2 FreeSingletonWeibull NegativeBinomial
 configuration.3 SingletonPareto ShelfNegativeBinomial
 configuration.4 FreeSingletonWeibull ShelfNegativeBinomial
-", &values)
+",
+        &values,
+    )
 }
 
 pub(crate) fn put_spectrum(out: &mut [u8], at: usize, a: Asked, bins: usize) -> usize
@@ -114,12 +120,17 @@ pub(crate) fn put_spectrum(out: &mut [u8], at: usize, a: Asked, bins: usize) -> 
         flag(a.peak <= a.valley),
         flag(bins < a.peak),
     ];
-    fill(out, at, b"bins #
+    fill(
+        out,
+        at,
+        b"bins #
 window_end #
 window {cut|full}{|
 warning the valley is not below the peak}{|
 warning the peak lies beyond the bins}
-", &values)
+",
+        &values,
+    )
 }
 
 pub(crate) fn put_refusal(out: &mut [u8], at: usize, n: u8) -> usize
@@ -127,8 +138,13 @@ pub(crate) fn put_refusal(out: &mut [u8], at: usize, n: u8) -> usize
     ensures { λ _. ⌜ now (out .exit) ≡ putAt at (refusalText n) (now (out .entry)) ⌝ }
 {
     let values = [n as u64, n as u64];
-    fill(out, at, b"refusal # {|the peak, the valley or the number of bins is below 2|the peak, the valley, the number of bins or the window end is above 65535|the file breaks the layout of a histogram file|all bins are zero|the window end is 0 or beyond the bins|every recovered bin in the window is zero|a parameter list has a wrong length|a log probability is NaN|the mass limit is not finite or is below 1|a lent buffer is too short}
-", &values)
+    fill(
+        out,
+        at,
+        b"refusal # {|the peak, the valley or the number of bins is below 2|the peak, the valley, the number of bins or the window end is above 65535|the file breaks the layout of a histogram file|all bins are zero|the window end is 0 or beyond the bins|every recovered bin in the window is zero|a parameter list has a wrong length|a log probability is NaN|the mass limit is not finite or is below 1|a lent buffer is too short}
+",
+        &values,
+    )
 }
 
 pub(crate) fn put_place(out: &mut [u8], at: usize, place: usize) -> usize
@@ -136,6 +152,11 @@ pub(crate) fn put_place(out: &mut [u8], at: usize, place: usize) -> usize
     ensures { λ _. ⌜ now (out .exit) ≡ putAt at (placeText place) (now (out .entry)) ⌝ }
 {
     let values = [place as u64];
-    fill(out, at, b"place #
-", &values)
+    fill(
+        out,
+        at,
+        b"place #
+",
+        &values,
+    )
 }

@@ -69,7 +69,10 @@ fn put_answer(out: &mut [u8], at: usize, c: Cutoffs, l: Leaning) -> usize
         flag(l.largest == NONE),
         l.largest,
     ];
-    fill(out, at, b"hole {none|#|-}{ sure| unsure: the allowed share is not finite| unsure: a probability is not from 0 to 2| no walk| refused|}
+    fill(
+        out,
+        at,
+        b"hole {none|#|-}{ sure| unsure: the allowed share is not finite| unsure: a probability is not from 0 to 2| no walk| refused|}
 crossover {none|#|-}
 error_floor {none|#|-}{|
 below floor}
@@ -77,7 +80,9 @@ valid_attempts #
 same_hole #
 least_hole {#|none}
 largest_hole {#|none}
-", &values)
+",
+        &values,
+    )
 }
 
 // Sure, or no walk: a cutoff.
@@ -112,8 +117,13 @@ fn put_last(out: &mut [u8], at: usize, l: Last) -> usize
     ensures { λ _. ⌜ now (out .exit) ≡ putAt at (lastText l) (now (out .entry)) ⌝ }
 {
     let values = [l.kind, l.part, l.at];
-    fill(out, at, b"{cutoff |unsure |no fit|refused }{none|#|}
-", &values)
+    fill(
+        out,
+        at,
+        b"{cutoff |unsure |no fit|refused }{none|#|}
+",
+        &values,
+    )
 }
 
 fn put_chosen(

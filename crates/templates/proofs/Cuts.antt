@@ -118,15 +118,16 @@ put-same at end a b out out′ e p = subst (λ (text : List ℕ). Put at text ou
 -- a second writer goes on behind the first
 pub joined : (at one two : ℕ) (a b out out₁ out₂ : List ℕ) → Put at a out one out₁ → Put one b out₁ two out₂
     → Put at (a ++ b) out two out₂
-joined at one two a b out out₁ out₂ p q =
-    (q .0
-    ∙ ap (λ (n : ℕ). endAt one b n) (ap length (p .1) ∙ put-length at a out)
-    ∙ ap (λ (e : ℕ). endAt e b (length out)) (p .0)
-    ∙ sym (end-join at a b (length out)),
-    q .1
-    ∙ ap (λ (o : List ℕ). putAt one b o) (p .1)
-    ∙ ap (λ (e : ℕ). putAt e b (putAt at a out)) (p .0)
-    ∙ sym (put-join at a b out))
+joined at one two a b out out₁ out₂ p q = (
+  q .0
+      ∙ ap (λ (n : ℕ). endAt one b n) (ap length (p .1) ∙ put-length at a out)
+      ∙ ap (λ (e : ℕ). endAt e b (length out)) (p .0)
+      ∙ sym (end-join at a b (length out)),
+  q .1
+      ∙ ap (λ (o : List ℕ). putAt one b o) (p .1)
+      ∙ ap (λ (e : ℕ). putAt e b (putAt at a out)) (p .0)
+      ∙ sym (put-join at a b out),
+)
 
 -- some text is put, and a writer puts what comes next
 pub goes-by : (at : ℕ) (text out₀ : List ℕ) (end : ℕ) (out piece rest : List ℕ) (end′ : ℕ) (out′ : List ℕ)
@@ -135,12 +136,12 @@ goes-by at text out₀ end out piece rest end′ out′ p q =
     record {
       same = ap length (q .1) ∙ put-length end piece out ∙ p .same;
       behind =
-        ap (λ (e : ℕ). endAt e rest (length out₀)) (q .0 ∙ ap (endAt end piece) (p .same))
-        ∙ sym (end-join end piece rest (length out₀))
-        ∙ p .behind;
+          ap (λ (e : ℕ). endAt e rest (length out₀)) (q .0 ∙ ap (endAt end piece) (p .same))
+          ∙ sym (end-join end piece rest (length out₀))
+          ∙ p .behind;
       held =
-        ap (λ (e : ℕ). putAt e rest out′) (q .0)
-        ∙ ap (putAt (endAt end piece (length out)) rest) (q .1)
-        ∙ sym (put-join end piece rest out)
-        ∙ p .held;
+          ap (λ (e : ℕ). putAt e rest out′) (q .0)
+          ∙ ap (putAt (endAt end piece (length out)) rest) (q .1)
+          ∙ sym (put-join end piece rest out)
+          ∙ p .held;
     }

@@ -21,6 +21,7 @@ module _ (t f r : Float) (low : f ≡ floorOf t) (rest : r ≡ roundOf ((t ⊖ f
   pub kept : le MILLION r ≡ false → (n m : ℕ) → n ≡ toUnsigned 64 f → m ≡ toUnsigned 64 r
       → (n ≡ wholeOf t) × (m ≡ millionthsOf t)
   unfolding wholeOf millionthsOf
-  kept h n m e d =
-      (e ∙ ap (toUnsigned 64) low ∙ rw (tells false h),
-      d ∙ ap (toUnsigned 64) (rest ∙ ap (λ (x : Float). roundOf ((t ⊖ x) ⊗ MILLION)) low) ∙ rw (tells false h))
+  kept h n m e d = (
+    e ∙ ap (toUnsigned 64) low ∙ rw (tells false h),
+    d ∙ ap (toUnsigned 64) (rest ∙ ap (λ (x : Float). roundOf ((t ⊖ x) ⊗ MILLION)) low) ∙ rw (tells false h),
+  )

@@ -18,6 +18,7 @@ const MILLION: f64 = 1000000.0;
 const FAR: f64 = 9007199254740992.0;
 // The largest pattern of an infinity without its sign; above it are the NaNs'.
 const INFINITE: u64 = 0x7ff0_0000_0000_0000;
+
 const SIGN: u64 = 0x8000_0000_0000_0000;
 
 struct Parts {

@@ -2,8 +2,8 @@
 use mathlib.Core.Path.{subst}
 use borrow.Author.Needs.{needs}
 use Rattle.io.specs.Counts.{Counts}
-use Rattle.list.specs.Within.{Within}
-use Rattle.list.specs.declared.input.Input.{Input}
+use Rattle.streams.specs.Within.{Within}
+use Rattle.streams.specs.declared.input.Input.{Input}
 use Rattle.list.proofs.main.Statement.{statement}
 use Rattle.list.proofs.main.Tie as tie
 

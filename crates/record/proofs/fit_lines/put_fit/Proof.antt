@@ -1,3 +1,4 @@
+-- `record::fit_lines::put_fit` meets its contract. Assumes nothing.
 use Rattle.record.specs.declared.fit_lines.ShelfValues.{ShelfValues}
 use Rattle.record.specs.declared.fit_lines.ShapeValues.{ShapeValues}
 use mathlib.Core.Path.{refl, ap}
@@ -8,164 +9,118 @@ use Rattle.record.proofs.Rows.{_also_}
 use borrow.Author.Needs.{needs}
 use Rattle.record.proofs.fit_lines.put_fit.Statement.{statement}
 use Rattle.record.proofs.fit_lines.put_fit.Tie as tie
-use Rattle.record.proofs.fit_lines.put_fit.Reads as reads
-use Rattle.record.proofs.fit_lines.put_fit.Lts as lts
-use Rattle.record.proofs.fit_lines.shape_values.Reads as shape-values-reads
-use Rattle.record.proofs.fit_lines.shelf_values.Reads as shelf-values-reads
-use Rattle.record.proofs.values.error_number.Reads as error-number-reads
-use Rattle.record.proofs.values.genome_number.Reads as genome-number-reads
-use Rattle.record.proofs.values.pattern.Reads as pattern-reads
-use Rattle.templates.proofs.filling.fill.Reads as fill-reads
 
--- src/fit_lines.rt:69:9
 shape-values-requires : tie.Need-shape-values-requires
 shape-values-requires c κs = search needs
 
--- src/fit_lines.rt:70:9
 shelf-values-requires : tie.Need-shelf-values-requires
 shelf-values-requires c κs = search needs
 
--- src/fit_lines.rt:74:9
 error-number-requires : tie.Need-error-number-requires
 error-number-requires c κs = search needs
 
--- src/fit_lines.rt:75:9
 genome-number-requires : tie.Need-genome-number-requires
 genome-number-requires c κs = search needs
 
--- src/fit_lines.rt:76:9
 pattern-requires : tie.Need-pattern-requires
 pattern-requires c κs = search needs
 
--- src/fit_lines.rt:77:9
 pattern-requires-2 : tie.Need-pattern-requires-2
 pattern-requires-2 c κs = search needs
 
--- src/fit_lines.rt:78:9
 pattern-requires-3 : tie.Need-pattern-requires-3
 pattern-requires-3 c κs = search needs
 
--- src/fit_lines.rt:79:9
 pattern-requires-4 : tie.Need-pattern-requires-4
 pattern-requires-4 c κs = search needs
 
--- src/fit_lines.rt:80:9
 pattern-requires-5 : tie.Need-pattern-requires-5
 pattern-requires-5 c κs = search needs
 
--- src/fit_lines.rt:81:9
 pattern-requires-6 : tie.Need-pattern-requires-6
 pattern-requires-6 c κs = search needs
 
--- src/fit_lines.rt:82:9
 pattern-requires-7 : tie.Need-pattern-requires-7
 pattern-requires-7 c κs = search needs
 
--- src/fit_lines.rt:83:9
 pattern-requires-8 : tie.Need-pattern-requires-8
 pattern-requires-8 c κs = search needs
 
--- src/fit_lines.rt:92:9
 pattern-requires-9 : tie.Need-pattern-requires-9
 pattern-requires-9 c κs = search needs
 
--- src/fit_lines.rt:93:9
 pattern-requires-10 : tie.Need-pattern-requires-10
 pattern-requires-10 c κs = search needs
 
--- src/fit_lines.rt:94:9
 pattern-requires-11 : tie.Need-pattern-requires-11
 pattern-requires-11 c κs = search needs
 
--- src/fit_lines.rt:95:9
 pattern-requires-12 : tie.Need-pattern-requires-12
 pattern-requires-12 c κs = search needs
 
--- src/fit_lines.rt:96:9
 pattern-requires-13 : tie.Need-pattern-requires-13
 pattern-requires-13 c κs = search needs
 
--- src/fit_lines.rt:97:9
 pattern-requires-14 : tie.Need-pattern-requires-14
 pattern-requires-14 c κs = search needs
 
--- src/fit_lines.rt:98:9
 pattern-requires-15 : tie.Need-pattern-requires-15
 pattern-requires-15 c κs = search needs
 
--- src/fit_lines.rt:101:17
 array-read-pattern : tie.Need-array-read-pattern
 array-read-pattern c = search needs
 
--- src/fit_lines.rt:101:9
 pattern-requires-16 : tie.Need-pattern-requires-16
 pattern-requires-16 c κs = search needs
 
--- src/fit_lines.rt:102:17
 array-read-pattern-2 : tie.Need-array-read-pattern-2
 array-read-pattern-2 c = search needs
 
--- src/fit_lines.rt:102:9
 pattern-requires-17 : tie.Need-pattern-requires-17
 pattern-requires-17 c κs = search needs
 
--- src/fit_lines.rt:103:17
 array-read-pattern-3 : tie.Need-array-read-pattern-3
 array-read-pattern-3 c = search needs
 
--- src/fit_lines.rt:103:9
 pattern-requires-18 : tie.Need-pattern-requires-18
 pattern-requires-18 c κs = search needs
 
--- src/fit_lines.rt:104:17
 array-read-pattern-4 : tie.Need-array-read-pattern-4
 array-read-pattern-4 c = search needs
 
--- src/fit_lines.rt:104:9
 pattern-requires-19 : tie.Need-pattern-requires-19
 pattern-requires-19 c κs = search needs
 
--- src/fit_lines.rt:105:17
 array-read-pattern-5 : tie.Need-array-read-pattern-5
 array-read-pattern-5 c = search needs
 
--- src/fit_lines.rt:105:9
 pattern-requires-20 : tie.Need-pattern-requires-20
 pattern-requires-20 c κs = search needs
 
--- src/fit_lines.rt:106:17
 array-read-pattern-6 : tie.Need-array-read-pattern-6
 array-read-pattern-6 c = search needs
 
--- src/fit_lines.rt:106:9
 pattern-requires-21 : tie.Need-pattern-requires-21
 pattern-requires-21 c κs = search needs
 
--- src/fit_lines.rt:107:9
 pattern-requires-22 : tie.Need-pattern-requires-22
 pattern-requires-22 c κs = search needs
 
--- src/fit_lines.rt:108:9
 pattern-requires-23 : tie.Need-pattern-requires-23
 pattern-requires-23 c κs = search needs
 
--- src/fit_lines.rt:110:19
 slice-aggregate-fill : tie.Need-slice-aggregate-fill
 slice-aggregate-fill c = search needs
 
--- src/fit_lines.rt:141:4
 slice-aggregate-fill-2 : tie.Need-slice-aggregate-fill-2
 slice-aggregate-fill-2 c = search needs
 
--- src/fit_lines.rt:110:5
 fill-requires : tie.Need-fill-requires
 fill-requires c κs = search needs
 
--- src/fit_lines.rt:60:1
 same-length : tie.Need-same-length
 same-length c = search needs
 
--- src/fit_lines.rt:60:1
 returns : tie.Need-returns
 returns c =
     put-same _ _ _ _ _ _

@@ -1,35 +1,26 @@
+-- `record::fit_lines::shelf_values` meets its contract. Assumes nothing.
 use borrow.Author.Needs.{needs}
 use Rattle.record.proofs.fit_lines.shelf_values.Statement.{statement}
 use Rattle.record.proofs.fit_lines.shelf_values.Tie as tie
-use Rattle.record.proofs.fit_lines.shelf_values.Reads as reads
-use Rattle.record.proofs.fit_lines.shelf_values.Lts as lts
-use Rattle.record.proofs.values.pattern.Reads as pattern-reads
 
--- src/fit_lines.rt:45:30
 enum-told : tie.Need-enum-told
 enum-told c = search needs
 
--- src/fit_lines.rt:51:28
 enum-known-part : tie.Need-enum-known-part
 enum-known-part c = search needs
 
--- src/fit_lines.rt:53:20
 pattern-requires : tie.Need-pattern-requires
 pattern-requires c κs = search needs
 
--- src/fit_lines.rt:54:20
 pattern-requires-2 : tie.Need-pattern-requires-2
 pattern-requires-2 c κs = search needs
 
--- src/fit_lines.rt:55:19
 pattern-requires-3 : tie.Need-pattern-requires-3
 pattern-requires-3 c κs = search needs
 
--- src/fit_lines.rt:41:1
 returns : tie.Need-returns
 returns c = rw (c .enum-told .given .1)
 
--- src/fit_lines.rt:41:1
 returns-2 : tie.Need-returns-2
 returns-2 c = rw (c .before .before .before .before .part .given .1, c .pattern3 .ensures, c .before .pattern2 .ensures, c .before .before .pattern .ensures)
 

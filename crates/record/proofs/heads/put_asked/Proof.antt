@@ -1,3 +1,4 @@
+-- `record::heads::put_asked` meets its contract. Assumes nothing.
 use mathlib.Core.Path.{refl, ap}
 use Rattle.templates.specs.Filling.{filledOf}
 use Rattle.templates.proofs.Cuts.{put-same}
@@ -6,100 +7,73 @@ use Rattle.record.proofs.Rows.{_also_}
 use borrow.Author.Needs.{needs}
 use Rattle.record.proofs.heads.put_asked.Statement.{statement}
 use Rattle.record.proofs.heads.put_asked.Tie as tie
-use Rattle.record.proofs.heads.put_asked.Reads as reads
-use Rattle.record.proofs.heads.put_asked.Lts as lts
-use Rattle.record.proofs.values.pattern.Reads as pattern-reads
-use Rattle.templates.proofs.filling.fill.Reads as fill-reads
 
--- src/heads.rt:72:9
 pattern-requires : tie.Need-pattern-requires
 pattern-requires c κs = search needs
 
--- src/heads.rt:73:9
 pattern-requires-2 : tie.Need-pattern-requires-2
 pattern-requires-2 c κs = search needs
 
--- src/heads.rt:74:9
 pattern-requires-3 : tie.Need-pattern-requires-3
 pattern-requires-3 c κs = search needs
 
--- src/heads.rt:75:9
 pattern-requires-4 : tie.Need-pattern-requires-4
 pattern-requires-4 c κs = search needs
 
--- src/heads.rt:76:17
 array-read-pattern : tie.Need-array-read-pattern
 array-read-pattern c = search needs
 
--- src/heads.rt:76:9
 pattern-requires-5 : tie.Need-pattern-requires-5
 pattern-requires-5 c κs = search needs
 
--- src/heads.rt:77:17
 array-read-pattern-2 : tie.Need-array-read-pattern-2
 array-read-pattern-2 c = search needs
 
--- src/heads.rt:77:9
 pattern-requires-6 : tie.Need-pattern-requires-6
 pattern-requires-6 c κs = search needs
 
--- src/heads.rt:78:17
 array-read-pattern-3 : tie.Need-array-read-pattern-3
 array-read-pattern-3 c = search needs
 
--- src/heads.rt:78:9
 pattern-requires-7 : tie.Need-pattern-requires-7
 pattern-requires-7 c κs = search needs
 
--- src/heads.rt:79:17
 array-read-pattern-4 : tie.Need-array-read-pattern-4
 array-read-pattern-4 c = search needs
 
--- src/heads.rt:79:9
 pattern-requires-8 : tie.Need-pattern-requires-8
 pattern-requires-8 c κs = search needs
 
--- src/heads.rt:80:17
 array-read-pattern-5 : tie.Need-array-read-pattern-5
 array-read-pattern-5 c = search needs
 
--- src/heads.rt:80:9
 pattern-requires-9 : tie.Need-pattern-requires-9
 pattern-requires-9 c κs = search needs
 
--- src/heads.rt:81:17
 array-read-pattern-6 : tie.Need-array-read-pattern-6
 array-read-pattern-6 c = search needs
 
--- src/heads.rt:81:9
 pattern-requires-10 : tie.Need-pattern-requires-10
 pattern-requires-10 c κs = search needs
 
--- src/heads.rt:82:17
 array-read-pattern-7 : tie.Need-array-read-pattern-7
 array-read-pattern-7 c = search needs
 
--- src/heads.rt:82:9
 pattern-requires-11 : tie.Need-pattern-requires-11
 pattern-requires-11 c κs = search needs
 
--- src/heads.rt:84:19
 slice-aggregate-fill : tie.Need-slice-aggregate-fill
 slice-aggregate-fill c = search needs
 
--- src/heads.rt:103:4
 slice-aggregate-fill-2 : tie.Need-slice-aggregate-fill-2
 slice-aggregate-fill-2 c = search needs
 
--- src/heads.rt:84:5
 fill-requires : tie.Need-fill-requires
 fill-requires c κs = search needs
 
--- src/heads.rt:62:1
 same-length : tie.Need-same-length
 same-length c = search needs
 
--- src/heads.rt:62:1
 returns : tie.Need-returns
 returns c =
     put-same _ _ _ _ _ _

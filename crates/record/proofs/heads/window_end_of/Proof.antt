@@ -1,21 +1,16 @@
+-- `record::heads::window_end_of` meets its contract. Assumes nothing.
 use Rattle.record.specs.Heads.{windowEndOf}
 use borrow.Author.Needs.{needs}
 use Rattle.record.proofs.heads.window_end_of.Statement.{statement}
 use Rattle.record.proofs.heads.window_end_of.Tie as tie
-use Rattle.record.proofs.heads.window_end_of.Reads as reads
-use Rattle.record.proofs.heads.window_end_of.Lts as lts
-use Rattle.record.proofs.heads.window_rule.Reads as window-rule-reads
 
--- src/heads.rt:57:9
 returns : tie.Need-returns
 unfolding windowEndOf
 returns c = rw (c .if1 .taken)
 
--- src/heads.rt:59:5
 window-rule-requires : tie.Need-window-rule-requires
 window-rule-requires c κs = search needs
 
--- src/heads.rt:53:1
 returns-2 : tie.Need-returns-2
 unfolding windowEndOf
 returns-2 c = rw (c .before .if1 .left) (c .window-rule .ensures)

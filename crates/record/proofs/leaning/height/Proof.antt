@@ -1,16 +1,13 @@
+-- `record::leaning::height` meets its contract. Assumes nothing.
 use borrow.Author.Tests.{eq-eqb, ne-eqb}
 use Rattle.record.specs.Leaning.{heightOf}
 use Rattle.record.proofs.leaning.height.Statement.{statement}
 use Rattle.record.proofs.leaning.height.Tie as tie
-use Rattle.record.proofs.leaning.height.Reads as reads
-use Rattle.record.proofs.leaning.height.Lts as lts
 
--- src/leaning.rt:25:9
 returns : tie.Need-returns
 unfolding heightOf
 returns c = rw (eq-eqb _ _ (c .if1 .taken))
 
--- src/leaning.rt:21:1
 returns-2 : tie.Need-returns-2
 unfolding heightOf
 returns-2 c = rw (ne-eqb _ _ (c .if1 .left))

@@ -1,37 +1,26 @@
+-- `record::leaning::lean` meets its contract. Assumes nothing.
 use mathlib.Core.Path.{sym, _∙_}
 use Rattle.record.specs.Leaning.{leanStep}
 use borrow.Author.Needs.{needs}
 use Rattle.record.proofs.leaning.lean.Statement.{statement}
 use Rattle.record.proofs.leaning.lean.Tie as tie
-use Rattle.record.proofs.leaning.lean.Reads as reads
-use Rattle.record.proofs.leaning.lean.Lts as lts
-use Rattle.fitter.proofs.attempts.is_valid.Reads as is-valid-reads
-use Rattle.record.proofs.leaning.height.Reads as height-reads
-use Rattle.record.proofs.leaning.lean_on.Reads as lean-on-reads
-use Rattle.record.proofs.values.hole_of.Reads as hole-of-reads
 
--- src/leaning.rt:75:8
 is-valid-requires : tie.Need-is-valid-requires
 is-valid-requires c κs = search needs
 
--- src/leaning.rt:76:13
 hole-of-requires : tie.Need-hole-of-requires
 hole-of-requires c κs = search needs
 
--- src/leaning.rt:78:35
 height-requires : tie.Need-height-requires
 height-requires c κs = search needs
 
--- src/leaning.rt:78:9
 lean-on-requires : tie.Need-lean-on-requires
 lean-on-requires c κs = search needs
 
--- src/leaning.rt:78:9
 returns : tie.Need-returns
 unfolding leanStep
 returns c = rw (sym (c .before .before .before .before .before .is-valid .ensures) ∙ c .before .before .before .before .if1 .taken) (rw (c .before .height .ensures, c .before .before .before .hole-of .ensures) at (c .lean-on .ensures))
 
--- src/leaning.rt:70:1
 returns-2 : tie.Need-returns-2
 unfolding leanStep
 returns-2 c = rw (sym (c .before .is-valid .ensures) ∙ c .if1 .left)

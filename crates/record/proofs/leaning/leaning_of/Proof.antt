@@ -1,29 +1,23 @@
+-- `record::leaning::leaning_of` meets its contract. Assumes nothing.
 use native.Mathlib.Omega.{arith}
 use Rattle.record.specs.Leaning.{leaningOf}
 use Rattle.record.proofs.Leanings.{still-few}
 use borrow.Author.Needs.{needs}
 use Rattle.record.proofs.leaning.leaning_of.Statement.{statement}
 use Rattle.record.proofs.leaning.leaning_of.Tie as tie
-use Rattle.record.proofs.leaning.leaning_of.Reads as reads
-use Rattle.record.proofs.leaning.leaning_of.Lts as lts
-use Rattle.record.proofs.leaning.lean.Reads as lean-reads
 
--- src/leaning.rt:100:9
 lean-requires : tie.Need-lean-requires
 lean-requires c κs = search needs
 
--- src/leaning.rt:101:9
 lean-requires-2 : tie.Need-lean-requires-2
 lean-requires-2 c κs = let f = still-few _ _ _ _ _ 0 (c .lean .ensures) (omega arith, omega arith) in (omega (arith, f .0), omega (arith, f .1))
 
--- src/leaning.rt:102:9
 lean-requires-3 : tie.Need-lean-requires-3
 lean-requires-3 c κs =
     let f = still-few _ _ _ _ _ 0 (c .before .lean .ensures) (omega arith, omega arith) in
     let g = still-few _ _ _ _ _ 1 (c .lean2 .ensures) f in
     (omega (arith, g .0), omega (arith, g .1))
 
--- src/leaning.rt:103:5
 lean-requires-4 : tie.Need-lean-requires-4
 lean-requires-4 c κs =
     let f = still-few _ _ _ _ _ 0 (c .before .before .lean .ensures) (omega arith, omega arith) in
@@ -31,7 +25,6 @@ lean-requires-4 c κs =
     let h = still-few _ _ _ _ _ 2 (c .lean3 .ensures) g in
     (omega (arith, h .0), omega (arith, h .1))
 
--- src/leaning.rt:84:1
 returns : tie.Need-returns
 unfolding leaningOf
 returns c = rw (c .lean4 .ensures, c .before .lean3 .ensures, c .before .before .lean2 .ensures, c .before .before .before .lean .ensures)

@@ -1,16 +1,13 @@
+-- `record::leaning::least` meets its contract. Assumes nothing.
 use borrow.Author.Tests.{lt-ltb, le-ltb}
 use Rattle.record.specs.Leaning.{leastOf}
 use Rattle.record.proofs.leaning.least.Statement.{statement}
 use Rattle.record.proofs.leaning.least.Tie as tie
-use Rattle.record.proofs.leaning.least.Reads as reads
-use Rattle.record.proofs.leaning.least.Lts as lts
 
--- src/leaning.rt:34:9
 returns : tie.Need-returns
 unfolding leastOf
 returns c = rw (lt-ltb _ _ (c .if1 .taken))
 
--- src/leaning.rt:30:1
 returns-2 : tie.Need-returns-2
 unfolding leastOf
 returns-2 c = rw (le-ltb _ _ (c .if1 .left))

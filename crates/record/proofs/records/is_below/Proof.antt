@@ -1,16 +1,13 @@
+-- `record::records::is_below` meets its contract. Assumes nothing.
 use borrow.Author.Tests.{eq-eqb, ne-eqb}
 use Rattle.record.specs.Record.{isBelow}
 use Rattle.record.proofs.records.is_below.Statement.{statement}
 use Rattle.record.proofs.records.is_below.Tie as tie
-use Rattle.record.proofs.records.is_below.Reads as reads
-use Rattle.record.proofs.records.is_below.Lts as lts
 
--- src/records.rt:43:9
 returns : tie.Need-returns
 unfolding isBelow
 returns c = rw (ne-eqb _ _ (c .if1 .taken))
 
--- src/records.rt:36:1
 returns-2 : tie.Need-returns-2
 unfolding isBelow
 returns-2 c = rw (eq-eqb _ _ (c .before .before .if1 .left))

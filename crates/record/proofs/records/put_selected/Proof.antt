@@ -1,34 +1,25 @@
+-- `record::records::put_selected` meets its contract. Assumes nothing.
 use Rattle.record.specs.Record.{selectedText}
 use borrow.Author.Needs.{needs}
 use Rattle.record.proofs.records.put_selected.Statement.{statement}
 use Rattle.record.proofs.records.put_selected.Tie as tie
-use Rattle.record.proofs.records.put_selected.Reads as reads
-use Rattle.record.proofs.records.put_selected.Lts as lts
-use Rattle.record.proofs.records.put_chosen.Reads as put-chosen-reads
-use Rattle.record.proofs.records.put_last.Reads as put-last-reads
 
--- src/records.rt:153:9
 put-chosen-requires : tie.Need-put-chosen-requires
 put-chosen-requires c κs = search needs
 
--- src/records.rt:153:9
 same-length : tie.Need-same-length
 same-length c = search needs
 
--- src/records.rt:153:9
 returns : tie.Need-returns
 unfolding selectedText
 returns c = rw (c .before .before .before .before .if1 .taken) (c .before .before .put-chosen .ensures)
 
--- src/records.rt:155:5
 put-last-requires : tie.Need-put-last-requires
 put-last-requires c κs = search needs
 
--- src/records.rt:138:1
 same-length-2 : tie.Need-same-length-2
 same-length-2 c = search needs
 
--- src/records.rt:138:1
 returns-2 : tie.Need-returns-2
 unfolding selectedText
 returns-2 c = rw (c .before .before .before .before .if1 .left) (c .before .before .put-last .ensures)

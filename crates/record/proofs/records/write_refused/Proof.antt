@@ -1,36 +1,25 @@
+-- `record::records::write_refused` meets its contract. Assumes nothing.
 use Rattle.templates.proofs.Cuts.{joined}
 use Rattle.record.specs.Record.{refusedOf}
 use borrow.Author.Needs.{needs}
 use Rattle.record.proofs.records.write_refused.Statement.{statement}
 use Rattle.record.proofs.records.write_refused.Tie as tie
-use Rattle.record.proofs.records.write_refused.Reads as reads
-use Rattle.record.proofs.records.write_refused.Lts as lts
-use Rattle.record.proofs.heads.put_asked.Reads as put-asked-reads
-use Rattle.record.proofs.heads.put_refusal.Reads as put-refusal-reads
-use Rattle.record.proofs.heads.put_spectrum.Reads as put-spectrum-reads
-use Rattle.record.proofs.records.put_last.Reads as put-last-reads
 
--- src/records.rt:211:9
 put-asked-requires : tie.Need-put-asked-requires
 put-asked-requires c κs = search needs
 
--- src/records.rt:212:9
 put-spectrum-requires : tie.Need-put-spectrum-requires
 put-spectrum-requires c κs = search needs
 
--- src/records.rt:213:9
 put-refusal-requires : tie.Need-put-refusal-requires
 put-refusal-requires c κs = search needs
 
--- src/records.rt:214:5
 put-last-requires : tie.Need-put-last-requires
 put-last-requires c κs = search needs
 
--- src/records.rt:207:1
 same-length : tie.Need-same-length
 same-length c = search needs
 
--- src/records.rt:207:1
 returns : tie.Need-returns
 unfolding refusedOf
 returns c =

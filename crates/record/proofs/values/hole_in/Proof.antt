@@ -1,51 +1,38 @@
+-- `record::values::hole_in` meets its contract. Assumes nothing.
 use borrow.Author.Needs.{needs}
 use Rattle.record.proofs.values.hole_in.Statement.{statement}
 use Rattle.record.proofs.values.hole_in.Tie as tie
-use Rattle.record.proofs.values.hole_in.Reads as reads
-use Rattle.record.proofs.values.hole_in.Lts as lts
-use Rattle.record.proofs.values.place_in.Reads as place-in-reads
 
--- src/values.rt:161:26
 enum-known-answer : tie.Need-enum-known-answer
 enum-known-answer c = search needs
 
--- src/values.rt:162:20
 place-in-requires : tie.Need-place-in-requires
 place-in-requires c κs = search needs
 
--- src/values.rt:165:29
 enum-known-answer-2 : tie.Need-enum-known-answer-2
 enum-known-answer-2 c = search needs
 
--- src/values.rt:166:20
 place-in-requires-2 : tie.Need-place-in-requires-2
 place-in-requires-2 c κs = search needs
 
--- src/values.rt:170:20
 enum-told : tie.Need-enum-told
 enum-told c = search needs
 
--- src/values.rt:173:29
 enum-known-answer-3 : tie.Need-enum-known-answer-3
 enum-known-answer-3 c = search needs
 
--- src/values.rt:176:21
 cast-t10 : tie.Need-cast-t10
 cast-t10 c = search needs
 
--- src/values.rt:157:1
 returns : tie.Need-returns
 returns c = rw (c .before .before .answer .given .1, c .place-in .ensures)
 
--- src/values.rt:157:1
 returns-2 : tie.Need-returns-2
 returns-2 c = rw (c .before .before .answer2 .given .1, c .place-in2 .ensures)
 
--- src/values.rt:157:1
 returns-3 : tie.Need-returns-3
 returns-3 c = rw (c .enum-told .given .1)
 
--- src/values.rt:157:1
 returns-4 : tie.Need-returns-4
 returns-4 c = rw (c .before .answer3 .given .1)
 

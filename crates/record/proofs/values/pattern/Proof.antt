@@ -1,19 +1,15 @@
+-- `record::values::pattern` meets its contract. Assumes nothing.
 use Rattle.routines.proofs.Patterns.{equal-no-nan}
 use Rattle.record.proofs.Patterns.{nan-pattern, number-pattern}
 use Rattle.record.proofs.values.pattern.Statement.{statement}
 use Rattle.record.proofs.values.pattern.Tie as tie
-use Rattle.record.proofs.values.pattern.Reads as reads
-use Rattle.record.proofs.values.pattern.Lts as lts
 
--- src/values.rt:40:9
 returns : tie.Need-returns
 returns c = nan-pattern _ (c .if1 .taken)
 
--- src/values.rt:42:5
 float-to-bits-result : tie.Need-float-to-bits-result
 float-to-bits-result c = equal-no-nan _ (c .if1 .left)
 
--- src/values.rt:36:1
 returns-2 : tie.Need-returns-2
 returns-2 c = number-pattern _ (equal-no-nan _ (c .if1 .left))
 

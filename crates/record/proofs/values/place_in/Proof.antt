@@ -1,26 +1,20 @@
+-- `record::values::place_in` meets its contract. Assumes nothing.
 use borrow.Author.Needs.{needs}
 use Rattle.record.proofs.values.place_in.Statement.{statement}
 use Rattle.record.proofs.values.place_in.Tie as tie
-use Rattle.record.proofs.values.place_in.Reads as reads
-use Rattle.record.proofs.values.place_in.Lts as lts
 
--- src/values.rt:115:31
 enum-told : tie.Need-enum-told
 enum-told c = search needs
 
--- src/values.rt:116:29
 enum-known-found : tie.Need-enum-known-found
 enum-known-found c = search needs
 
--- src/values.rt:118:17
 cast-t4 : tie.Need-cast-t4
 cast-t4 c = search needs
 
--- src/values.rt:111:1
 returns : tie.Need-returns
 returns c = rw (c .enum-told .given .1)
 
--- src/values.rt:111:1
 returns-2 : tie.Need-returns-2
 returns-2 c = rw (c .before .found .given .1)
 

@@ -1,21 +1,17 @@
+-- `templates::filling::after_bar` meets its contract. Assumes nothing.
 use Rattle.templates.specs.Filling.{afterBar}
 use borrow.Author.Tests.{eq-eqb, ne-eqb}
 use borrow.Author.Needs.{needs}
 use Rattle.templates.proofs.filling.after_bar.Statement.{statement}
 use Rattle.templates.proofs.filling.after_bar.Tie as tie
-use Rattle.templates.proofs.filling.after_bar.Reads as reads
-use Rattle.templates.proofs.filling.after_bar.Lts as lts
 
--- src/filling.rt:42:9
 returns : tie.Need-returns
 unfolding afterBar
 returns c = rw (eq-eqb _ _ (c .if1 .taken))
 
--- src/filling.rt:44:5
 sub-result : tie.Need-sub-result
 sub-result c = search needs
 
--- src/filling.rt:38:1
 returns-2 : tie.Need-returns-2
 unfolding afterBar
 returns-2 c = rw (ne-eqb _ _ (c .if1 .left))

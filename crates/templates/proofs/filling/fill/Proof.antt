@@ -1,21 +1,18 @@
+-- `templates::filling::fill` meets its contract. Assumes nothing.
 use Prim.Native.Nat.{ℕ, suc, _-_, _≤_}
-use mathlib.Core.Path.{refl, sym, _∙_, subst}
+use mathlib.Core.Path.{subst}
 use mathlib.Core.List.{List}
 use native.Mathlib.Omega.{arith}
 use native.Mathlib.Numerals.{add-one}
 use lib.ListN.{length, drop, getD, drop-of-length-le}
 use lib.Seq.{drop-cons}
 use borrow.Author.Needs.{needs}
-use Rattle.templates.specs.Filling.{begun, textFrom, filledOf}
+use Rattle.templates.specs.Filling.{textFrom, filledOf}
 use Rattle.templates.specs.declared.filling.State.{State}
 use Rattle.templates.proofs.Cuts.{Putting, begins, goes-by, ends}
 use Rattle.templates.proofs.Pieces.{text-more, text-none}
 use Rattle.templates.proofs.filling.fill.Statement.{statement}
 use Rattle.templates.proofs.filling.fill.Tie as tie
-use Rattle.templates.proofs.filling.fill.Reads as reads
-use Rattle.templates.proofs.filling.fill.Lts as lts
-use Rattle.templates.proofs.filling.put_shown.Reads as put-shown-reads
-use Rattle.templates.proofs.filling.state_after.Reads as state-after-reads
 
 -- a run of the template is to come
 abbrev ToCome : (at : ℕ) (template values out₀ : List ℕ) (end : ℕ) (s : State) (rest out : List ℕ) → Type 0
@@ -28,32 +25,25 @@ Inv-loop out₀ at template values s₀ end₀ k₀ out s end k =
 abbrev μ-loop : tie.MeasureT-loop
 μ-loop out₀ at template values s₀ end₀ k₀ out s end k = length template - k
 
--- src/filling.rt:124:5
 loop-holds : tie.Need-loop-holds Inv-loop μ-loop
 unfolding filledOf
 loop-holds c = (omega arith, begins _ _ _)
 
--- src/filling.rt:125:17
 shared-slice-read-c : tie.Need-shared-slice-read-c Inv-loop μ-loop
 shared-slice-read-c c = omega arith
 
--- src/filling.rt:126:9
 put-shown-requires : tie.Need-put-shown-requires Inv-loop μ-loop
 put-shown-requires c κs = search needs
 
--- src/filling.rt:127:9
 state-after-requires : tie.Need-state-after-requires Inv-loop μ-loop
 state-after-requires c κs = search needs
 
--- src/filling.rt:128:9
 add-k : tie.Need-add-k Inv-loop μ-loop
 add-k c = omega arith
 
--- src/filling.rt:124:5
 loop-less : tie.Need-loop-less Inv-loop μ-loop
 loop-less c = omega arith
 
--- src/filling.rt:124:5
 loop-again : tie.Need-loop-again Inv-loop μ-loop
 loop-again c =
     let q = c .before .before .before in
@@ -66,11 +56,9 @@ loop-again c =
     let n = goes-by _ _ _ (l .loop .end) (l .loop .out) _ _ _ _ (rw (text-more (a .values .now) (l .loop .s) b rest) at p) (q .put-shown .ensures) in
     (omega arith, rw (add-one k, c .state-after .ensures) n)
 
--- src/filling.rt:117:1
 same-length : tie.Need-same-length Inv-loop μ-loop
 same-length c = c .before .loop .inv .1 .same
 
--- src/filling.rt:117:1
 returns : tie.Need-returns Inv-loop μ-loop
 returns c =
     let l = c .before in

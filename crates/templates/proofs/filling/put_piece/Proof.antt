@@ -1,66 +1,49 @@
+-- `templates::filling::put_piece` meets its contract. Assumes nothing.
 use mathlib.Core.Path.{sym, _∙_}
 use Rattle.templates.proofs.Cuts.{put-same, no-text}
 use Rattle.templates.proofs.Pieces.{piece-whole, piece-float, piece-bracket, piece-byte}
 use borrow.Author.Needs.{needs}
 use Rattle.templates.proofs.filling.put_piece.Statement.{statement}
 use Rattle.templates.proofs.filling.put_piece.Tie as tie
-use Rattle.templates.proofs.filling.put_piece.Reads as reads
-use Rattle.templates.proofs.filling.put_piece.Lts as lts
-use Rattle.templates.proofs.decimals.put_decimal.Reads as put-decimal-reads
-use Rattle.templates.proofs.filling.is_bracket.Reads as is-bracket-reads
-use Rattle.templates.proofs.floats.put_float.Reads as put-float-reads
-use Rattle.templates.proofs.puts.put_text.Reads as put-text-reads
 
--- src/filling.rt:92:9
 put-decimal-requires : tie.Need-put-decimal-requires
 put-decimal-requires c κs = search needs
 
--- src/filling.rt:92:9
 same-length : tie.Need-same-length
 same-length c = search needs
 
--- src/filling.rt:92:9
 returns : tie.Need-returns
 returns c = put-same _ _ _ _ _ _ (sym (piece-whole _ _ (c .before .before .before .before .if1 .taken))) (c .before .before .put-decimal .ensures)
 
--- src/filling.rt:95:9
 put-float-requires : tie.Need-put-float-requires
 put-float-requires c κs = search needs
 
--- src/filling.rt:95:9
 same-length-2 : tie.Need-same-length-2
 same-length-2 c = search needs
 
--- src/filling.rt:95:9
 returns-2 : tie.Need-returns-2
 returns-2 c =
     let float = c .before .before .before .before in
     put-same _ _ _ _ _ _ (sym (piece-float _ _ (float .before .if1 .left) (float .if2 .taken))) (c .before .before .put-float .ensures)
 
--- src/filling.rt:97:8
 is-bracket-requires : tie.Need-is-bracket-requires
 is-bracket-requires c κs = search needs
 
--- src/filling.rt:98:9
 returns-3 : tie.Need-returns-3
 returns-3 c =
     let bracket = c .before in
     let none = piece-bracket _ _ (bracket .before .before .if1 .left) (bracket .before .if2 .left) (sym (bracket .is-bracket .ensures) ∙ c .if3 .taken) in
     put-same _ _ _ _ _ _ (sym none) (no-text _ _)
 
--- src/filling.rt:101:23
 slice-aggregate-put-text : tie.Need-slice-aggregate-put-text
 slice-aggregate-put-text c = search needs
 
--- src/filling.rt:101:5
 put-text-requires : tie.Need-put-text-requires
 put-text-requires c κs = search needs
 
--- src/filling.rt:87:1
 same-length-3 : tie.Need-same-length-3
 same-length-3 c = search needs
 
--- src/filling.rt:87:1
 returns-4 : tie.Need-returns-4
 returns-4 c =
     let other = c .before .before .before .before .before in

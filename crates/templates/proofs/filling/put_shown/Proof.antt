@@ -1,3 +1,4 @@
+-- `templates::filling::put_shown` meets its contract. Assumes nothing.
 use mathlib.Core.Path.{sym, ap, _∙_}
 use Rattle.templates.specs.Filling.{pieceOf}
 use Rattle.templates.proofs.Cuts.{put-same, no-text}
@@ -5,28 +6,19 @@ use Rattle.templates.proofs.Pieces.{hidden, shown}
 use borrow.Author.Needs.{needs}
 use Rattle.templates.proofs.filling.put_shown.Statement.{statement}
 use Rattle.templates.proofs.filling.put_shown.Tie as tie
-use Rattle.templates.proofs.filling.put_shown.Reads as reads
-use Rattle.templates.proofs.filling.put_shown.Lts as lts
-use Rattle.templates.proofs.filling.put_piece.Reads as put-piece-reads
-use Rattle.templates.proofs.filling.value_at.Reads as value-at-reads
 
--- src/filling.rt:110:9
 returns : tie.Need-returns
 returns c = put-same _ _ _ _ _ _ (sym (hidden _ _ _ (c .if1 .taken))) (no-text _ _)
 
--- src/filling.rt:112:27
 value-at-requires : tie.Need-value-at-requires
 value-at-requires c κs = search needs
 
--- src/filling.rt:112:5
 put-piece-requires : tie.Need-put-piece-requires
 put-piece-requires c κs = search needs
 
--- src/filling.rt:104:1
 same-length : tie.Need-same-length
 same-length c = search needs
 
--- src/filling.rt:104:1
 returns-2 : tie.Need-returns-2
 returns-2 c =
     let v = c .before .before .before in

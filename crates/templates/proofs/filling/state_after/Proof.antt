@@ -1,59 +1,44 @@
+-- `templates::filling::state_after` meets its contract. Assumes nothing.
 use mathlib.Core.Path.{sym, _∙_}
 use borrow.Author.Tests.{eq-eqb, ne-eqb}
 use Rattle.templates.specs.Filling.{after}
 use borrow.Author.Needs.{needs}
 use Rattle.templates.proofs.filling.state_after.Statement.{statement}
 use Rattle.templates.proofs.filling.state_after.Tie as tie
-use Rattle.templates.proofs.filling.state_after.Reads as reads
-use Rattle.templates.proofs.filling.state_after.Lts as lts
-use Rattle.templates.proofs.filling.after_bar.Reads as after-bar-reads
-use Rattle.templates.proofs.filling.next_place.Reads as next-place-reads
-use Rattle.templates.proofs.filling.takes_value.Reads as takes-value-reads
-use Rattle.templates.proofs.filling.value_at.Reads as value-at-reads
 
--- src/filling.rt:65:20
 value-at-requires : tie.Need-value-at-requires
 value-at-requires c κs = search needs
 
--- src/filling.rt:66:19
 next-place-requires : tie.Need-next-place-requires
 next-place-requires c κs = search needs
 
--- src/filling.rt:64:9
 returns : tie.Need-returns
 unfolding after
 returns c = rw (eq-eqb _ _ (c .before .before .if1 .taken), c .next-place .ensures, c .before .value-at .ensures)
 
--- src/filling.rt:71:20
 after-bar-requires : tie.Need-after-bar-requires
 after-bar-requires c κs = search needs
 
--- src/filling.rt:70:9
 returns-2 : tie.Need-returns-2
 unfolding after
 returns-2 c = rw (ne-eqb _ _ (c .before .before .if1 .left), eq-eqb _ _ (c .before .if2 .taken), c .after-bar .ensures)
 
--- src/filling.rt:76:9
 returns-3 : tie.Need-returns-3
 unfolding after
 returns-3 c = rw (ne-eqb _ _ (c .before .before .if1 .left), ne-eqb _ _ (c .before .if2 .left), eq-eqb _ _ (c .if3 .taken))
 
--- src/filling.rt:78:8
 takes-value-requires : tie.Need-takes-value-requires
 takes-value-requires c κs = search needs
 
--- src/filling.rt:81:19
 next-place-requires-2 : tie.Need-next-place-requires-2
 next-place-requires-2 c κs = search needs
 
--- src/filling.rt:79:9
 returns-4 : tie.Need-returns-4
 unfolding after
 returns-4 c =
     let t = c .before .before in
     rw (ne-eqb _ _ (t .before .before .before .if1 .left), ne-eqb _ _ (t .before .before .if2 .left), ne-eqb _ _ (t .before .if3 .left), sym (t .takes-value .ensures) ∙ c .before .if4 .taken, c .next-place2 .ensures)
 
--- src/filling.rt:59:1
 returns-5 : tie.Need-returns-5
 unfolding after
 returns-5 c =

@@ -1,24 +1,19 @@
+-- `templates::filling::value_at` meets its contract. Assumes nothing.
 use mathlib.Core.Path.{sym}
 use lib.ListN.{List·getD-eq-default}
 use borrow.Author.Needs.{needs}
 use Rattle.templates.proofs.filling.value_at.Statement.{statement}
 use Rattle.templates.proofs.filling.value_at.Tie as tie
-use Rattle.templates.proofs.filling.value_at.Reads as reads
-use Rattle.templates.proofs.filling.value_at.Lts as lts
 
--- src/filling.rt:23:16
 mul-result : tie.Need-mul-result
 mul-result c = search needs
 
--- src/filling.rt:23:16
 shared-slice-read-result : tie.Need-shared-slice-read-result
 shared-slice-read-result c = search needs
 
--- src/filling.rt:23:9
 returns : tie.Need-returns
 returns c = search needs
 
--- src/filling.rt:19:1
 returns-2 : tie.Need-returns-2
 returns-2 c = sym (List·getD-eq-default (c .before .args .values .now) 0 (c .if1 .left))
 

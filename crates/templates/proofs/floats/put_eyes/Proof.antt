@@ -1,35 +1,25 @@
+-- `templates::floats::put_eyes` meets its contract. Assumes nothing.
 use Rattle.templates.proofs.Cuts.{put-same, joined}
 use Rattle.templates.proofs.Eyes.{eyes-minus, eyes-plain, eyes-far}
 use borrow.Author.Needs.{needs}
 use Rattle.templates.proofs.floats.put_eyes.Statement.{statement}
 use Rattle.templates.proofs.floats.put_eyes.Tie as tie
-use Rattle.templates.proofs.floats.put_eyes.Reads as reads
-use Rattle.templates.proofs.floats.put_eyes.Lts as lts
-use Rattle.templates.proofs.floats.put_places.Reads as put-places-reads
-use Rattle.templates.proofs.floats.size.Reads as size-reads
-use Rattle.templates.proofs.puts.put_text.Reads as put-text-reads
 
--- src/floats.rt:91:9
 size-requires : tie.Need-size-requires
 size-requires c κs = search needs
 
--- src/floats.rt:94:44
 slice-aggregate-put-text : tie.Need-slice-aggregate-put-text
 slice-aggregate-put-text c = search needs
 
--- src/floats.rt:94:17
 put-text-requires : tie.Need-put-text-requires
 put-text-requires c κs = search needs
 
--- src/floats.rt:95:13
 put-places-requires : tie.Need-put-places-requires
 put-places-requires c κs = search needs
 
--- src/floats.rt:95:13
 same-length : tie.Need-same-length
 same-length c = search needs
 
--- src/floats.rt:95:13
 returns : tie.Need-returns
 returns c =
     let sign = c .before .before .before .before .before .before in
@@ -38,15 +28,12 @@ returns c =
     (eyes-minus _ _ (minus .before .before .size .ensures) (minus .before .if1 .taken) (minus .if2 .taken))
     (joined _ _ _ _ _ _ _ _ (sign .put-text .ensures) (c .before .before .put-places .ensures))
 
--- src/floats.rt:97:9
 put-places-requires-2 : tie.Need-put-places-requires-2
 put-places-requires-2 c κs = search needs
 
--- src/floats.rt:97:9
 same-length-2 : tie.Need-same-length-2
 same-length-2 c = search needs
 
--- src/floats.rt:97:9
 returns-2 : tie.Need-returns-2
 returns-2 c =
     let plain = c .before .before .before .before in
@@ -54,19 +41,15 @@ returns-2 c =
     (eyes-plain _ _ (plain .before .before .size .ensures) (plain .before .if1 .taken) (plain .if2 .left))
     (c .before .before .put-places2 .ensures)
 
--- src/floats.rt:99:23
 slice-aggregate-put-text-2 : tie.Need-slice-aggregate-put-text-2
 slice-aggregate-put-text-2 c = search needs
 
--- src/floats.rt:99:5
 put-text-requires-2 : tie.Need-put-text-requires-2
 put-text-requires-2 c κs = search needs
 
--- src/floats.rt:87:1
 same-length-3 : tie.Need-same-length-3
 same-length-3 c = search needs
 
--- src/floats.rt:87:1
 returns-3 : tie.Need-returns-3
 returns-3 c =
     let far = c .before .before .before .before .before in

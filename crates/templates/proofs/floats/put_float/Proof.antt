@@ -1,3 +1,4 @@
+-- `templates::floats::put_float` meets its contract. Assumes nothing.
 use Prim.Native.Nat.{ℕ}
 use mathlib.Core.Path.{ap, _∙_}
 use Rattle.io.specs.Digits.{digits}
@@ -7,50 +8,34 @@ use Rattle.templates.proofs.Numerals.{sixteen}
 use borrow.Author.Needs.{needs}
 use Rattle.templates.proofs.floats.put_float.Statement.{statement}
 use Rattle.templates.proofs.floats.put_float.Tie as tie
-use Rattle.templates.proofs.floats.put_float.Reads as reads
-use Rattle.templates.proofs.floats.put_float.Lts as lts
-use Rattle.io.proofs.hex.Reads as hex-reads
-use Rattle.templates.proofs.floats.float.Reads as float-reads
-use Rattle.templates.proofs.floats.put_eyes.Reads as put-eyes-reads
-use Rattle.templates.proofs.puts.put_text.Reads as put-text-reads
 
--- src/floats.rt:117:9
 hex-requires : tie.Need-hex-requires
 hex-requires c κs = search needs
 
--- src/floats.rt:118:35
 array-share-prefix-digits : tie.Need-array-share-prefix-digits
 array-share-prefix-digits c = search needs
 
--- src/floats.rt:118:35
 slice-aggregate-put-text : tie.Need-slice-aggregate-put-text
 slice-aggregate-put-text c = search needs
 
--- src/floats.rt:118:9
 put-text-requires : tie.Need-put-text-requires
 put-text-requires c κs = search needs
 
--- src/floats.rt:119:39
 slice-aggregate-put-text-2 : tie.Need-slice-aggregate-put-text-2
 slice-aggregate-put-text-2 c = search needs
 
--- src/floats.rt:119:9
 put-text-requires-2 : tie.Need-put-text-requires-2
 put-text-requires-2 c κs = search needs
 
--- src/floats.rt:120:27
 float-requires : tie.Need-float-requires
 float-requires c κs = search needs
 
--- src/floats.rt:120:5
 put-eyes-requires : tie.Need-put-eyes-requires
 put-eyes-requires c κs = search needs
 
--- src/floats.rt:112:1
 same-length : tie.Need-same-length
 same-length c = search needs
 
--- src/floats.rt:112:1
 returns : tie.Need-returns
 unfolding floatOf
 returns c =

@@ -1,3 +1,4 @@
+-- `templates::puts::put_text` meets its contract. Assumes nothing.
 use Rattle.templates.proofs.Cuts.{Putting, begins, fills, goes-on, ends}
 use lib.Seq.{drop-cons}
 use lib.ListN.{length, drop, getD, drop-of-length-le}
@@ -8,8 +9,6 @@ use mathlib.Core.Path.{subst}
 use Prim.Native.Nat.{ℕ, suc, _-_, _≤_}
 use Rattle.templates.proofs.puts.put_text.Statement.{statement}
 use Rattle.templates.proofs.puts.put_text.Tie as tie
-use Rattle.templates.proofs.puts.put_text.Reads as reads
-use Rattle.templates.proofs.puts.put_text.Lts as lts
 
 abbrev Inv-loop : tie.InvT-loop
 Inv-loop out₀ at text end₀ k₀ out end k = (k ≤ length text) × Putting at text out₀ end (drop k text) out
@@ -17,39 +16,30 @@ Inv-loop out₀ at text end₀ k₀ out end k = (k ≤ length text) × Putting a
 abbrev μ-loop : tie.MeasureT-loop
 μ-loop out₀ at text end₀ k₀ out end k = length text - k
 
--- src/puts.rt:14:5
 loop-holds : tie.Need-loop-holds Inv-loop μ-loop
 loop-holds c = (omega arith, begins _ _ _)
 
--- src/puts.rt:16:13
 same-length : tie.Need-same-length Inv-loop μ-loop
 same-length c = c .before .before .loop .inv .1 .same
 
--- src/puts.rt:16:13
 returns : tie.Need-returns Inv-loop μ-loop
 returns c = let l = c .before .before in fills _ _ _ (l .loop .end) (l .loop .out) _ (c .if1 .taken) (l .loop .inv .1)
 
--- src/puts.rt:18:20
 shared-slice-read-out : tie.Need-shared-slice-read-out Inv-loop μ-loop
 shared-slice-read-out c = omega arith
 
--- src/puts.rt:18:9
 slice-write-out : tie.Need-slice-write-out Inv-loop μ-loop
 slice-write-out c = omega arith
 
--- src/puts.rt:19:9
 add-end : tie.Need-add-end Inv-loop μ-loop
 add-end c = omega arith
 
--- src/puts.rt:20:9
 add-k : tie.Need-add-k Inv-loop μ-loop
 add-k c = omega arith
 
--- src/puts.rt:14:5
 loop-less : tie.Need-loop-less Inv-loop μ-loop
 loop-less c = omega arith
 
--- src/puts.rt:14:5
 loop-again : tie.Need-loop-again Inv-loop μ-loop
 loop-again c =
     let l = c .before .before .before in
@@ -59,11 +49,9 @@ loop-again c =
     let q = goes-on _ _ _ (l .loop .end) (l .loop .out) (getD (a .text .now) k 0) (drop (suc k) (a .text .now)) (omega arith) p in
     (omega arith, rw (add-one k, add-one (l .loop .end)) q)
 
--- src/puts.rt:8:1
 same-length-2 : tie.Need-same-length-2 Inv-loop μ-loop
 same-length-2 c = c .before .loop .inv .1 .same
 
--- src/puts.rt:8:1
 returns-2 : tie.Need-returns-2 Inv-loop μ-loop
 returns-2 c =
     let l = c .before in

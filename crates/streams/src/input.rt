@@ -1,5 +1,5 @@
 // Reading standard input, with an error of reading told from its end.
-ghost use Rattle.list.specs.Within.{Within};
+ghost use Rattle.streams.specs.Within.{Within};
 use libc::EINTR;
 use libc::STDIN_FILENO;
 

@@ -2,8 +2,8 @@
 use Prim.Native.Nat.{ℕ}
 use mathlib.Core.List.{List}
 use Rattle.io.specs.Counts.{Counts}
-use Rattle.list.specs.declared.input.Input.{Input}
-use Rattle.list.specs.declared.input.Input.the-variants.{Bytes, Failed}
+use Rattle.streams.specs.declared.input.Input.{Input}
+use Rattle.streams.specs.declared.input.Input.the-variants.{Bytes, Failed}
 
 abbrev pub Within : Input → List ℕ → Type 0
 Within (Bytes n) xs = Counts n xs

@@ -1,12 +1,12 @@
--- `list::input::read_input` meets its contract: what was read lies within the lent bytes, and each turn is counted.
+-- `streams::input::read_input` meets its contract: what was read lies within the lent bytes, and each turn is counted.
 -- Assumes nothing.
 use Prim.Native.Nat.{_≤_}
 use mathlib.Core.Path.{_≡_, sym}
 use lib.ListN.{length}
 use lib.Seq.{length-take-le}
 use borrow.Author.Needs.{needs}
-use Rattle.list.proofs.input.read_input.Statement.{statement}
-use Rattle.list.proofs.input.read_input.Tie as tie
+use Rattle.streams.proofs.input.read_input.Statement.{statement}
+use Rattle.streams.proofs.input.read_input.Tie as tie
 
 abbrev Inv-loop : tie.InvT-loop
 Inv-loop bytes₀ done₀ turns₀ bytes done turns = (done ≤ length bytes) × (length bytes ≡ length bytes₀)

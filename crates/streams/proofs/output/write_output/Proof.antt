@@ -1,10 +1,13 @@
--- `list::output::write_output` is safe and ends: what is written lies within the bytes, and each turn is counted.
+-- `streams::output::write_output` meets its contract: what is written lies within the bytes, each turn is counted, and a turn
+-- is made only where there is a byte.
 -- Assumes nothing.
 use Prim.Native.Nat.{_≤_}
+use mathlib.Core.Path.{refl}
+use native.Mathlib.Omega.{arith}
 use lib.ListN.{length}
 use borrow.Author.Needs.{needs}
-use Rattle.list.proofs.output.write_output.Statement.{statement}
-use Rattle.list.proofs.output.write_output.Tie as tie
+use Rattle.streams.proofs.output.write_output.Statement.{statement}
+use Rattle.streams.proofs.output.write_output.Tie as tie
 
 abbrev Inv-loop : tie.InvT-loop
 Inv-loop bytes done₀ turns₀ done turns = done ≤ length bytes
@@ -16,7 +19,7 @@ loop-holds : tie.Need-loop-holds Inv-loop μ-loop
 loop-holds c = search needs
 
 returns : tie.Need-returns Inv-loop μ-loop
-returns c = search needs
+returns c e = absurd (omega arith)
 
 sub-turns : tie.Need-sub-turns Inv-loop μ-loop
 sub-turns c = search needs
@@ -34,13 +37,13 @@ write-requires : tie.Need-write-requires Inv-loop μ-loop
 write-requires c κs = search needs
 
 returns-2 : tie.Need-returns-2 Inv-loop μ-loop
-returns-2 c = search needs
+returns-2 c e = absurd (omega arith)
 
 errno-requires : tie.Need-errno-requires Inv-loop μ-loop
 errno-requires c κs = search needs
 
 returns-3 : tie.Need-returns-3 Inv-loop μ-loop
-returns-3 c = search needs
+returns-3 c e = absurd (omega arith)
 
 sub-count : tie.Need-sub-count Inv-loop μ-loop
 sub-count c = search needs
@@ -64,7 +67,7 @@ loop-again : tie.Need-loop-again Inv-loop μ-loop
 loop-again c = search needs
 
 returns-4 : tie.Need-returns-4 Inv-loop μ-loop
-returns-4 c = search needs
+returns-4 c e = refl
 
 pub write-output-spec : {M : Type 1} → statement M
 write-output-spec =
