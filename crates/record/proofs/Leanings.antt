@@ -7,7 +7,7 @@ use lib.Dec.{eqb}
 use lib.Ieee.{Float}
 use Rattle.fitter.specs.Attempts.{validOf}
 use Rattle.fitter.specs.declared.attempts.FitAttempt.{FitAttempt}
-use Rattle.record.specs.Leaning.{heightOf, leantOn, leanStep}
+use Rattle.record.specs.Leaning.{voteOf, leantOn, leanStep}
 use Rattle.record.specs.Values.{holeOf}
 use Rattle.record.specs.declared.leaning.Leaning.{Leaning}
 
@@ -27,8 +27,8 @@ step-few : (budget : Float) (answer : ℕ) (l : Leaning) (a : FitAttempt) (n : �
 unfolding leanStep
 step-few budget answer l a n f = go (validOf a)
   where
-    go : (b : Bool) → Few (n + 1) (cond b (leantOn answer l (heightOf (holeOf (a .candidate) budget .place))) l)
-    go true = on-few answer l (heightOf (holeOf (a .candidate) budget .place)) n f
+    go : (b : Bool) → Few (n + 1) (cond b (leantOn answer l (voteOf (holeOf (a .candidate) budget))) l)
+    go true = on-few answer l (voteOf (holeOf (a .candidate) budget)) n f
     go false = (omega (arith, f .0), omega (arith, f .1))
 
 pub still-few : (budget : Float) (answer : ℕ) (l r : Leaning) (a : FitAttempt) (n : ℕ) → r ≡ leanStep budget answer l a → Few n l

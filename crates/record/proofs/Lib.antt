@@ -2,4 +2,5 @@
 pub mod Leanings
 pub mod Patterns
 pub mod Rows
+pub mod Theorems
 pub mod Windows

@@ -29,16 +29,16 @@ ownCutoffs attempt budget = cond (attempt .«has_candidate») (cutoffsOf (attemp
 abbrev pub attemptTemplate : List ℕ
 attemptTemplate =
     linesOf
-    ("attempt#.error_model {FreeSingletonWeibull|SingletonPareto}"
-    ∷ "attempt#.genome_model {NegativeBinomial|ShelfNegativeBinomial}"
-    ∷ "attempt#.reason {valid|OptimisationFailed|NonFiniteLikelihood|InvalidComponents|InvalidWindowMass|ComponentMassExceeded|UnstableModeParameterisation|GenomeLobeOutsideFitWindow|ErrorModePastValley|PrimaryModeOutsideBand|RepeatModeTooEarly|PositiveLogLikelihood}"
-    ∷ "attempt#.cost {-|~}"
-    ∷ "attempt#.bic {-|~}"
-    ∷ "attempt#.iterations #"
-    ∷ "attempt#.capped_starts #"
-    ∷ "attempt#.hole {none|#|-}{ sure| unsure: the allowed share is not finite| unsure: a probability is not from 0 to 2| no walk| refused|}"
-    ∷ "attempt#.crossover {none|#|-}"
-    ∷ "attempt#.error_floor {none|#|-}"
+    ("attempt.#.error_model {FreeSingletonWeibull|SingletonPareto}"
+    ∷ "attempt.#.genome_model {NegativeBinomial|ShelfNegativeBinomial}"
+    ∷ "attempt.#.reason {valid|OptimisationFailed|NonFiniteLikelihood|InvalidComponents|InvalidWindowMass|ComponentMassExceeded|UnstableModeParameterisation|GenomeLobeOutsideFitWindow|ErrorModePastValley|PrimaryModeOutsideBand|RepeatModeTooEarly|PositiveLogLikelihood}"
+    ∷ "attempt.#.cost {-|~}"
+    ∷ "attempt.#.bic {-|~}"
+    ∷ "attempt.#.total_iterations #"
+    ∷ "attempt.#.capped_starts #"
+    ∷ "attempt.#.hole {none|#|-}{ sure| unsure: the allowed share is not finite| unsure: a probability is not from 0 to 2| no walk| refused|}"
+    ∷ "attempt.#.crossover {none|#|-}"
+    ∷ "attempt.#.error_floor {none|#|-}"
     ∷ [])
 
 -- the cost is what the log-likelihood was made of, with the other sign

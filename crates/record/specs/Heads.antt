@@ -1,10 +1,10 @@
 -- What was asked, what the spectrum has, and what is refused, as lines. Definitions only. Assumes nothing.
 use Prim.Native.Nat.{ℕ, _*_, _-_}
-use mathlib.Core.Bool.{Bool, cond}
+use mathlib.Core.Bool.{Bool, not, cond}
 use mathlib.Core.List.{List, [], _∷_}
 use lib.Dec.{ltb, leb}
-use lib.Ieee.{Float, binary64, ofBits}
-use Rattle.routines.specs.Constants.{half, two, three, four}
+use lib.Ieee.{Float, binary64, ofBits, lt, le}
+use Rattle.routines.specs.Constants.{half, one, two, three, four}
 use Rattle.templates.specs.Filling.{filledOf}
 use Rattle.record.specs.Lines.{linesOf}
 use Rattle.record.specs.Values.{patternOf, flagOf}
@@ -35,6 +35,7 @@ askedTemplate =
     ∷ "scale ~"
     ∷ "hint ~"
     ∷ "mass_limit ~"
+    ∷ "window_end_asked {-|#}"
     ∷ "seed.1 ~"
     ∷ "seed.2 ~"
     ∷ "seed.3 ~"
@@ -45,7 +46,10 @@ askedTemplate =
     ∷ "configuration.1 SingletonPareto NegativeBinomial"
     ∷ "configuration.2 FreeSingletonWeibull NegativeBinomial"
     ∷ "configuration.3 SingletonPareto ShelfNegativeBinomial"
-    ∷ "configuration.4 FreeSingletonWeibull ShelfNegativeBinomial"
+    ∷ "configuration.4 FreeSingletonWeibull ShelfNegativeBinomial{|"
+    ∷ "warning.valley it is not below the peak}{|"
+    ∷ "warning.scale it is below 1, and 1 is used}{|"
+    ∷ "warning.hint it is not above 1, and 2 is used}"
     ∷ [])
 
 abbrev pub version : ℕ
@@ -55,8 +59,10 @@ abbrev pub askedValues : Asked → List ℕ
 askedValues a =
     version ∷ a .valley ∷ a .peak
     ∷ patternOf (a .budget) ∷ patternOf (a .scale) ∷ patternOf (a .hint) ∷ patternOf (a .«mass_limit»)
+    ∷ flagOf (a .«window_given») ∷ a .«window_end»
     ∷ patternOf two ∷ patternOf eight ∷ patternOf fifteen
-    ∷ patternOf half ∷ patternOf three ∷ patternOf threeQuarters ∷ patternOf four ∷ []
+    ∷ patternOf half ∷ patternOf three ∷ patternOf threeQuarters ∷ patternOf four
+    ∷ flagOf (leb (a .peak) (a .valley)) ∷ flagOf (not (le one (a .scale))) ∷ flagOf (not (lt one (a .hint))) ∷ []
 
 abbrev pub askedText : Asked → List ℕ
 askedText a = filledOf askedTemplate (askedValues a)
@@ -71,25 +77,27 @@ windowRule peak bins = cond (isFull peak bins) (6 * peak) (bins - 1)
 unfoldable pub windowEndOf : Asked → ℕ → ℕ
 windowEndOf a bins = cond (a .«window_given») (a .«window_end») (windowRule (a .peak) bins)
 
+-- 0 cut, 1 full, 2 given
+unfoldable pub windowKind : Asked → ℕ → ℕ
+windowKind a bins = cond (a .«window_given») 2 (flagOf (isFull (a .peak) bins))
+
 abbrev pub spectrumTemplate : List ℕ
 spectrumTemplate =
     linesOf
     ("bins #"
     ∷ "window_end #"
-    ∷ "window {cut|full}{|"
-    ∷ "warning the valley is not below the peak}{|"
-    ∷ "warning the peak lies beyond the bins}"
+    ∷ "window {cut|full|given}{|"
+    ∷ "warning.peak it lies beyond the window}"
     ∷ [])
 
 abbrev pub spectrumValues : Asked → ℕ → List ℕ
 spectrumValues a bins =
-    bins ∷ windowEndOf a bins ∷ flagOf (isFull (a .peak) bins) ∷ flagOf (leb (a .peak) (a .valley))
-    ∷ flagOf (ltb bins (a .peak)) ∷ []
+    bins ∷ windowEndOf a bins ∷ windowKind a bins ∷ flagOf (ltb (windowEndOf a bins) (a .peak)) ∷ []
 
 abbrev pub spectrumText : Asked → ℕ → List ℕ
 spectrumText a bins = filledOf spectrumTemplate (spectrumValues a bins)
 
--- ---- a refusal by its number, as document 01 has it
+-- ---- a refusal by its number, in document 01's words as far as a pick can meet it
 abbrev pub refusalTemplate : List ℕ
 refusalTemplate =
     linesOf

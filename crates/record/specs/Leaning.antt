@@ -1,5 +1,6 @@
--- How far the answer can be leant on: how many of the valid attempts give the same hole cutoff, and from which to which the
--- cutoffs of the valid ones go. None counts as above every cutoff. Definitions only. Assumes nothing.
+-- How far the answer can be leant on: how many of the valid attempts give the same hole cutoff, sure or not, and from which
+-- to which the cutoffs of the valid ones go. None counts as above every cutoff. An attempt without a walk has no cutoff, and
+-- agrees only with an answer without one. Definitions only. Assumes nothing.
 use Prim.Native.Nat.{ℕ, _+_}
 use mathlib.Core.Bool.{Bool, cond}
 use mathlib.Core.List.{List, [], _∷_}
@@ -12,36 +13,39 @@ use Rattle.record.specs.declared.values.Hole.{Hole}
 use Rattle.record.specs.declared.values.Place.{Place}
 use Rattle.record.specs.declared.leaning.Leaning.{Leaning}
 
--- above every cutoff
+-- above every cutoff, and no cutoff at all
 abbrev pub NONE : ℕ
 NONE = 65536
 
-unfoldable pub heightOf : Place → ℕ
-heightOf p = cond (eqb (p .part) 1) (p .at) NONE
+abbrev pub NO-WALK : ℕ
+NO-WALK = 65537
+
+unfoldable pub voteOf : Hole → ℕ
+voteOf h = cond (eqb (h .kind) 3) NO-WALK (cond (eqb (h .place .part) 1) (h .place .at) NONE)
+
+-- no attempt yet
+abbrev pub unleant : Leaning
+unleant = record { valid = 0; same = 0; least = NO-WALK; largest = 0 }
 
 unfoldable pub leastOf : ℕ → ℕ → ℕ
 leastOf a b = cond (ltb b a) b a
 
 unfoldable pub largestOf : ℕ → ℕ → ℕ
-largestOf a b = cond (ltb a b) b a
+largestOf a b = cond (ltb a b) (cond (eqb b NO-WALK) a b) a
 
--- no attempt yet
-abbrev pub unleant : Leaning
-unleant = record { valid = 0; same = 0; least = NONE; largest = 0 }
-
--- one valid attempt more, whose hole cutoff is h
+-- one valid attempt more, which votes v
 unfoldable pub leantOn : ℕ → Leaning → ℕ → Leaning
-leantOn answer l h =
+leantOn answer l v =
     record {
       valid = l .valid + 1;
-      same = cond (eqb h answer) (l .same + 1) (l .same);
-      least = leastOf (l .least) h;
-      largest = largestOf (l .largest) h;
+      same = cond (eqb v answer) (l .same + 1) (l .same);
+      least = leastOf (l .least) v;
+      largest = largestOf (l .largest) v;
     }
 
 unfoldable pub leanStep : Float → ℕ → Leaning → FitAttempt → Leaning
 leanStep budget answer l attempt =
-    cond (validOf attempt) (leantOn answer l (heightOf (holeOf (attempt .candidate) budget .place))) l
+    cond (validOf attempt) (leantOn answer l (voteOf (holeOf (attempt .candidate) budget))) l
 
 unfoldable pub leaningOf : Float → ℕ → List FitAttempt → Leaning → Leaning
 leaningOf budget answer [] l = l

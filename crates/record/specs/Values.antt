@@ -53,7 +53,7 @@ abbrev pub rejectionNumber : RejectionPart → ℕ
 rejectionNumber rejection.Absent = 0
 rejectionNumber (rejection.Present r) = reasonNumber r
 
--- ---- a cutoff: 0 for none, 1 for a count, 2 where there is no fit to ask
+-- ---- a cutoff: 0 for none, 1 for a count, 2 where there is no fit to ask, or it is refused
 abbrev pub noPlace : Place
 noPlace = record { part = 2; at = 0 }
 
@@ -72,19 +72,19 @@ floorPlace (broken place) = noPlace
 floorPlace (give c) = record { part = 1; at = c }
 
 -- ---- the hole cutoff: 0 sure, 1 the allowed share is not finite, 2 a probability is not from 0 to 2, 3 no walk, 4 refused,
--- 5 no fit to ask
+-- 5 no fit to ask; and the number where it is refused
 abbrev pub noHole : Hole
-noHole = record { place = noPlace; kind = 5 }
+noHole = record { place = noPlace; kind = 5; number = 0 }
 
 unfoldable pub whyNot : Float → ℕ
 whyNot allowed = cond (finite allowed) 2 1
 
 abbrev pub holeIn : ℕ → Reply Sureness → Hole
-holeIn why (refuse n) = record { place = record { part = 1; at = n }; kind = 4 }
+holeIn why (refuse n) = record { place = noPlace; kind = 4; number = n }
 holeIn why (broken place) = noHole
-holeIn why (give (sure found)) = record { place = placeIn found; kind = 0 }
-holeIn why (give (notSure found)) = record { place = placeIn found; kind = why }
-holeIn why (give noWalk) = record { place = placeIn none; kind = 3 }
+holeIn why (give (sure found)) = record { place = placeIn found; kind = 0; number = 0 }
+holeIn why (give (notSure found)) = record { place = placeIn found; kind = why; number = 0 }
+holeIn why (give noWalk) = record { place = placeIn none; kind = 3; number = 0 }
 
 abbrev pub holeOf : SpectrumFit → Float → Hole
 holeOf fit budget = holeIn (whyNot (allowedOf fit budget)) (holeCutoffSureOf fit budget)

@@ -45,6 +45,7 @@ pub(crate) fn own_cutoffs(attempt: FitAttempt, budget: f64) -> Cutoffs
         hole: Hole {
             place: Place { part: 2, at: 0 },
             kind: 5,
+            number: 0,
         },
         crossover: Place { part: 2, at: 0 },
         floor: Place { part: 2, at: 0 },
@@ -97,16 +98,16 @@ pub(crate) fn put_attempt(out: &mut [u8], at: usize, k: u64, a: FitAttempt, budg
     fill(
         out,
         at,
-        b"attempt#.error_model {FreeSingletonWeibull|SingletonPareto}
-attempt#.genome_model {NegativeBinomial|ShelfNegativeBinomial}
-attempt#.reason {valid|OptimisationFailed|NonFiniteLikelihood|InvalidComponents|InvalidWindowMass|ComponentMassExceeded|UnstableModeParameterisation|GenomeLobeOutsideFitWindow|ErrorModePastValley|PrimaryModeOutsideBand|RepeatModeTooEarly|PositiveLogLikelihood}
-attempt#.cost {-|~}
-attempt#.bic {-|~}
-attempt#.iterations #
-attempt#.capped_starts #
-attempt#.hole {none|#|-}{ sure| unsure: the allowed share is not finite| unsure: a probability is not from 0 to 2| no walk| refused|}
-attempt#.crossover {none|#|-}
-attempt#.error_floor {none|#|-}
+        b"attempt.#.error_model {FreeSingletonWeibull|SingletonPareto}
+attempt.#.genome_model {NegativeBinomial|ShelfNegativeBinomial}
+attempt.#.reason {valid|OptimisationFailed|NonFiniteLikelihood|InvalidComponents|InvalidWindowMass|ComponentMassExceeded|UnstableModeParameterisation|GenomeLobeOutsideFitWindow|ErrorModePastValley|PrimaryModeOutsideBand|RepeatModeTooEarly|PositiveLogLikelihood}
+attempt.#.cost {-|~}
+attempt.#.bic {-|~}
+attempt.#.total_iterations #
+attempt.#.capped_starts #
+attempt.#.hole {none|#|-}{ sure| unsure: the allowed share is not finite| unsure: a probability is not from 0 to 2| no walk| refused|}
+attempt.#.crossover {none|#|-}
+attempt.#.error_floor {none|#|-}
 ",
         &values,
     )

@@ -118,9 +118,9 @@ fit.w_repeat ~
 fit.mean ~
 fit.dispersion ~
 fit.target_mode ~
-fit.singleton_probability ~
-fit.tail_exponent ~
-fit.weibull_shape {-|~}
+fit.error_params.singleton_probability ~
+fit.error_params.tail_exponent ~
+fit.error_params.weibull_shape {-|~}
 fit.shelf.share {-|~}
 fit.shelf.alpha {-|~}
 fit.shelf.beta {-|~}

@@ -2,7 +2,7 @@
 ghost use mathlib.Core.Path.{_≡_};
 ghost use lib.ListN.{length};
 ghost use Rattle.templates.specs.Cut.{putAt, endAt};
-ghost use Rattle.record.specs.Heads.{isFull, windowRule, windowEndOf, askedText, spectrumText, refusalText, placeText};
+ghost use Rattle.record.specs.Heads.{isFull, windowRule, windowEndOf, windowKind, askedText, spectrumText, refusalText, placeText};
 use crate::values::flag;
 use crate::values::pattern;
 use templates::filling::fill;
@@ -60,6 +60,16 @@ pub fn window_end_of(asked: Asked, bins: usize) -> usize
     window_rule(asked.peak, bins)
 }
 
+// 0 cut, 1 full, 2 given.
+fn window_kind(asked: Asked, bins: usize) -> u64
+    ensures { λ r. ⌜ r ≡ windowKind asked bins ⌝ }
+{
+    if asked.window_given {
+        return 2;
+    }
+    flag(is_full(asked.peak, bins))
+}
+
 pub(crate) fn put_asked(out: &mut [u8], at: usize, a: Asked) -> usize
     ensures { λ r. ⌜ r ≡ endAt at (askedText a) (length (now (out .entry))) ⌝ }
     ensures { λ _. ⌜ now (out .exit) ≡ putAt at (askedText a) (now (out .entry)) ⌝ }
@@ -74,6 +84,8 @@ pub(crate) fn put_asked(out: &mut [u8], at: usize, a: Asked) -> usize
         pattern(a.scale),
         pattern(a.hint),
         pattern(a.mass_limit),
+        flag(a.window_given),
+        a.window_end as u64,
         pattern(seeds[0]),
         pattern(seeds[1]),
         pattern(seeds[2]),
@@ -81,6 +93,9 @@ pub(crate) fn put_asked(out: &mut [u8], at: usize, a: Asked) -> usize
         pattern(shapes[1]),
         pattern(shapes[2]),
         pattern(shapes[3]),
+        flag(a.peak <= a.valley),
+        flag(!(a.scale >= 1.0)),
+        flag(!(a.hint > 1.0)),
     ];
     fill(
         out,
@@ -93,6 +108,7 @@ budget ~
 scale ~
 hint ~
 mass_limit ~
+window_end_asked {-|#}
 seed.1 ~
 seed.2 ~
 seed.3 ~
@@ -103,7 +119,10 @@ shape.2.concentration ~
 configuration.1 SingletonPareto NegativeBinomial
 configuration.2 FreeSingletonWeibull NegativeBinomial
 configuration.3 SingletonPareto ShelfNegativeBinomial
-configuration.4 FreeSingletonWeibull ShelfNegativeBinomial
+configuration.4 FreeSingletonWeibull ShelfNegativeBinomial{|
+warning.valley it is not below the peak}{|
+warning.scale it is below 1, and 1 is used}{|
+warning.hint it is not above 1, and 2 is used}
 ",
         &values,
     )
@@ -113,21 +132,20 @@ pub(crate) fn put_spectrum(out: &mut [u8], at: usize, a: Asked, bins: usize) -> 
     ensures { λ r. ⌜ r ≡ endAt at (spectrumText a bins) (length (now (out .entry))) ⌝ }
     ensures { λ _. ⌜ now (out .exit) ≡ putAt at (spectrumText a bins) (now (out .entry)) ⌝ }
 {
+    let end = window_end_of(a, bins);
     let values = [
         bins as u64,
-        window_end_of(a, bins) as u64,
-        flag(is_full(a.peak, bins)),
-        flag(a.peak <= a.valley),
-        flag(bins < a.peak),
+        end as u64,
+        window_kind(a, bins),
+        flag(end < a.peak),
     ];
     fill(
         out,
         at,
         b"bins #
 window_end #
-window {cut|full}{|
-warning the valley is not below the peak}{|
-warning the peak lies beyond the bins}
+window {cut|full|given}{|
+warning.peak it lies beyond the window}
 ",
         &values,
     )

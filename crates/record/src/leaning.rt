@@ -2,14 +2,15 @@
 ghost use mathlib.Core.Path.{_≡_};
 ghost use Prim.Native.Nat.{_<_};
 ghost use mathlib.Core.List.{[], _∷_};
-ghost use Rattle.record.specs.Leaning.{heightOf, leastOf, largestOf, leantOn, leanStep, unleant, leaningOf};
-use crate::values::Place;
+ghost use Rattle.record.specs.Leaning.{voteOf, leastOf, largestOf, leantOn, leanStep, unleant, leaningOf};
+use crate::values::Hole;
 use crate::values::hole_of;
 use fitter::attempts::FitAttempt;
 use fitter::attempts::is_valid;
 
-// Above every cutoff.
+// Above every cutoff, and no cutoff at all.
 pub(crate) const NONE: u64 = 65536;
+pub(crate) const NO_WALK: u64 = 65537;
 
 pub struct Leaning {
     pub valid: u8,
@@ -18,11 +19,16 @@ pub struct Leaning {
     pub largest: u64,
 }
 
-pub(crate) fn height(p: Place) -> u64
-    ensures { λ r. ⌜ r ≡ heightOf p ⌝ }
+// What an attempt says of the hole cutoff.
+pub(crate) fn vote(h: Hole) -> u64
+    ensures { λ r. ⌜ r ≡ voteOf h ⌝ }
 {
-    if p.part == 1 {
-        return p.at;
+    let place = h.place;
+    if h.kind == 3 {
+        return NO_WALK;
+    }
+    if place.part == 1 {
+        return place.at;
     }
     NONE
 }
@@ -40,18 +46,21 @@ fn largest(a: u64, b: u64) -> u64
     ensures { λ r. ⌜ r ≡ largestOf a b ⌝ }
 {
     if a < b {
+        if b == NO_WALK {
+            return a;
+        }
         return b;
     }
     a
 }
 
-fn lean_on(answer: u64, l: Leaning, h: u64) -> Leaning
+fn lean_on(answer: u64, l: Leaning, v: u64) -> Leaning
     requires { ⌜ (l .valid < 4) × (l .same < 4) ⌝ }
-    ensures { λ r. ⌜ r ≡ leantOn answer l h ⌝ }
+    ensures { λ r. ⌜ r ≡ leantOn answer l v ⌝ }
 {
-    let low = least(l.least, h);
-    let high = largest(l.largest, h);
-    if h == answer {
+    let low = least(l.least, v);
+    let high = largest(l.largest, v);
+    if v == answer {
         return Leaning {
             valid: l.valid + 1,
             same: l.same + 1,
@@ -73,14 +82,12 @@ fn lean(budget: f64, answer: u64, l: Leaning, attempt: FitAttempt) -> Leaning
 {
     let fit = attempt.candidate;
     if is_valid(attempt) {
-        let hole = hole_of(fit, budget);
-        let place = hole.place;
-        return lean_on(answer, l, height(place));
+        return lean_on(answer, l, vote(hole_of(fit, budget)));
     }
     l
 }
 
-// Over four attempts, beside the answer's hole cutoff.
+// Over four attempts, beside the answer's vote.
 pub(crate) fn leaning_of(
     budget: f64,
     answer: u64,
@@ -94,7 +101,7 @@ pub(crate) fn leaning_of(
     let none = Leaning {
         valid: 0,
         same: 0,
-        least: NONE,
+        least: NO_WALK,
         largest: 0,
     };
     let first = lean(budget, answer, none, a);

@@ -4,7 +4,7 @@ ghost use mathlib.Core.List.{[], _∷_};
 ghost use lib.ListN.{length};
 ghost use Rattle.fitter.specs.Selection.{selectOf};
 ghost use Rattle.templates.specs.Cut.{putAt, endAt};
-ghost use Rattle.record.specs.Record.{isBelow, answerText, noFit, refusedLast, lastKind, lastIn, lastText, chosenText, selectedText, attemptsText, recordOf, refusedOf, brokenOf};
+ghost use Rattle.record.specs.Record.{isBelow, isLeast, endPart, answerText, noFit, refusedLast, lastIn, lastOf, lastText, chosenText, selectedText, attemptsText, recordOf, refusedOf, brokenOf};
 use crate::attempt_lines::Cutoffs;
 use crate::attempt_lines::cutoffs_of;
 use crate::attempt_lines::put_attempt;
@@ -16,10 +16,13 @@ use crate::heads::put_refusal;
 use crate::heads::put_spectrum;
 use crate::leaning::Leaning;
 use crate::leaning::NONE;
-use crate::leaning::height;
+use crate::leaning::NO_WALK;
 use crate::leaning::leaning_of;
+use crate::leaning::vote;
 use crate::values::Hole;
 use crate::values::flag;
+use crate::values::hole_of;
+use crate::values::pattern;
 use fitter::attempts::FitAttempt;
 use fitter::selection::Selected;
 use fitter::selection::select_fit;
@@ -45,9 +48,31 @@ fn is_below(c: Cutoffs) -> bool
     place.at < floor.at
 }
 
-fn put_answer(out: &mut [u8], at: usize, c: Cutoffs, l: Leaning) -> usize
-    ensures { λ r. ⌜ r ≡ endAt at (answerText c l) (length (now (out .entry))) ⌝ }
-    ensures { λ _. ⌜ now (out .exit) ≡ putAt at (answerText c l) (now (out .entry)) ⌝ }
+// Whether it is 2, the least that there is.
+fn is_least(c: Cutoffs) -> bool
+    ensures { λ r. ⌜ r ≡ isLeast c ⌝ }
+{
+    let hole = c.hole;
+    let place = hole.place;
+    if place.part != 1 {
+        return false;
+    }
+    place.at == 2
+}
+
+// 0 for a count, 1 for none, 2 where no valid attempt has a walk.
+fn end_part(l: Leaning, v: u64) -> u64
+    ensures { λ r. ⌜ r ≡ endPart l v ⌝ }
+{
+    if l.least == NO_WALK {
+        return 2;
+    }
+    flag(v == NONE)
+}
+
+fn put_answer(out: &mut [u8], at: usize, share: f64, c: Cutoffs, l: Leaning) -> usize
+    ensures { λ r. ⌜ r ≡ endAt at (answerText share c l) (length (now (out .entry))) ⌝ }
+    ensures { λ _. ⌜ now (out .exit) ≡ putAt at (answerText share c l) (now (out .entry)) ⌝ }
 {
     let hole = c.hole;
     let place = hole.place;
@@ -57,56 +82,73 @@ fn put_answer(out: &mut [u8], at: usize, c: Cutoffs, l: Leaning) -> usize
         place.part,
         place.at,
         hole.kind,
+        pattern(share),
         crossover.part,
         crossover.at,
         floor.part,
         floor.at,
         flag(is_below(c)),
+        flag(is_least(c)),
         l.valid as u64,
         l.same as u64,
-        flag(l.least == NONE),
+        end_part(l, l.least),
         l.least,
-        flag(l.largest == NONE),
+        end_part(l, l.largest),
         l.largest,
     ];
     fill(
         out,
         at,
         b"hole {none|#|-}{ sure| unsure: the allowed share is not finite| unsure: a probability is not from 0 to 2| no walk| refused|}
+allowed_share ~
 crossover {none|#|-}
 error_floor {none|#|-}{|
-below floor}
+below floor}{|
+least cutoff: what it removes may be more than the budget}
 valid_attempts #
 same_hole #
-least_hole {#|none}
-largest_hole {#|none}
+least_hole {#|none|-}
+largest_hole {#|none|-}
 ",
         &values,
     )
 }
 
 // Sure, or no walk: a cutoff.
-fn last_kind(kind: u64) -> u64
-    ensures { λ r. ⌜ r ≡ lastKind kind ⌝ }
-{
-    if kind == 0 {
-        return 0;
-    }
-    if kind == 3 {
-        return 0;
-    }
-    if kind == 4 {
-        return 3;
-    }
-    1
-}
-
 fn last_in(h: Hole) -> Last
     ensures { λ r. ⌜ r ≡ lastIn h ⌝ }
 {
     let place = h.place;
+    if h.kind == 0 {
+        return Last {
+            kind: 0,
+            part: place.part,
+            at: place.at,
+        };
+    }
+    if h.kind == 3 {
+        return Last {
+            kind: 0,
+            part: place.part,
+            at: place.at,
+        };
+    }
+    if h.kind == 4 {
+        return Last {
+            kind: 3,
+            part: 1,
+            at: h.number,
+        };
+    }
+    if h.kind == 5 {
+        return Last {
+            kind: 2,
+            part: 2,
+            at: 0,
+        };
+    }
     Last {
-        kind: last_kind(h.kind),
+        kind: 1,
         part: place.part,
         at: place.at,
     }
@@ -141,10 +183,9 @@ fn put_chosen(
 {
     let cutoffs = cutoffs_of(fit, budget);
     let hole = cutoffs.hole;
-    let place = hole.place;
-    let l = leaning_of(budget, height(place), a, b, c, d);
+    let l = leaning_of(budget, vote(hole), a, b, c, d);
     let first = put_fit(out, at, fit);
-    let second = put_answer(out, first, cutoffs, l);
+    let second = put_answer(out, first, budget / fit.genome_kmers, cutoffs, l);
     put_last(out, second, last_in(hole))
 }
 
@@ -192,6 +233,22 @@ fn put_attempts(
     let second = put_attempt(out, first, 2, b, budget);
     let third = put_attempt(out, second, 3, c, budget);
     put_attempt(out, third, 4, d, budget)
+}
+
+// The last line of their record.
+pub fn last_line(budget: f64, a: FitAttempt, b: FitAttempt, c: FitAttempt, d: FitAttempt) -> Last
+    ensures { λ r. ⌜ r ≡ lastOf budget (selectOf (a ∷ b ∷ c ∷ d ∷ [])) ⌝ }
+{
+    let selected = select_fit([a, b, c, d]);
+    let fit = selected.fit;
+    if selected.found {
+        return last_in(hole_of(fit, budget));
+    }
+    Last {
+        kind: 2,
+        part: 2,
+        at: 0,
+    }
 }
 
 // The record of four attempts at a spectrum of so many bins, into the lent bytes, as far as there is room. The answer is how

@@ -4,7 +4,7 @@ ghost use mathlib.Core.Option.{some};
 ghost use Rattle.cutoffs.specs.Cutoffs.{allowedOf, cutoffSays, sureSays};
 ghost use Rattle.cutoffs.specs.HeightCutoffs.{crossoverOf, errorFloorOf, floorSays};
 ghost use Rattle.cutoffs.specs.Walk.{partSays};
-ghost use Rattle.record.specs.Values.{patternOf, flagOf, errorNumber, genomeNumber, reasonNumber, rejectionNumber, noPlace, noHole, placeIn, crossoverPlace, floorPlace, whyNot, holeIn, holeOf};
+ghost use Rattle.record.specs.Values.{patternOf, flagOf, errorNumber, genomeNumber, reasonNumber, rejectionNumber, noPlace, placeIn, crossoverPlace, floorPlace, whyNot, holeIn, holeOf};
 use cutoffs::cutoffs::Cutoff;
 use cutoffs::cutoffs::SureCutoff;
 use cutoffs::cutoffs::hole_cutoff_sure;
@@ -19,21 +19,22 @@ use models::families::GenomeModel;
 use models::fit::SpectrumFit;
 use routines::pick::is_finite;
 
-// A cutoff: 0 for none, 1 for a count, 2 where there is no fit to ask.
+// A cutoff: 0 for none, 1 for a count, 2 where there is no fit to ask, or it is refused.
 pub struct Place {
     pub part: u64,
     pub at: u64,
 }
 
 // The hole cutoff, and how sure it is: 0 sure, 1 the allowed share is not finite, 2 a probability is not from 0 to 2, 3 no
-// walk, 4 refused, 5 no fit to ask.
+// walk, 4 refused, 5 no fit to ask; and the number where it is refused.
 pub struct Hole {
     pub place: Place,
     pub kind: u64,
+    pub number: u64,
 }
 
 // Every NaN has the same pattern.
-pub(crate) fn pattern(x: f64) -> u64
+pub fn pattern(x: f64) -> u64
     ensures { λ r. ⌜ r ≡ patternOf x ⌝ }
 {
     if x != x {
@@ -99,15 +100,6 @@ fn no_place() -> Place
     Place { part: 2, at: 0 }
 }
 
-pub(crate) fn no_hole() -> Hole
-    ensures { λ r. ⌜ r ≡ noHole ⌝ }
-{
-    Hole {
-        place: Place { part: 2, at: 0 },
-        kind: 5,
-    }
-}
-
 fn place_in(found: CutoffPart) -> Place
     ensures { λ r. ⌜ r ≡ placeIn (partSays found) ⌝ }
 {
@@ -161,21 +153,22 @@ fn hole_in(why: u64, answer: SureCutoff) -> Hole
         SureCutoff::Sure(found) => Hole {
             place: place_in(found),
             kind: 0,
+            number: 0,
         },
         SureCutoff::NotSure(found) => Hole {
             place: place_in(found),
             kind: why,
+            number: 0,
         },
         SureCutoff::NoWalk => Hole {
             place: Place { part: 0, at: 0 },
             kind: 3,
+            number: 0,
         },
         SureCutoff::Refused(n) => Hole {
-            place: Place {
-                part: 1,
-                at: n as u64,
-            },
+            place: no_place(),
             kind: 4,
+            number: n as u64,
         },
     }
 }

@@ -2,8 +2,8 @@
 --     #         the value in decimal
 --     ~         the value as the pattern of a float
 --     {a|b|c}   the part whose number, from 0, is the value
--- Marks in a part that is not shown take their values too, so that each mark's value has its place. Behind the last value
--- come zeros. Definitions only. Assumes nothing.
+-- Braces do not nest, and a bar stands between braces alone. Marks in a part that is not shown take their values too, so
+-- that each mark's value has its place. Behind the last value come zeros. Definitions only. Assumes nothing.
 use Prim.Native.Nat.{ℕ, suc, _-_, _+_}
 use mathlib.Core.Bool.{Bool, _||_, cond}
 use mathlib.Core.List.{List, [], _∷_, _++_}

@@ -1,5 +1,6 @@
 -- A float as text: its pattern in 16 hexadecimal digits, which is the value; then, for eyes, the number in decimal with six
--- places, where it is below 2^53, and `-` where it is not, or is a NaN. Definitions only. Assumes nothing.
+-- places where its size is below 2^53, and `-` where it is not, or is a NaN. The last place is worked out in f64, a half away
+-- from zero, so it may be one off. Definitions only. Assumes nothing.
 use Prim.Native.Nat.{ℕ, _/_, _%_}
 use mathlib.Core.Bool.{Bool, cond}
 use mathlib.Core.List.{List, [], _∷_, _++_}
@@ -19,7 +20,7 @@ MILLION = ofBits binary64 0x412e848000000000
 abbrev pub FAR : Float
 FAR = ofBits binary64 0x4340000000000000
 
--- ---- a number t from 0 to 2^53: its whole part, and the rest in millionths, rounded; a whole million is carried
+-- ---- a number t of 0 or more, below 2^53: its whole part, and the rest in millionths, rounded; a whole million is carried
 abbrev pub restOf : Float → Float
 restOf t = roundOf ((t ⊖ floorOf t) ⊗ MILLION)
 

@@ -20,6 +20,9 @@ pattern-requires-3 c κs = search needs
 pattern-requires-4 : tie.Need-pattern-requires-4
 pattern-requires-4 c κs = search needs
 
+flag-requires : tie.Need-flag-requires
+flag-requires c κs = search needs
+
 array-read-pattern : tie.Need-array-read-pattern
 array-read-pattern c = search needs
 
@@ -62,6 +65,15 @@ array-read-pattern-7 c = search needs
 pattern-requires-11 : tie.Need-pattern-requires-11
 pattern-requires-11 c κs = search needs
 
+flag-requires-2 : tie.Need-flag-requires-2
+flag-requires-2 c κs = search needs
+
+flag-requires-3 : tie.Need-flag-requires-3
+flag-requires-3 c κs = search needs
+
+flag-requires-4 : tie.Need-flag-requires-4
+flag-requires-4 c κs = search needs
+
 slice-aggregate-fill : tie.Need-slice-aggregate-fill
 slice-aggregate-fill c = search needs
 
@@ -81,17 +93,22 @@ returns c =
     (refl
     also refl
     also refl
-    also c .before .before .before .before .before .before .before .before .before .before .before .before .before .before .before .before .pattern .ensures
-    also c .before .before .before .before .before .before .before .before .before .before .before .before .before .before .before .pattern2 .ensures
-    also c .before .before .before .before .before .before .before .before .before .before .before .before .before .before .pattern3 .ensures
-    also c .before .before .before .before .before .before .before .before .before .before .before .before .before .pattern4 .ensures
-    also c .before .before .before .before .before .before .before .before .before .before .before .before .pattern5 .ensures
-    also c .before .before .before .before .before .before .before .before .before .before .before .pattern6 .ensures
-    also c .before .before .before .before .before .before .before .before .before .before .pattern7 .ensures
-    also c .before .before .before .before .before .before .before .before .before .pattern8 .ensures
-    also c .before .before .before .before .before .before .before .before .pattern9 .ensures
-    also c .before .before .before .before .before .before .before .pattern10 .ensures
-    also c .before .before .before .before .before .before .pattern11 .ensures
+    also c .before .before .before .before .before .before .before .before .before .before .before .before .before .before .before .before .before .before .before .before .before .before .before .pattern .ensures
+    also c .before .before .before .before .before .before .before .before .before .before .before .before .before .before .before .before .before .before .before .before .before .before .pattern2 .ensures
+    also c .before .before .before .before .before .before .before .before .before .before .before .before .before .before .before .before .before .before .before .before .before .pattern3 .ensures
+    also c .before .before .before .before .before .before .before .before .before .before .before .before .before .before .before .before .before .before .before .before .pattern4 .ensures
+    also c .before .before .before .before .before .before .before .before .before .before .before .before .before .before .before .before .before .before .before .flag .ensures
+    also refl
+    also c .before .before .before .before .before .before .before .before .before .before .before .before .before .before .before .before .before .before .pattern5 .ensures
+    also c .before .before .before .before .before .before .before .before .before .before .before .before .before .before .before .before .before .pattern6 .ensures
+    also c .before .before .before .before .before .before .before .before .before .before .before .before .before .before .before .before .pattern7 .ensures
+    also c .before .before .before .before .before .before .before .before .before .before .before .before .before .before .before .pattern8 .ensures
+    also c .before .before .before .before .before .before .before .before .before .before .before .before .before .before .pattern9 .ensures
+    also c .before .before .before .before .before .before .before .before .before .before .before .before .before .pattern10 .ensures
+    also c .before .before .before .before .before .before .before .before .before .before .before .before .pattern11 .ensures
+    also c .before .before .before .before .before .before .before .before .before .before .flag2 .ensures
+    also c .before .before .before .before .before .before .before .before .flag3 .ensures
+    also c .before .before .before .before .before .before .flag4 .ensures
     also refl))
     (c .before .before .fill .ensures)
 
@@ -103,6 +120,7 @@ put-asked-spec =
     pattern-requires-2
     pattern-requires-3
     pattern-requires-4
+    flag-requires
     array-read-pattern
     pattern-requires-5
     array-read-pattern-2
@@ -117,6 +135,9 @@ put-asked-spec =
     pattern-requires-10
     array-read-pattern-7
     pattern-requires-11
+    flag-requires-2
+    flag-requires-3
+    flag-requires-4
     slice-aggregate-fill
     slice-aggregate-fill-2
     fill-requires

@@ -6,17 +6,11 @@ use Rattle.record.proofs.heads.put_spectrum.Tie as tie
 window-end-of-requires : tie.Need-window-end-of-requires
 window-end-of-requires c κs = search needs
 
-is-full-requires : tie.Need-is-full-requires
-is-full-requires c κs = search needs
+window-kind-requires : tie.Need-window-kind-requires
+window-kind-requires c κs = search needs
 
 flag-requires : tie.Need-flag-requires
 flag-requires c κs = search needs
-
-flag-requires-2 : tie.Need-flag-requires-2
-flag-requires-2 c κs = search needs
-
-flag-requires-3 : tie.Need-flag-requires-3
-flag-requires-3 c κs = search needs
 
 slice-aggregate-fill : tie.Need-slice-aggregate-fill
 slice-aggregate-fill c = search needs
@@ -31,17 +25,15 @@ same-length : tie.Need-same-length
 same-length c = search needs
 
 returns : tie.Need-returns
-returns c = rw (c .before .before .before .before .before .before .flag3 .ensures, c .before .before .before .before .before .before .before .before .flag2 .ensures, c .before .before .before .before .before .before .before .before .before .before .flag .ensures, c .before .before .before .before .before .before .before .before .before .before .before .is-full .ensures, c .before .before .before .before .before .before .before .before .before .before .before .before .window-end-of .ensures) at (c .before .before .fill .ensures)
+returns c = rw (c .before .before .before .before .before .before .flag .ensures, c .before .before .before .before .before .before .before .before .window-kind .ensures, c .before .before .before .before .before .before .before .before .before .window-end-of .ensures) at (c .before .before .fill .ensures)
 
 pub put-spectrum-spec : {M : Type 1} → statement M
 put-spectrum-spec =
     tie.close
     (tie.spec
     window-end-of-requires
-    is-full-requires
+    window-kind-requires
     flag-requires
-    flag-requires-2
-    flag-requires-3
     slice-aggregate-fill
     slice-aggregate-fill-2
     fill-requires

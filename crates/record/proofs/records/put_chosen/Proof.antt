@@ -8,8 +8,8 @@ use Rattle.record.proofs.records.put_chosen.Tie as tie
 cutoffs-of-requires : tie.Need-cutoffs-of-requires
 cutoffs-of-requires c κs = search needs
 
-height-requires : tie.Need-height-requires
-height-requires c κs = search needs
+vote-requires : tie.Need-vote-requires
+vote-requires c κs = search needs
 
 leaning-of-requires : tie.Need-leaning-of-requires
 leaning-of-requires c κs = search needs
@@ -32,9 +32,9 @@ same-length c = search needs
 returns : tie.Need-returns
 unfolding chosenText
 returns c =
-    joined _ _ _ _ _ _ _ _ (c .before .before .before .before .before .before .before .before .before .before .before .put-fit .ensures)
-    (joined _ _ _ _ _ _ _ _
-    (rw (c .before .before .before .before .before .before .before .before .before .before .before .before .before .leaning-of .ensures, c .before .before .before .before .before .before .before .before .before .before .before .before .before .before .height .ensures, c .before .before .before .before .before .before .before .before .before .before .before .before .before .before .before .before .before .cutoffs-of .ensures) at (c .before .before .before .before .before .before .before .put-answer .ensures))
+    joined _ _ _ _ _ _ _ _ (c .before .before .before .before .before .before .before .before .before .before .before .before .put-fit .ensures)
+    (joined _ _ _ _ _ _ _ _ 
+    (rw (c .before .before .before .before .before .before .before .before .before .before .before .before .before .before .leaning-of .ensures, c .before .before .before .before .before .before .before .before .before .before .before .before .before .before .before .vote .ensures, c .before .before .before .before .before .before .before .before .before .before .before .before .before .before .before .before .before .cutoffs-of .ensures) at (c .before .before .before .before .before .before .before .put-answer .ensures))
     (rw (c .before .before .before .last-in .ensures, c .before .before .before .before .before .before .before .before .before .before .before .before .before .before .before .before .before .cutoffs-of .ensures) at (c .before .before .put-last .ensures)))
 
 pub put-chosen-spec : {M : Type 1} → statement M
@@ -42,7 +42,7 @@ put-chosen-spec =
     tie.close
     (tie.spec
     cutoffs-of-requires
-    height-requires
+    vote-requires
     leaning-of-requires
     put-fit-requires
     put-answer-requires

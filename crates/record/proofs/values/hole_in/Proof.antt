@@ -21,8 +21,11 @@ enum-told c = search needs
 enum-known-answer-3 : tie.Need-enum-known-answer-3
 enum-known-answer-3 c = search needs
 
-cast-t10 : tie.Need-cast-t10
-cast-t10 c = search needs
+no-place-requires : tie.Need-no-place-requires
+no-place-requires c κs = search needs
+
+cast-t11 : tie.Need-cast-t11
+cast-t11 c = search needs
 
 returns : tie.Need-returns
 returns c = rw (c .before .before .answer .given .1, c .place-in .ensures)
@@ -34,7 +37,7 @@ returns-3 : tie.Need-returns-3
 returns-3 c = rw (c .enum-told .given .1)
 
 returns-4 : tie.Need-returns-4
-returns-4 c = rw (c .before .answer3 .given .1)
+returns-4 c = rw (c .before .before .answer3 .given .1, c .no-place .ensures)
 
 pub hole-in-spec : {M : Type 1} → statement M
 hole-in-spec =
@@ -46,7 +49,8 @@ hole-in-spec =
     place-in-requires-2
     enum-told
     enum-known-answer-3
-    cast-t10
+    no-place-requires
+    cast-t11
     returns
     returns-2
     returns-3

@@ -1,0 +1,172 @@
+use Prim.Native.Nat.{_-_, _≤_}
+use mathlib.Core.Path.{_≡_, refl, _∙_}
+use native.Mathlib.Omega.{arith}
+use lib.ListN.{length}
+use borrow.Author.Needs.{needs}
+use Rattle.pick.proofs.searches.search_all.Statement.{statement}
+use Rattle.pick.proofs.searches.search_all.Tie as tie
+use Rattle.pick.proofs.searches.search_all.Reads as reads
+use Rattle.pick.proofs.searches.search_all.Lts as lts
+use Rattle.pick.proofs.progress.say.Reads as say-reads
+use Rattle.pick.proofs.searches.both.Reads as both-reads
+use Rattle.pick.proofs.searches.first_flags.Reads as first-flags-reads
+use Rattle.pick.proofs.searches.first_floats.Reads as first-floats-reads
+use Rattle.pick.proofs.searches.go_on.Reads as go-on-reads
+use Rattle.pick.proofs.searches.least_cost.Reads as least-cost-reads
+use Rattle.pick.proofs.searches.runs_done.Reads as runs-done-reads
+use Rattle.record.proofs.values.pattern.Reads as pattern-reads
+
+abbrev Inv-loop : tie.InvT-loop
+Inv-loop bins problem runs k watch rows₀ iterations₀ stopped₀ ready₀ table₀ converged₀ costs₀ places₀ lengths₀ caps₀ whole₀ done₀ slice₀ rows iterations stopped ready table converged costs places lengths caps whole done slice =
+    (slice ≤ 20) × (length rows ≡ length rows₀) × (length iterations ≡ length iterations₀) × (length stopped ≡ length stopped₀) × (length ready ≡ length ready₀) × (length table ≡ length table₀) × (length converged ≡ length converged₀) × (length costs ≡ length costs₀) × (length places ≡ length places₀) × (length lengths ≡ length lengths₀) × (length caps ≡ length caps₀)
+
+abbrev μ-loop : tie.MeasureT-loop
+μ-loop bins problem runs k watch rows₀ iterations₀ stopped₀ ready₀ table₀ converged₀ costs₀ places₀ lengths₀ caps₀ whole₀ done₀ slice₀ rows iterations stopped ready table converged costs places lengths caps whole done slice =
+    20 - slice
+
+-- src/searches.rt:167:5
+loop-holds : tie.Need-loop-holds Inv-loop μ-loop
+loop-holds c = (omega arith, refl, refl, refl, refl, refl, refl, refl, refl, refl, refl)
+
+-- src/searches.rt:168:13
+go-on-requires : tie.Need-go-on-requires Inv-loop μ-loop
+go-on-requires c κs = search needs
+
+-- src/searches.rt:171:9
+both-requires : tie.Need-both-requires Inv-loop μ-loop
+both-requires c κs = search needs
+
+-- src/searches.rt:173:30
+first-flags-requires : tie.Need-first-flags-requires Inv-loop μ-loop
+first-flags-requires c κs = search needs
+
+-- src/searches.rt:173:58
+first-flags-requires-2 : tie.Need-first-flags-requires-2 Inv-loop μ-loop
+first-flags-requires-2 c κs = search needs
+
+-- src/searches.rt:173:13
+runs-done-requires : tie.Need-runs-done-requires Inv-loop μ-loop
+runs-done-requires c κs = search needs
+
+-- src/searches.rt:174:36
+first-floats-requires : tie.Need-first-floats-requires Inv-loop μ-loop
+first-floats-requires c κs = search needs
+
+-- src/searches.rt:174:17
+least-cost-requires : tie.Need-least-cost-requires Inv-loop μ-loop
+least-cost-requires c κs = search needs
+
+-- src/searches.rt:175:53
+pattern-requires : tie.Need-pattern-requires Inv-loop μ-loop
+pattern-requires c κs = search needs
+
+-- src/searches.rt:175:13
+say-requires : tie.Need-say-requires Inv-loop μ-loop
+say-requires c κs = search needs
+
+-- src/searches.rt:177:9
+add-slice : tie.Need-add-slice Inv-loop μ-loop
+add-slice c = omega arith
+
+-- src/searches.rt:167:5
+loop-less : tie.Need-loop-less Inv-loop μ-loop
+loop-less c = omega arith
+
+-- src/searches.rt:167:5
+loop-again : tie.Need-loop-again Inv-loop μ-loop
+loop-again c =
+    let g = c .before .before .before .before .before .before .before .before .before .before .before .before .before .before .before .before .before .before .before .before .before .before in
+    let l = g .before .before .before .before .before .before .before .before .before .before .before .before in
+    let kept = g .go-on .kept in
+    let inv = l .loop .inv in
+    (omega (arith, inv .0),
+    kept .1 .1 .1 .0 ∙ inv .1,
+    kept .1 .1 .1 .1 .0 ∙ inv .2,
+    kept .1 .1 .1 .1 .1 .0 ∙ inv .3,
+    kept .1 .1 .1 .1 .1 .1 .0 ∙ inv .4,
+    kept .1 .1 .1 .1 .1 .1 .1 .0 ∙ inv .5,
+    kept .1 .1 .1 .1 .1 .1 .1 .1 .0 ∙ inv .6,
+    kept .1 .1 .1 .1 .1 .1 .1 .1 .1 .0 ∙ inv .7,
+    kept .1 .1 .1 .1 .1 .1 .1 .1 .1 .1 .0 ∙ inv .8,
+    kept .1 .1 .1 .1 .1 .1 .1 .1 .1 .1 .1 .0 ∙ inv .9,
+    kept .1 .1 .1 .1 .1 .1 .1 .1 .1 .1 .1 .1 .0 ∙ inv .10)
+
+-- src/searches.rt:179:5
+both-requires-2 : tie.Need-both-requires-2 Inv-loop μ-loop
+both-requires-2 c κs = search needs
+
+-- src/searches.rt:147:1
+same-length : tie.Need-same-length Inv-loop μ-loop
+same-length c = c .before .before .loop .inv .1
+
+-- src/searches.rt:147:1
+same-length-2 : tie.Need-same-length-2 Inv-loop μ-loop
+same-length-2 c = c .before .before .loop .inv .2
+
+-- src/searches.rt:147:1
+same-length-3 : tie.Need-same-length-3 Inv-loop μ-loop
+same-length-3 c = c .before .before .loop .inv .3
+
+-- src/searches.rt:147:1
+same-length-4 : tie.Need-same-length-4 Inv-loop μ-loop
+same-length-4 c = c .before .before .loop .inv .4
+
+-- src/searches.rt:147:1
+same-length-5 : tie.Need-same-length-5 Inv-loop μ-loop
+same-length-5 c = c .before .before .loop .inv .5
+
+-- src/searches.rt:147:1
+same-length-6 : tie.Need-same-length-6 Inv-loop μ-loop
+same-length-6 c = c .before .before .loop .inv .6
+
+-- src/searches.rt:147:1
+same-length-7 : tie.Need-same-length-7 Inv-loop μ-loop
+same-length-7 c = c .before .before .loop .inv .7
+
+-- src/searches.rt:147:1
+same-length-8 : tie.Need-same-length-8 Inv-loop μ-loop
+same-length-8 c = c .before .before .loop .inv .8
+
+-- src/searches.rt:147:1
+same-length-9 : tie.Need-same-length-9 Inv-loop μ-loop
+same-length-9 c = c .before .before .loop .inv .9
+
+-- src/searches.rt:147:1
+same-length-10 : tie.Need-same-length-10 Inv-loop μ-loop
+same-length-10 c = c .before .before .loop .inv .10
+
+-- src/searches.rt:147:1
+returns : tie.Need-returns Inv-loop μ-loop
+returns c = search needs
+
+pub search-all-spec : {M : Type 1} → statement M
+search-all-spec =
+    tie.close
+    (tie.spec
+    Inv-loop
+    μ-loop
+    loop-holds
+    go-on-requires
+    both-requires
+    first-flags-requires
+    first-flags-requires-2
+    runs-done-requires
+    first-floats-requires
+    least-cost-requires
+    pattern-requires
+    say-requires
+    add-slice
+    loop-less
+    loop-again
+    both-requires-2
+    same-length
+    same-length-2
+    same-length-3
+    same-length-4
+    same-length-5
+    same-length-6
+    same-length-7
+    same-length-8
+    same-length-9
+    same-length-10
+    returns)

@@ -1,0 +1,127 @@
+// Picks a coverage cutoff for the histogram file on standard input, and writes the record of how.
+mod asking;
+mod options;
+mod progress;
+mod searches;
+mod showing;
+
+use asking::read_words;
+use fitter::shares::empirical_shelf_share;
+use helpers::answers::Number;
+use histogram::reader::FileRead;
+use histogram::reader::LONGEST_FILE;
+use histogram::reader::MAX_FILE_BINS;
+use histogram::reader::read_histogram;
+use models::families::ErrorModel;
+use models::families::GenomeModel;
+use progress::Watch;
+use progress::seconds;
+use record::heads::Asked;
+use record::heads::window_end_of;
+use record::records::last_line;
+use record::records::write_broken;
+use record::records::write_record;
+use record::records::write_refused;
+use searches::attempt;
+use searches::refusal;
+use searches::setup_of;
+use showing::LONGEST_RECORD;
+use showing::complain;
+use showing::show;
+use showing::tell;
+use streams::input::Input;
+use streams::input::read_input;
+
+// One byte more than the longest accepted file has: what lies behind it changes nothing.
+const ENOUGH: usize = LONGEST_FILE + 1;
+
+// A share that is refused stands beside a spectrum that is refused, which comes first.
+fn value(number: Number) -> f64 {
+    match number {
+        Number::Value(x) => x,
+        Number::Refused(_) => 0.0,
+    }
+}
+
+fn first_bins(x: &[u32], n: usize) -> &[u32] {
+    if n < x.len() { &x[..n] } else { x }
+}
+
+// The four configurations, in the original's order.
+fn pick_bins(bins: &[u32], asked: Asked, watch: Watch, status: bool) {
+    let mut text = [0u8; LONGEST_RECORD];
+    let end = window_end_of(asked, bins.len());
+    let shelf = setup_of(
+        asked,
+        end,
+        ErrorModel::SingletonPareto,
+        GenomeModel::ShelfNegativeBinomial,
+    );
+    let number = refusal(bins, shelf);
+    if number != 0 {
+        let size = write_refused(asked, bins.len(), number, &mut text);
+        show(&text, size, 3, status);
+        return;
+    }
+    let share = value(empirical_shelf_share(
+        bins,
+        asked.scale,
+        asked.valley,
+        asked.peak,
+    ));
+    let pareto = ErrorModel::SingletonPareto;
+    let weibull = ErrorModel::FreeSingletonWeibull;
+    let plain = GenomeModel::NegativeBinomial;
+    let shelved = GenomeModel::ShelfNegativeBinomial;
+    let a = attempt(bins, asked, end, share, pareto, plain, 1, watch);
+    let b = attempt(bins, asked, end, share, weibull, plain, 2, watch);
+    let c = attempt(bins, asked, end, share, pareto, shelved, 3, watch);
+    let d = attempt(bins, asked, end, share, weibull, shelved, 4, watch);
+    if !a.whole || !b.whole || !c.whole || !d.whole {
+        complain(b"pick: a search was refused, which can't be\n", status);
+        return;
+    }
+    let one = a.attempt;
+    let two = b.attempt;
+    let three = c.attempt;
+    let four = d.attempt;
+    let size = write_record(asked, bins.len(), one, two, three, four, &mut text);
+    let last = last_line(asked.budget, one, two, three, four);
+    show(&text, size, last.kind, status);
+}
+
+fn pick_file(file: &[u8], asked: Asked, watch: Watch, status: bool) {
+    let mut bins = [0u32; MAX_FILE_BINS];
+    let mut text = [0u8; LONGEST_RECORD];
+    let read = read_histogram(file, &mut bins);
+    match read {
+        FileRead::Bins(n) => pick_bins(first_bins(&bins, n), asked, watch, status),
+        FileRead::Broken(place) => {
+            let size = write_broken(asked, place, &mut text);
+            show(&text, size, 3, status);
+        }
+        FileRead::Refused(_) => complain(b"pick: the bins do not fit, which can't be\n", status),
+    }
+}
+
+fn main() {
+    let a = read_words();
+    let asked = a.asked;
+    let watch = Watch {
+        quiet: a.quiet,
+        began: seconds(),
+    };
+    if !a.fine {
+        tell(4, a.status);
+        return;
+    }
+    let mut file = [0u8; ENOUGH];
+    let input = read_input(&mut file);
+    match input {
+        Input::Bytes(n) => pick_file(&file[..n], asked, watch, a.status),
+        Input::Failed => {
+            os::fail(b"pick: reading");
+            tell(4, a.status);
+        }
+    }
+}

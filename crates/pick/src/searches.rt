@@ -1,0 +1,265 @@
+// One configuration: its starts, the search from each of them to its end, and what it came to.
+ghost use Prim.Native.Nat.{_≤_};
+use crate::progress::Watch;
+use crate::progress::say;
+use attempts::attempting::attempt_from_numbers;
+use attempts::settling::Setup;
+use fitter::attempts::FitAttempt;
+use fitter::starts::fit_starts;
+use histogram::reader::MAX_FILE_BINS;
+use meaning::answers::Written;
+use models::families::ErrorModel;
+use models::families::GenomeModel;
+use record::heads::Asked;
+use record::heads::SEEDS;
+use record::heads::SHAPES;
+use record::values::pattern;
+use search::beginning::begin_searches;
+use search::prices::Problem;
+use search::reporting::report_searches;
+use search::searching::run_searches;
+
+// Four dispersions, three error starts and two shelf shapes, each run's simplex of twelve rows of twelve numbers.
+const RUNS: usize = 24;
+const STARTS: usize = 11 * RUNS;
+const ROWS: usize = 144 * RUNS;
+// For every window of a histogram file.
+const TABLE: usize = MAX_FILE_BINS + 1;
+const READY: usize = 2 * (MAX_FILE_BINS + 2);
+// The turns between two lines of progress, and how often they are made: together the largest cap of a run.
+const TURNS: u64 = 100;
+const SLICES: u64 = 20;
+
+// What the search of a configuration came to, where every call answered and every run was searched to its end.
+pub struct Attempted {
+    pub whole: bool,
+    pub attempt: FitAttempt,
+}
+
+// How many items were written; none for a refusal.
+fn items(written: Written) -> usize {
+    match written {
+        Written::Items(n) => n,
+        Written::Refused(_) => 0,
+    }
+}
+
+fn is_written(written: Written) -> bool {
+    match written {
+        Written::Items(_) => true,
+        Written::Refused(_) => false,
+    }
+}
+
+fn both(a: bool, b: bool) -> bool {
+    a && b
+}
+
+fn first_floats(x: &[f64], n: usize) -> &[f64] {
+    if n < x.len() { &x[..n] } else { x }
+}
+
+pub fn setup_of(asked: Asked, end: usize, error: ErrorModel, genome: GenomeModel) -> Setup {
+    Setup {
+        scale: asked.scale,
+        window_end: end,
+        valley: asked.valley,
+        peak: asked.peak,
+        error,
+        genome,
+        mass_limit: asked.mass_limit,
+    }
+}
+
+// The number by which the spectrum is refused with what was asked, and 0 for none: what an attempt over no run gives.
+pub fn refusal(bins: &[u32], setup: Setup) -> u8 {
+    let mut table = [0.0f64; TABLE];
+    let answer = attempt_from_numbers(bins, setup, &[], &[], &[], &[], &[], &[], &[], &mut table);
+    answer.number
+}
+
+fn first_flags(x: &[bool], n: usize) -> &[bool] {
+    if n < x.len() { &x[..n] } else { x }
+}
+
+fn flag_at(x: &[bool], i: usize) -> bool {
+    if i < x.len() { x[i] } else { false }
+}
+
+// 1 for a run that has ended, by the test or at its cap, and 0 for one that has not.
+fn ended(stopped: bool, capped: bool) -> usize
+    ensures { λ r. ⌜ r ≤ 1 ⌝ }
+{
+    if stopped || capped { 1 } else { 0 }
+}
+
+// How many runs have ended.
+fn runs_done(stopped: &[bool], caps: &[bool]) -> usize {
+    let mut done: usize = 0;
+    let mut i: usize = 0;
+    while i < stopped.len() {
+        done += ended(stopped[i], flag_at(caps, i));
+        i += 1;
+    }
+    done
+}
+
+fn least_cost(costs: &[f64]) -> f64 {
+    let mut least = 1.0 / 0.0;
+    let mut i: usize = 0;
+    while i < costs.len() {
+        if costs[i] < least {
+            least = costs[i];
+        }
+        i += 1;
+    }
+    least
+}
+
+// Some turns of every run, and what they came to, as a run table.
+fn go_on(
+    bins: &[u32],
+    problem: Problem,
+    runs: usize,
+    rows: &mut [f64],
+    iterations: &mut [u64],
+    stopped: &mut [bool],
+    ready: &mut [f64],
+    table: &mut [f64],
+    converged: &mut [bool],
+    costs: &mut [f64],
+    places: &mut [usize],
+    lengths: &mut [usize],
+    caps: &mut [bool],
+) -> bool {
+    let error = problem.error;
+    let genome = problem.genome;
+    let ran = run_searches(
+        bins, problem, runs, TURNS, rows, iterations, stopped, ready, table,
+    );
+    let reported = report_searches(
+        error, genome, runs, rows, iterations, stopped, converged, costs, places, lengths, caps,
+    );
+    both(is_written(ran), is_written(reported))
+}
+
+// As many turns as the largest cap, by which every run has ended, with a line of progress between.
+fn search_all(
+    bins: &[u32],
+    problem: Problem,
+    runs: usize,
+    k: u64,
+    watch: Watch,
+    rows: &mut [f64],
+    iterations: &mut [u64],
+    stopped: &mut [bool],
+    ready: &mut [f64],
+    table: &mut [f64],
+    converged: &mut [bool],
+    costs: &mut [f64],
+    places: &mut [usize],
+    lengths: &mut [usize],
+    caps: &mut [bool],
+) -> bool {
+    let mut whole = true;
+    let mut done: usize = 0;
+    let mut slice: u64 = 0;
+    while slice < SLICES {
+        let fine = go_on(
+            bins, problem, runs, rows, iterations, stopped, ready, table, converged, costs, places, lengths, caps,
+        );
+        whole = both(whole, fine);
+        if done < runs {
+            done = runs_done(first_flags(stopped, runs), first_flags(caps, runs));
+            let least = least_cost(first_floats(costs, runs));
+            say(watch, k, done as u64, runs as u64, pattern(least));
+        }
+        slice += 1;
+    }
+    both(whole, done >= runs)
+}
+
+// The attempt of the k-th configuration, each of its runs searched to its end.
+pub fn attempt(
+    bins: &[u32],
+    asked: Asked,
+    end: usize,
+    share: f64,
+    error: ErrorModel,
+    genome: GenomeModel,
+    k: u64,
+    watch: Watch,
+) -> Attempted {
+    let seeds = SEEDS;
+    let shapes = SHAPES;
+    let problem = Problem {
+        scale: asked.scale,
+        window_end: end,
+        peak: asked.peak,
+        error,
+        genome,
+    };
+    let mut starts = [0.0f64; STARTS];
+    let mut rows = [0.0f64; ROWS];
+    let mut iterations = [0u64; RUNS];
+    let mut stopped = [false; RUNS];
+    let mut ready = [0.0f64; READY];
+    let mut table = [0.0f64; TABLE];
+    let mut converged = [false; RUNS];
+    let mut costs = [0.0f64; RUNS];
+    let mut places = [0usize; RUNS];
+    let mut lengths = [0usize; RUNS];
+    let mut caps = [false; RUNS];
+    let numbers = items(fit_starts(
+        error,
+        genome,
+        &seeds,
+        asked.hint,
+        share,
+        &shapes,
+        &mut starts,
+    ));
+    let runs = items(begin_searches(
+        bins,
+        problem,
+        first_floats(&starts, numbers),
+        &mut rows,
+        &mut iterations,
+        &mut stopped,
+        &mut ready,
+        &mut table,
+    ));
+    let whole = search_all(
+        bins,
+        problem,
+        runs,
+        k,
+        watch,
+        &mut rows,
+        &mut iterations,
+        &mut stopped,
+        &mut ready,
+        &mut table,
+        &mut converged,
+        &mut costs,
+        &mut places,
+        &mut lengths,
+        &mut caps,
+    );
+    let answer = attempt_from_numbers(
+        bins,
+        setup_of(asked, end, error, genome),
+        first_flags(&converged, runs),
+        &costs,
+        &places,
+        &lengths,
+        &iterations,
+        &caps,
+        &rows,
+        &mut table,
+    );
+    Attempted {
+        whole: whole && runs > 0 && answer.number == 0,
+        attempt: answer.attempt,
+    }
+}

@@ -1,0 +1,45 @@
+// Writing the record, and the word by which `fogatise` hears how it ended, since a program here has no exit status.
+use libc::STDERR_FILENO;
+use libc::STDOUT_FILENO;
+use streams::output::write_output;
+
+// No record is as long.
+pub const LONGEST_RECORD: usize = 32768;
+
+// Where `fogatise` listens.
+const STATUS_FILENO: i32 = 4;
+
+// The last word, once all is written: by the last line's kind, and 4 for a failure that was said.
+pub fn tell(kind: u64, status: bool) {
+    if !status {
+        return;
+    }
+    match kind {
+        0 => io::write_all(STATUS_FILENO, b"cutoff\n"),
+        1 => io::write_all(STATUS_FILENO, b"unsure\n"),
+        2 => io::write_all(STATUS_FILENO, b"nofit\n"),
+        3 => io::write_all(STATUS_FILENO, b"refused\n"),
+        _ => io::write_all(STATUS_FILENO, b"failed\n"),
+    };
+}
+
+// One line on standard error.
+pub fn complain(line: &[u8], status: bool) {
+    io::write_all(STDERR_FILENO, line);
+    tell(4, status);
+}
+
+// Writes a record, and closes standard output, since some disks tell of a failed write only then. A record that may be cut
+// off is no answer.
+pub fn show(text: &[u8], size: usize, kind: u64, status: bool) {
+    if size >= text.len() {
+        complain(b"pick: the record is too long\n", status);
+        return;
+    }
+    if write_output(&text[..size]) && libc::close(STDOUT_FILENO) == 0 {
+        tell(kind, status);
+    } else {
+        os::fail(b"pick: writing");
+        tell(4, status);
+    }
+}
