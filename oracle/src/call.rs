@@ -252,7 +252,7 @@ impl Call {
     fn each_input(&self, stratum: &Stratum, pass: u64, mut each: impl FnMut(&[u64]) -> bool) {
         let name = format!("{}, {}", self.name, stratum.name);
         let mut draw = Draw::named(&if pass == 0 { name } else { format!("{name}, pass {pass}") });
-        for _ in 0..4 * stratum.wanted {
+        for _ in 0..8 * stratum.wanted + 100 {
             let input = (stratum.draw)(&mut draw);
             if (stratum.meets)(&input) && !each(&input) {
                 return;
