@@ -8,7 +8,9 @@ use record::heads::Asked;
 
 // What a caller who says nothing gets: the original's values.
 const SCALE: f64 = 1.0;
+
 const HINT: f64 = 2.0;
+
 const MASS_LIMIT: f64 = 1.1;
 
 pub struct Asking {
@@ -43,13 +45,48 @@ pub fn read_words() -> Asking {
     let hint = decimal_option(b"--hint=", HINT);
     let limit = decimal_option(b"--mass-limit=", MASS_LIMIT);
     let fine = (all_known() || complain(b"pick: a word is no option; fogatise help names them\n"))
-        && is_fine(valley.words, valley.wrong, true, b"pick: --valley=N is needed once, N of 1 to 15 digits\n")
-        && is_fine(peak.words, peak.wrong, true, b"pick: --peak=N is needed once, N of 1 to 15 digits\n")
-        && is_fine(budget.words, budget.wrong, true, b"pick: --budget=X is needed once, X of 1 to 15 digits and at most one point\n")
-        && is_fine(end.words, end.wrong, false, b"pick: --window-end=N is taken once, N of 1 to 15 digits\n")
-        && is_fine(scale.words, scale.wrong, false, b"pick: --scale=X is taken once, X of 1 to 15 digits and at most one point\n")
-        && is_fine(hint.words, hint.wrong, false, b"pick: --hint=X is taken once, X of 1 to 15 digits and at most one point\n")
-        && is_fine(limit.words, limit.wrong, false, b"pick: --mass-limit=X is taken once, X of 1 to 15 digits and at most one point\n");
+        && is_fine(
+            valley.words,
+            valley.wrong,
+            true,
+            b"pick: --valley=N is needed once, N of 1 to 15 digits\n",
+        )
+        && is_fine(
+            peak.words,
+            peak.wrong,
+            true,
+            b"pick: --peak=N is needed once, N of 1 to 15 digits\n",
+        )
+        && is_fine(
+            budget.words,
+            budget.wrong,
+            true,
+            b"pick: --budget=X is needed once, X of 1 to 15 digits and at most one point\n",
+        )
+        && is_fine(
+            end.words,
+            end.wrong,
+            false,
+            b"pick: --window-end=N is taken once, N of 1 to 15 digits\n",
+        )
+        && is_fine(
+            scale.words,
+            scale.wrong,
+            false,
+            b"pick: --scale=X is taken once, X of 1 to 15 digits and at most one point\n",
+        )
+        && is_fine(
+            hint.words,
+            hint.wrong,
+            false,
+            b"pick: --hint=X is taken once, X of 1 to 15 digits and at most one point\n",
+        )
+        && is_fine(
+            limit.words,
+            limit.wrong,
+            false,
+            b"pick: --mass-limit=X is taken once, X of 1 to 15 digits and at most one point\n",
+        );
     Asking {
         fine,
         quiet: quiet > 0,

@@ -63,12 +63,7 @@ fn pick_bins(bins: &[u32], asked: Asked, watch: Watch, status: bool) {
         show(&text, size, 3, status);
         return;
     }
-    let share = value(empirical_shelf_share(
-        bins,
-        asked.scale,
-        asked.valley,
-        asked.peak,
-    ));
+    let share = value(empirical_shelf_share(bins, asked.scale, asked.valley, asked.peak));
     let pareto = ErrorModel::SingletonPareto;
     let weibull = ErrorModel::FreeSingletonWeibull;
     let plain = GenomeModel::NegativeBinomial;

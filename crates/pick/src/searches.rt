@@ -21,13 +21,17 @@ use search::searching::run_searches;
 
 // Four dispersions, three error starts and two shelf shapes, each run's simplex of twelve rows of twelve numbers.
 const RUNS: usize = 24;
+
 const STARTS: usize = 11 * RUNS;
+
 const ROWS: usize = 144 * RUNS;
 // For every window of a histogram file.
 const TABLE: usize = MAX_FILE_BINS + 1;
+
 const READY: usize = 2 * (MAX_FILE_BINS + 2);
 // The turns between two lines of progress, and how often they are made: together the largest cap of a run.
 const TURNS: u64 = 100;
+
 const SLICES: u64 = 20;
 
 // What the search of a configuration came to, where every call answered and every run was searched to its end.
@@ -135,10 +139,28 @@ fn go_on(
     let error = problem.error;
     let genome = problem.genome;
     let ran = run_searches(
-        bins, problem, runs, TURNS, rows, iterations, stopped, ready, table,
+        bins,
+        problem,
+        runs,
+        TURNS,
+        rows,
+        iterations,
+        stopped,
+        ready,
+        table,
     );
     let reported = report_searches(
-        error, genome, runs, rows, iterations, stopped, converged, costs, places, lengths, caps,
+        error,
+        genome,
+        runs,
+        rows,
+        iterations,
+        stopped,
+        converged,
+        costs,
+        places,
+        lengths,
+        caps,
     );
     both(is_written(ran), is_written(reported))
 }
@@ -166,7 +188,19 @@ fn search_all(
     let mut slice: u64 = 0;
     while slice < SLICES {
         let fine = go_on(
-            bins, problem, runs, rows, iterations, stopped, ready, table, converged, costs, places, lengths, caps,
+            bins,
+            problem,
+            runs,
+            rows,
+            iterations,
+            stopped,
+            ready,
+            table,
+            converged,
+            costs,
+            places,
+            lengths,
+            caps,
         );
         whole = both(whole, fine);
         if done < runs {

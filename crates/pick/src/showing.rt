@@ -20,7 +20,8 @@ pub fn tell(kind: u64, status: bool) {
         2 => io::write_all(STATUS_FILENO, b"nofit\n"),
         3 => io::write_all(STATUS_FILENO, b"refused\n"),
         _ => io::write_all(STATUS_FILENO, b"failed\n"),
-    };
+    }
+    ;
 }
 
 // One line on standard error.

@@ -10,6 +10,7 @@ use fitter::attempts::is_valid;
 
 // Above every cutoff, and no cutoff at all.
 pub(crate) const NONE: u64 = 65536;
+
 pub(crate) const NO_WALK: u64 = 65537;
 
 pub struct Leaning {

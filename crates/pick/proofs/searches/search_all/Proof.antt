@@ -78,18 +78,19 @@ loop-again c =
     let g = c .before .before .before .before .before .before .before .before .before .before .before .before .before .before .before .before .before .before .before .before .before .before in
     let l = g .before .before .before .before .before .before .before .before .before .before .before .before in
     let kept = g .go-on .kept in
-    let inv = l .loop .inv in
-    (omega (arith, inv .0),
-    kept .1 .1 .1 .0 ∙ inv .1,
-    kept .1 .1 .1 .1 .0 ∙ inv .2,
-    kept .1 .1 .1 .1 .1 .0 ∙ inv .3,
-    kept .1 .1 .1 .1 .1 .1 .0 ∙ inv .4,
-    kept .1 .1 .1 .1 .1 .1 .1 .0 ∙ inv .5,
-    kept .1 .1 .1 .1 .1 .1 .1 .1 .0 ∙ inv .6,
-    kept .1 .1 .1 .1 .1 .1 .1 .1 .1 .0 ∙ inv .7,
-    kept .1 .1 .1 .1 .1 .1 .1 .1 .1 .1 .0 ∙ inv .8,
-    kept .1 .1 .1 .1 .1 .1 .1 .1 .1 .1 .1 .0 ∙ inv .9,
-    kept .1 .1 .1 .1 .1 .1 .1 .1 .1 .1 .1 .1 .0 ∙ inv .10)
+    let inv = l .loop .inv in (
+      omega (arith, inv .0),
+      kept .1 .1 .1 .0 ∙ inv .1,
+      kept .1 .1 .1 .1 .0 ∙ inv .2,
+      kept .1 .1 .1 .1 .1 .0 ∙ inv .3,
+      kept .1 .1 .1 .1 .1 .1 .0 ∙ inv .4,
+      kept .1 .1 .1 .1 .1 .1 .1 .0 ∙ inv .5,
+      kept .1 .1 .1 .1 .1 .1 .1 .1 .0 ∙ inv .6,
+      kept .1 .1 .1 .1 .1 .1 .1 .1 .1 .0 ∙ inv .7,
+      kept .1 .1 .1 .1 .1 .1 .1 .1 .1 .1 .0 ∙ inv .8,
+      kept .1 .1 .1 .1 .1 .1 .1 .1 .1 .1 .1 .0 ∙ inv .9,
+      kept .1 .1 .1 .1 .1 .1 .1 .1 .1 .1 .1 .1 .0 ∙ inv .10,
+    )
 
 -- src/searches.rt:179:5
 both-requires-2 : tie.Need-both-requires-2 Inv-loop μ-loop

@@ -33,7 +33,7 @@ returns : tie.Need-returns
 unfolding chosenText
 returns c =
     joined _ _ _ _ _ _ _ _ (c .before .before .before .before .before .before .before .before .before .before .before .before .put-fit .ensures)
-    (joined _ _ _ _ _ _ _ _ 
+    (joined _ _ _ _ _ _ _ _
     (rw (c .before .before .before .before .before .before .before .before .before .before .before .before .before .before .leaning-of .ensures, c .before .before .before .before .before .before .before .before .before .before .before .before .before .before .before .vote .ensures, c .before .before .before .before .before .before .before .before .before .before .before .before .before .before .before .before .before .cutoffs-of .ensures) at (c .before .before .before .before .before .before .before .put-answer .ensures))
     (rw (c .before .before .before .last-in .ensures, c .before .before .before .before .before .before .before .before .before .before .before .before .before .before .before .before .before .cutoffs-of .ensures) at (c .before .before .put-last .ensures)))
 
