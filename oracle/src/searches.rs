@@ -22,6 +22,9 @@ mod layer4;
 #[path = "path/lines.rs"]
 mod lines;
 mod linked;
+#[cfg(not(written))]
+#[path = "searches/picked.rs"]
+mod picked;
 mod port;
 #[path = "searches/port_side.rs"]
 mod port_side;
@@ -143,6 +146,11 @@ fn main() {
         }
         #[cfg(not(written))]
         ["speed", paths @ ..] => timed::page(paths),
+        #[cfg(not(written))]
+        ["pick", words @ ..] => {
+            let program = words.iter().position(|word| *word == "--").expect("the samples stand behind --");
+            picked::page(&words[..program], &words[program + 1..])
+        }
         _ => panic!("searches: this is no way to ask"),
     };
     if !well {

@@ -34,7 +34,7 @@ fn is_fine(words: usize, wrong: bool, needed: bool, line: &[u8]) -> bool {
     true
 }
 
-pub fn read_words() -> Asking {
+pub(crate) fn read_words() -> Asking {
     let status = flag_words(b"--status");
     let quiet = flag_words(b"--quiet");
     let valley = whole_option(b"--valley=");

@@ -97,7 +97,7 @@ fn decimal_at(i: usize, name: &[u8]) -> Decimal {
 }
 
 // How many words are the flag itself.
-pub fn flag_words(name: &[u8]) -> usize {
+pub(crate) fn flag_words(name: &[u8]) -> usize {
     let all = os::arg_count();
     let mut count: usize = 0;
     let mut i: usize = 1;
@@ -111,7 +111,7 @@ pub fn flag_words(name: &[u8]) -> usize {
 }
 
 // A name ends in `=`.
-pub fn whole_option(name: &[u8]) -> WholeOption {
+pub(crate) fn whole_option(name: &[u8]) -> WholeOption {
     let all = os::arg_count();
     let mut found = WholeOption {
         words: 0,
@@ -129,7 +129,7 @@ pub fn whole_option(name: &[u8]) -> WholeOption {
 }
 
 // Without a word of the name the value is the one given here.
-pub fn decimal_option(name: &[u8], value: f64) -> DecimalOption {
+pub(crate) fn decimal_option(name: &[u8], value: f64) -> DecimalOption {
     let all = os::arg_count();
     let mut found = DecimalOption {
         words: 0,
@@ -160,7 +160,7 @@ fn is_known(i: usize) -> bool {
 }
 
 // Whether each word is an option.
-pub fn all_known() -> bool {
+pub(crate) fn all_known() -> bool {
     let all = os::arg_count();
     let mut i: usize = 1;
     while i < all {

@@ -13,7 +13,7 @@ fn not_negative(t: i64) -> u64 {
 }
 
 // The machine's clock, in seconds; 0 where it has none.
-pub fn seconds() -> u64 {
+pub(crate) fn seconds() -> u64 {
     let mut now: i64 = 0;
     not_negative(libc::time(&mut now))
 }
@@ -24,7 +24,7 @@ fn elapsed(began: u64, now: u64) -> u64 {
 }
 
 // One line: which configuration, how many of its runs are done, and the least cost so far, as a float's pattern.
-pub fn say(watch: Watch, k: u64, done: u64, runs: u64, cost: u64) {
+pub(crate) fn say(watch: Watch, k: u64, done: u64, runs: u64, cost: u64) {
     if watch.quiet {
         return;
     }

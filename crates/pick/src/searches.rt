@@ -63,7 +63,7 @@ fn first_floats(x: &[f64], n: usize) -> &[f64] {
     if n < x.len() { &x[..n] } else { x }
 }
 
-pub fn setup_of(asked: Asked, end: usize, error: ErrorModel, genome: GenomeModel) -> Setup {
+pub(crate) fn setup_of(asked: Asked, end: usize, error: ErrorModel, genome: GenomeModel) -> Setup {
     Setup {
         scale: asked.scale,
         window_end: end,
@@ -76,7 +76,7 @@ pub fn setup_of(asked: Asked, end: usize, error: ErrorModel, genome: GenomeModel
 }
 
 // The number by which the spectrum is refused with what was asked, and 0 for none: what an attempt over no run gives.
-pub fn refusal(bins: &[u32], setup: Setup) -> u8 {
+pub(crate) fn refusal(bins: &[u32], setup: Setup) -> u8 {
     let mut table = [0.0f64; TABLE];
     let answer = attempt_from_numbers(bins, setup, &[], &[], &[], &[], &[], &[], &[], &mut table);
     answer.number
@@ -214,7 +214,7 @@ fn search_all(
 }
 
 // The attempt of the k-th configuration, each of its runs searched to its end.
-pub fn attempt(
+pub(crate) fn attempt(
     bins: &[u32],
     asked: Asked,
     end: usize,

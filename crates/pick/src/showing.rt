@@ -10,7 +10,7 @@ pub const LONGEST_RECORD: usize = 32768;
 const STATUS_FILENO: i32 = 4;
 
 // The last word, once all is written: by the last line's kind, and 4 for a failure that was said.
-pub fn tell(kind: u64, status: bool) {
+pub(crate) fn tell(kind: u64, status: bool) {
     if !status {
         return;
     }
@@ -25,14 +25,14 @@ pub fn tell(kind: u64, status: bool) {
 }
 
 // One line on standard error.
-pub fn complain(line: &[u8], status: bool) {
+pub(crate) fn complain(line: &[u8], status: bool) {
     io::write_all(STDERR_FILENO, line);
     tell(4, status);
 }
 
 // Writes a record, and closes standard output, since some disks tell of a failed write only then. A record that may be cut
 // off is no answer.
-pub fn show(text: &[u8], size: usize, kind: u64, status: bool) {
+pub(crate) fn show(text: &[u8], size: usize, kind: u64, status: bool) {
     if size >= text.len() {
         complain(b"pick: the record is too long\n", status);
         return;
