@@ -2,7 +2,7 @@
 use libc::STDERR_FILENO;
 
 // The last word, once all is written. Whoever does not hear it knows that the answer is not whole.
-pub fn tell(accepted: bool) {
+pub(crate) fn tell(accepted: bool) {
     if accepted {
         io::write_all(STDERR_FILENO, b"whole\n");
     } else {
@@ -11,7 +11,7 @@ pub fn tell(accepted: bool) {
 }
 
 // Whether the one argument is `--status`, with which `fogatise` asks for the last word.
-pub fn asks_status() -> bool {
+pub(crate) fn asks_status() -> bool {
     let mut word = [0u8; 8];
     let n = os::arg(1, &mut word);
     os::arg_count() == 2 && check::same(&word[..n], b"--status")
