@@ -40,6 +40,14 @@ module _ (fit : SpectrumFit) (budget : Float) where
   pub share-whole : let s = allowedOf fit budget in finite s ≡ true → num s * 2 ^ 1074 ≡ unitsOf s * den s
   share-whole h = has-units binary64 (allowedOf fit budget) (div-fits binary64 _ _) (yes h)
 
+  -- ---- where there is an answer, the ceiling is a count
+  pub ceiling-most : (answer : Option ℕ) → holeCutoffOf fit budget ≡ give answer → ceilingOf fit ≤ 65535
+  unfolding holeCutoffOf
+  ceiling-most answer gave =
+      let end = fit .«fit_window_end» in
+      let walked = cond (walkStarts fit) (holeWalkOf fit budget) none in
+      le-trans (ceiling-end fit) (window-passed end (gave-passed walked answer (windowTests end) gave) .0)
+
   -- ---- THE THEOREM
   -- `holeCutoffOf fit budget` is what `hole_cutoff(fit, budget)` answers, by its contract, which cites this too
   pub hole-cutoff-keeps : Demanded fit budget (holeCutoffOf fit budget)
@@ -50,10 +58,8 @@ module _ (fit : SpectrumFit) (budget : Float) where
       let end = fit .«fit_window_end» in
       let found = holeWalkOf fit budget in
       let walked = cond (walkStarts fit) found none in
-      let top : ceilingOf fit ≤ 65535 = le-trans (ceiling-end fit)
-      (window-passed end (gave-passed walked answer (windowTests end) gave) .0) in
-      let says : Says p allowed (ceilingOf fit) found = walk-keeps p (λ (k : ℕ). exp-fits _) (ceilingOf fit) top
-      (s .between) allowed (div-fits binary64 _ _) (yes (s .share)) (ceiling-two fit (s .starts)) in
+      let says : Says p allowed (ceilingOf fit) found = walk-keeps p (λ (k : ℕ). exp-fits _) (ceilingOf fit)
+      (ceiling-most answer gave) (s .between) allowed (div-fits binary64 _ _) (yes (s .share)) (ceiling-two fit (s .starts)) in
       let same : found ≡ answer = sym (ap (λ (b : Bool). cond b found none) (s .starts))
       ∙ gave-answer walked answer (windowTests end) gave in
       record {

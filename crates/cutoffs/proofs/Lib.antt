@@ -4,6 +4,7 @@ pub mod Ceilings
 pub mod ExactSums
 pub mod Removed
 pub mod HoleCutoffs
+pub mod Lower
 pub mod HeightCutoffs
 pub mod Crossings
 pub mod Floors

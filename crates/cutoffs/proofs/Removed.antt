@@ -157,6 +157,26 @@ module _ (p : ℕ → Float) (held : (k : ℕ) → T (fits binary64 (p k))) (cei
         go true u v = u tt
         go false u v = v tt
 
+    -- ---- one comparison: the f64 sum through count k against the share, and the exact sum
+    pub above-exceeds : (k : ℕ) → k ≤ ceiling → T (lt allowed (running p k))
+        → Exceeds (sumBelow p (suc k)) (exactly allowed)
+    above-exceeds k h t =
+        let s = sums k h in
+        exceeds p held ceiling between allowed F K (suc k) (suc-le-suc h)
+        (λ (n : T (not (negative allowed))). near-beyond k (unitsOf (running p k)) (unitsBelow p (suc k))
+        (unitsOf allowed) (le-trans h top) (s .near)
+        (lt-units binary64 allowed (running p k) (unitsOf (running p k)) F K
+        (holds-units binary64 (running p k) (s .value)) t n))
+
+    pub within-keeps : (k : ℕ) → k ≤ ceiling → T (not (lt allowed (running p k)))
+        → AtMost (sumBelow p (suc k)) (exactly allowed)
+    within-keeps k h t =
+        let s = sums k h in
+        let u = unitsOf (running p k) in
+        let g = ge-units binary64 allowed (running p k) u F K (holds-units binary64 (running p k) (s .value)) t in
+        at-most p held ceiling between allowed F K (suc k) (suc-le-suc h) (g .0)
+        (near-within k u (unitsBelow p (suc k)) (unitsOf allowed) (le-trans h top) (s .near) (g .1))
+
     pub walk-keeps : 2 ≤ ceiling → Says p allowed ceiling (walkOf p allowed ceiling)
     unfolding walkOf
     walk-keeps two =

@@ -22,7 +22,7 @@ pub(crate) fn at_least_two(count: u16) -> u16
 }
 
 // The single-copy component's probability of a count.
-fn probability(single: SingleCopy, count: u16) -> f64
+pub fn probability(single: SingleCopy, count: u16) -> f64
     ensures { λ r. ⌜ r ≡ probabilityOf single count ⌝ }
 {
     exp(single_density(single, count as f64))

@@ -416,8 +416,9 @@ double fog_component_total_ratio(fog_fit fit);
 
 /* ---- cutoffs: k-mers with a count below the cutoff are removed, those at the cutoff stay
  *
- * The hole cutoff is the one to cut at: it keeps the genome whole up to the budget. The crossover and the error floor say where the errors
- * end; a hole cutoff below the floor leaves errors in.
+ * Cut at the valley, or at the hole cutoff where that is smaller: the hole cutoff is the largest that keeps the genome whole up to the
+ * budget, and each smaller one keeps it too. The program pick answers so, with none where the hole cutoff is none. The crossover and the
+ * error floor say where the errors end; a cutoff below the floor leaves errors in.
  */
 
 /*

@@ -81,7 +81,7 @@ fn pick_bins(bins: &[u32], asked: Asked, watch: Watch, status: bool) {
     let three = c.attempt;
     let four = d.attempt;
     let size = write_record(asked, bins.len(), one, two, three, four, &mut text);
-    let last = last_line(asked.budget, one, two, three, four);
+    let last = last_line(asked, one, two, three, four);
     show(&text, size, last.kind, status);
 }
 

@@ -53,7 +53,7 @@ askedTemplate =
     ∷ [])
 
 abbrev pub version : ℕ
-version = 1
+version = 2
 
 abbrev pub askedValues : Asked → List ℕ
 askedValues a =

@@ -4,4 +4,5 @@ pub mod Attempts
 pub mod Fits
 pub mod Leaning
 pub mod Heads
+pub mod Answers
 pub mod Record

@@ -8,7 +8,7 @@ use crate::values::pattern;
 use templates::filling::fill;
 
 // It goes up with every change of the record or of what it says.
-pub const VERSION: u64 = 1;
+pub const VERSION: u64 = 2;
 
 // The dispersions that the starts begin at, beside the hint, and the shapes of their shelves, each a retained fraction and a
 // concentration: the Rust's.

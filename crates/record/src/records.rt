@@ -4,7 +4,14 @@ ghost use mathlib.Core.List.{[], _∷_};
 ghost use lib.ListN.{length};
 ghost use Rattle.fitter.specs.Selection.{selectOf};
 ghost use Rattle.templates.specs.Cut.{putAt, endAt};
-ghost use Rattle.record.specs.Record.{isBelow, isLeast, endPart, answerText, noFit, refusedLast, lastIn, lastOf, lastText, chosenText, selectedText, attemptsText, recordOf, refusedOf, brokenOf};
+ghost use Rattle.record.specs.Record.{cutoffText, answerText, endPart, leaningText, chosenLast, lastOf, lastText, aboveLast, chosenText, selectedText, attemptsText, recordOf, refusedOf, brokenOf};
+use crate::answers::Answer;
+use crate::answers::Last;
+use crate::answers::answer_of;
+use crate::answers::is_low;
+use crate::answers::last_in;
+use crate::answers::least_kind;
+use crate::answers::least_removed;
 use crate::attempt_lines::Cutoffs;
 use crate::attempt_lines::cutoffs_of;
 use crate::attempt_lines::put_attempt;
@@ -19,46 +26,13 @@ use crate::leaning::NO_WALK;
 use crate::leaning::NONE;
 use crate::leaning::leaning_of;
 use crate::leaning::vote;
-use crate::values::Hole;
 use crate::values::flag;
-use crate::values::hole_of;
 use crate::values::pattern;
 use fitter::attempts::FitAttempt;
 use fitter::selection::Selected;
 use fitter::selection::select_fit;
 use models::fit::SpectrumFit;
 use templates::filling::fill;
-
-// The last line: 0 cutoff, 1 unsure, 2 no fit, 3 refused; then 0 none, 1 a number, 2 nothing.
-pub struct Last {
-    pub kind: u64,
-    pub part: u64,
-    pub at: u64,
-}
-
-fn is_below(c: Cutoffs) -> bool
-    ensures { λ r. ⌜ r ≡ isBelow c ⌝ }
-{
-    let hole = c.hole;
-    let place = hole.place;
-    let floor = c.floor;
-    if place.part != 1 {
-        return false;
-    }
-    place.at < floor.at
-}
-
-// Whether it is 2, the least that there is.
-fn is_least(c: Cutoffs) -> bool
-    ensures { λ r. ⌜ r ≡ isLeast c ⌝ }
-{
-    let hole = c.hole;
-    let place = hole.place;
-    if place.part != 1 {
-        return false;
-    }
-    place.at == 2
-}
 
 // 0 for a count, 1 for none, 2 where no valid attempt has a walk.
 fn end_part(l: Leaning, v: u64) -> u64
@@ -70,9 +44,9 @@ fn end_part(l: Leaning, v: u64) -> u64
     flag(v == NONE)
 }
 
-fn put_answer(out: &mut [u8], at: usize, share: f64, c: Cutoffs, l: Leaning) -> usize
-    ensures { λ r. ⌜ r ≡ endAt at (answerText share c l) (length (now (out .entry))) ⌝ }
-    ensures { λ _. ⌜ now (out .exit) ≡ putAt at (answerText share c l) (now (out .entry)) ⌝ }
+fn put_cutoffs(out: &mut [u8], at: usize, share: f64, c: Cutoffs) -> usize
+    ensures { λ r. ⌜ r ≡ endAt at (cutoffText share c) (length (now (out .entry))) ⌝ }
+    ensures { λ _. ⌜ now (out .exit) ≡ putAt at (cutoffText share c) (now (out .entry)) ⌝ }
 {
     let hole = c.hole;
     let place = hole.place;
@@ -87,8 +61,63 @@ fn put_answer(out: &mut [u8], at: usize, share: f64, c: Cutoffs, l: Leaning) -> 
         crossover.at,
         floor.part,
         floor.at,
-        flag(is_below(c)),
-        flag(is_least(c)),
+    ];
+    fill(
+        out,
+        at,
+        b"hole {none|#|-}{ sure| unsure: the allowed share is not finite| unsure: a probability is not from 0 to 2| no walk| refused|}
+allowed_share ~
+crossover {none|#|-}
+error_floor {none|#|-}
+",
+        &values,
+    )
+}
+
+// `kind` is the hole's: how sure it is.
+fn put_answer(
+    out: &mut [u8],
+    at: usize,
+    fit: SpectrumFit,
+    budget: f64,
+    kind: u64,
+    a: Answer,
+) -> usize
+    ensures { λ r. ⌜ r ≡ endAt at (answerText fit budget kind a) (length (now (out .entry))) ⌝ }
+    ensures { λ _. ⌜ now (out .exit) ≡ putAt at (answerText fit budget kind a) (now (out .entry)) ⌝ }
+{
+    let place = a.place;
+    let share = budget / fit.genome_kmers;
+    let removed = least_removed(fit);
+    let values = [
+        flag(a.hole),
+        flag(a.below),
+        least_kind(place, share, removed),
+        pattern(removed / share),
+        kind,
+        flag(is_low(a)),
+    ];
+    fill(
+        out,
+        at,
+        b"answer {valley|hole}{|
+below floor}{|
+least_cutoff kept|
+least_cutoff broken ~}{|
+doubt.share it is not finite|
+doubt.probability one is not from 0 to 2|
+doubt.walk there is none, so no cutoff is known to keep the budget}{|
+doubt.floor the answer lies under it}
+",
+        &values,
+    )
+}
+
+fn put_leaning(out: &mut [u8], at: usize, l: Leaning) -> usize
+    ensures { λ r. ⌜ r ≡ endAt at (leaningText l) (length (now (out .entry))) ⌝ }
+    ensures { λ _. ⌜ now (out .exit) ≡ putAt at (leaningText l) (now (out .entry)) ⌝ }
+{
+    let values = [
         l.valid as u64,
         l.same as u64,
         end_part(l, l.least),
@@ -99,59 +128,13 @@ fn put_answer(out: &mut [u8], at: usize, share: f64, c: Cutoffs, l: Leaning) -> 
     fill(
         out,
         at,
-        b"hole {none|#|-}{ sure| unsure: the allowed share is not finite| unsure: a probability is not from 0 to 2| no walk| refused|}
-allowed_share ~
-crossover {none|#|-}
-error_floor {none|#|-}{|
-below floor}{|
-least cutoff: what it removes may be more than the budget}
-valid_attempts #
+        b"valid_attempts #
 same_hole #
 least_hole {#|none|-}
 largest_hole {#|none|-}
 ",
         &values,
     )
-}
-
-// Sure, or no walk: a cutoff.
-fn last_in(h: Hole) -> Last
-    ensures { λ r. ⌜ r ≡ lastIn h ⌝ }
-{
-    let place = h.place;
-    if h.kind == 0 {
-        return Last {
-            kind: 0,
-            part: place.part,
-            at: place.at,
-        };
-    }
-    if h.kind == 3 {
-        return Last {
-            kind: 0,
-            part: place.part,
-            at: place.at,
-        };
-    }
-    if h.kind == 4 {
-        return Last {
-            kind: 3,
-            part: 1,
-            at: h.number,
-        };
-    }
-    if h.kind == 5 {
-        return Last {
-            kind: 2,
-            part: 2,
-            at: 0,
-        };
-    }
-    Last {
-        kind: 1,
-        part: place.part,
-        at: place.at,
-    }
 }
 
 fn put_last(out: &mut [u8], at: usize, l: Last) -> usize
@@ -168,43 +151,73 @@ fn put_last(out: &mut [u8], at: usize, l: Last) -> usize
     )
 }
 
-fn put_chosen(
+// Everything that stands between the fit and the last line.
+fn put_above(
     out: &mut [u8],
     at: usize,
-    budget: f64,
+    asked: Asked,
     a: FitAttempt,
     b: FitAttempt,
     c: FitAttempt,
     d: FitAttempt,
     fit: SpectrumFit,
 ) -> usize
-    ensures { λ r. ⌜ r ≡ endAt at (chosenText budget (a ∷ b ∷ c ∷ d ∷ []) fit) (length (now (out .entry))) ⌝ }
-    ensures { λ _. ⌜ now (out .exit) ≡ putAt at (chosenText budget (a ∷ b ∷ c ∷ d ∷ []) fit) (now (out .entry)) ⌝ }
+    ensures { λ r. ⌜ r ≡ endAt at (aboveLast asked (a ∷ b ∷ c ∷ d ∷ []) fit) (length (now (out .entry))) ⌝ }
+    ensures { λ _. ⌜ now (out .exit) ≡ putAt at (aboveLast asked (a ∷ b ∷ c ∷ d ∷ []) fit) (now (out .entry)) ⌝ }
 {
+    let budget = asked.budget;
     let cutoffs = cutoffs_of(fit, budget);
     let hole = cutoffs.hole;
+    let answer = answer_of(asked.valley as u64, cutoffs);
     let l = leaning_of(budget, vote(hole), a, b, c, d);
+    let first = put_cutoffs(out, at, budget / fit.genome_kmers, cutoffs);
+    let second = put_answer(out, first, fit, budget, hole.kind, answer);
+    put_leaning(out, second, l)
+}
+
+// The last line of a selected fit.
+fn chosen_last(asked: Asked, fit: SpectrumFit) -> Last
+    ensures { λ r. ⌜ r ≡ chosenLast asked fit ⌝ }
+{
+    let cutoffs = cutoffs_of(fit, asked.budget);
+    let hole = cutoffs.hole;
+    last_in(hole, answer_of(asked.valley as u64, cutoffs))
+}
+
+fn put_chosen(
+    out: &mut [u8],
+    at: usize,
+    asked: Asked,
+    a: FitAttempt,
+    b: FitAttempt,
+    c: FitAttempt,
+    d: FitAttempt,
+    fit: SpectrumFit,
+) -> usize
+    ensures { λ r. ⌜ r ≡ endAt at (chosenText asked (a ∷ b ∷ c ∷ d ∷ []) fit) (length (now (out .entry))) ⌝ }
+    ensures { λ _. ⌜ now (out .exit) ≡ putAt at (chosenText asked (a ∷ b ∷ c ∷ d ∷ []) fit) (now (out .entry)) ⌝ }
+{
     let first = put_fit(out, at, fit);
-    let second = put_answer(out, first, budget / fit.genome_kmers, cutoffs, l);
-    put_last(out, second, last_in(hole))
+    let second = put_above(out, first, asked, a, b, c, d, fit);
+    put_last(out, second, chosen_last(asked, fit))
 }
 
 fn put_selected(
     out: &mut [u8],
     at: usize,
-    budget: f64,
+    asked: Asked,
     a: FitAttempt,
     b: FitAttempt,
     c: FitAttempt,
     d: FitAttempt,
     s: Selected,
 ) -> usize
-    ensures { λ r. ⌜ r ≡ endAt at (selectedText budget (a ∷ b ∷ c ∷ d ∷ []) s) (length (now (out .entry))) ⌝ }
-    ensures { λ _. ⌜ now (out .exit) ≡ putAt at (selectedText budget (a ∷ b ∷ c ∷ d ∷ []) s) (now (out .entry)) ⌝ }
+    ensures { λ r. ⌜ r ≡ endAt at (selectedText asked (a ∷ b ∷ c ∷ d ∷ []) s) (length (now (out .entry))) ⌝ }
+    ensures { λ _. ⌜ now (out .exit) ≡ putAt at (selectedText asked (a ∷ b ∷ c ∷ d ∷ []) s) (now (out .entry)) ⌝ }
 {
     let fit = s.fit;
     if s.found {
-        return put_chosen(out, at, budget, a, b, c, d, fit);
+        return put_chosen(out, at, asked, a, b, c, d, fit);
     }
     put_last(
         out,
@@ -236,13 +249,13 @@ fn put_attempts(
 }
 
 // The last line of their record.
-pub fn last_line(budget: f64, a: FitAttempt, b: FitAttempt, c: FitAttempt, d: FitAttempt) -> Last
-    ensures { λ r. ⌜ r ≡ lastOf budget (selectOf (a ∷ b ∷ c ∷ d ∷ [])) ⌝ }
+pub fn last_line(asked: Asked, a: FitAttempt, b: FitAttempt, c: FitAttempt, d: FitAttempt) -> Last
+    ensures { λ r. ⌜ r ≡ lastOf asked (selectOf (a ∷ b ∷ c ∷ d ∷ [])) ⌝ }
 {
     let selected = select_fit([a, b, c, d]);
     let fit = selected.fit;
     if selected.found {
-        return last_in(hole_of(fit, budget));
+        return chosen_last(asked, fit);
     }
     Last {
         kind: 2,
@@ -270,7 +283,7 @@ pub fn write_record(
     let first = put_asked(out, 0, asked);
     let second = put_spectrum(out, first, asked, bins);
     let third = put_attempts(out, second, a, b, c, d, budget);
-    put_selected(out, third, budget, a, b, c, d, selected)
+    put_selected(out, third, asked, a, b, c, d, selected)
 }
 
 // The record of a spectrum that is refused by number.

@@ -1,8 +1,8 @@
--- `record::records::is_below` meets its contract. Assumes nothing.
+-- `record::answers::is_below` meets its contract. Assumes nothing.
 use borrow.Author.Tests.{eq-eqb, ne-eqb}
-use Rattle.record.specs.Record.{isBelow}
-use Rattle.record.proofs.records.is_below.Statement.{statement}
-use Rattle.record.proofs.records.is_below.Tie as tie
+use Rattle.record.specs.Answers.{isBelow}
+use Rattle.record.proofs.answers.is_below.Statement.{statement}
+use Rattle.record.proofs.answers.is_below.Tie as tie
 
 returns : tie.Need-returns
 unfolding isBelow
