@@ -27,6 +27,7 @@ use searches::refusal;
 use searches::setup_of;
 use showing::LONGEST_RECORD;
 use showing::complain;
+use showing::give_up;
 use showing::show;
 use showing::tell;
 use streams::input::Input;
@@ -73,7 +74,7 @@ fn pick_bins(bins: &[u32], asked: Asked, watch: Watch, status: bool) {
     let c = attempt(bins, asked, end, share, pareto, shelved, 3, watch);
     let d = attempt(bins, asked, end, share, weibull, shelved, 4, watch);
     if !a.whole || !b.whole || !c.whole || !d.whole {
-        complain(b"pick: a search was refused, which can't be\n", status);
+        give_up(status);
         return;
     }
     let one = a.attempt;
@@ -104,6 +105,7 @@ fn main() {
     let asked = a.asked;
     let watch = Watch {
         quiet: a.quiet,
+        status: a.status,
         began: seconds(),
     };
     if !a.fine {

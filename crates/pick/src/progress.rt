@@ -4,6 +4,8 @@ use templates::filling::fill;
 
 pub struct Watch {
     pub quiet: bool,
+    // Whether `fogatise` listens for the word by which the program ends.
+    pub status: bool,
     // Seconds of the machine's clock, at the start.
     pub began: u64,
 }

@@ -1,7 +1,8 @@
 // One configuration: its starts, the search from each of them to its end, and what it came to.
-ghost use Prim.Native.Nat.{_≤_};
+ghost use Prim.Native.Nat.{_<_, _≤_};
 use crate::progress::Watch;
 use crate::progress::say;
+use crate::showing::is_heard;
 use attempts::attempting::attempt_from_numbers;
 use attempts::settling::Setup;
 use fitter::attempts::FitAttempt;
@@ -165,7 +166,16 @@ fn go_on(
     both(is_written(ran), is_written(reported))
 }
 
-// As many turns as the largest cap, by which every run has ended, with a line of progress between.
+// The slice that comes next: the end of them all, where nobody listens.
+fn next_slice(slice: u64, heard: bool) -> u64
+    requires { ⌜ slice < 20 ⌝ }
+    ensures { λ r. ⌜ (slice < r) × (r ≤ 20) ⌝ }
+{
+    if heard { slice + 1 } else { SLICES }
+}
+
+// As many turns as the largest cap, by which every run has ended, with a line of progress between. It stops early where
+// nobody listens.
 fn search_all(
     bins: &[u32],
     problem: Problem,
@@ -208,7 +218,7 @@ fn search_all(
             let least = least_cost(first_floats(costs, runs));
             say(watch, k, done as u64, runs as u64, pattern(least));
         }
-        slice += 1;
+        slice = next_slice(slice, is_heard(watch.status));
     }
     both(whole, done >= runs)
 }

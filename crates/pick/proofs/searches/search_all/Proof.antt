@@ -13,7 +13,9 @@ use Rattle.pick.proofs.searches.first_flags.Reads as first-flags-reads
 use Rattle.pick.proofs.searches.first_floats.Reads as first-floats-reads
 use Rattle.pick.proofs.searches.go_on.Reads as go-on-reads
 use Rattle.pick.proofs.searches.least_cost.Reads as least-cost-reads
+use Rattle.pick.proofs.searches.next_slice.Reads as next-slice-reads
 use Rattle.pick.proofs.searches.runs_done.Reads as runs-done-reads
+use Rattle.pick.proofs.showing.is_heard.Reads as is-heard-reads
 use Rattle.record.proofs.values.pattern.Reads as pattern-reads
 
 abbrev Inv-loop : tie.InvT-loop
@@ -65,8 +67,12 @@ say-requires : tie.Need-say-requires Inv-loop μ-loop
 say-requires c κs = search needs
 
 -- src/searches.rt:177:9
-add-slice : tie.Need-add-slice Inv-loop μ-loop
-add-slice c = omega arith
+is-heard-requires : tie.Need-is-heard-requires Inv-loop μ-loop
+is-heard-requires c κs = search needs
+
+-- src/searches.rt:177:9
+next-slice-requires : tie.Need-next-slice-requires Inv-loop μ-loop
+next-slice-requires c κs = search needs
 
 -- src/searches.rt:167:5
 loop-less : tie.Need-loop-less Inv-loop μ-loop
@@ -75,7 +81,7 @@ loop-less c = omega arith
 -- src/searches.rt:167:5
 loop-again : tie.Need-loop-again Inv-loop μ-loop
 loop-again c =
-    let g = c .before .before .before .before .before .before .before .before .before .before .before .before .before .before .before .before .before .before .before .before .before .before in
+    let g = c .before .before .before .before .before .before .before .before .before .before .before .before .before .before .before .before .before .before .before .before .before .before .before .before in
     let l = g .before .before .before .before .before .before .before .before .before .before .before .before in
     let kept = g .go-on .kept in
     let inv = l .loop .inv in (
@@ -156,7 +162,8 @@ search-all-spec =
     least-cost-requires
     pattern-requires
     say-requires
-    add-slice
+    is-heard-requires
+    next-slice-requires
     loop-less
     loop-again
     both-requires-2
