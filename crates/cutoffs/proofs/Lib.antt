@@ -1,4 +1,5 @@
 -- Laws of the cutoffs, and demand 3.
+pub mod Found
 pub mod Walks
 pub mod Ceilings
 pub mod ExactSums

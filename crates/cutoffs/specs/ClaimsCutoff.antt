@@ -1,15 +1,16 @@
 -- Demand 3, word for word: what is supposed, and what then holds of the exact sums of the probabilities.
 -- Every finite `f64` is a whole multiple of 2 ^ -1074 (`probability-whole`, `share-whole` in proofs/HoleCutoffs.antt).
 -- Sums and comparisons are those of these whole numbers, with both sides times 2 ^ 36 where one part in 2 ^ 36 is
--- allowed.
+-- allowed. And what the walk finds, by its f64 sums, below a ceiling that is told without its definition.
 -- Definitions only. Assumes nothing.
-use Prim.Native.Nat.{ℕ, zero, suc, _+_, _^_, _≤_}
+use Prim.Native.Nat.{ℕ, zero, suc, _+_, _*_, _^_, _≤_, _<_, max}
 use mathlib.Core.Path.{_≡_}
 use mathlib.Core.Bool.{true, false}
 use mathlib.Core.Option.{Option, none, some}
 use lib.IntN.{ℤ, pos, negℤ, _+ℤ_, _*ℤ_}
 use lib.Signed.{_≤ℤ_, _<ℤ_}
-use lib.Ieee.{Float, nan, inf, fin}
+use lib.Ieee.{Float, nan, inf, fin, lt}
+use lib.Ieee.Positive.{num, den}
 use lib.Ieee.Scale.{finite}
 use Rattle.meaning.specs.Reply.{Reply, refuse, broken, give}
 use Rattle.routines.specs.Ops.{_⊕_}
@@ -83,6 +84,30 @@ pub record Sharp (p : ℕ → Float) (k : ℕ) : Type 0 where
       ≤ℤ (sumBelow p (suc k) *ℤ pos (2 ^ 53) +ℤ pos k *ℤ exactly (running p k))
   pub under : (sumBelow p (suc k) *ℤ pos (2 ^ 53))
       ≤ℤ (exactly (running p k) *ℤ pos (2 ^ 53) +ℤ pos k *ℤ exactly (running p k))
+
+-- ---- what the walk finds
+-- c is the first count from 1 to ceiling - 1 whose f64 sum through it is above what is allowed
+pub record FirstAbove (p : ℕ → Float) (allowed : Float) (ceiling c : ℕ) : Type 0 where
+  pub first : 1 ≤ c
+  pub last : c < ceiling
+  pub there : lt allowed (running p c) ≡ true
+  pub earlier : (j : ℕ) → 1 ≤ j → j < c → lt allowed (running p j) ≡ false
+
+-- with none there is no such count; a cutoff is that count, or 2 for 1
+abbrev pub Finds : (ℕ → Float) → Float → ℕ → Option ℕ → Type 0
+Finds p allowed ceiling none = (j : ℕ) → 1 ≤ j → j < ceiling → lt allowed (running p j) ≡ false
+Finds p allowed ceiling (some r) = (c : ℕ) × (r ≡ max c 2) × FirstAbove p allowed ceiling c
+
+-- of a fit and a budget
+abbrev pub HoleFinds : SpectrumFit → Float → Option ℕ → Type 0
+HoleFinds fit budget = Finds (singleAt fit) (allowedOf fit budget) (ceilingOf fit)
+
+-- n is the largest whole number that is at most the window end and at most the mean and a half: so it is the smaller of
+-- the window end and the mean to the nearest whole number, a half up. The mean is num / den.
+pub record Ceiling (fit : SpectrumFit) (n : ℕ) : Type 0 where
+  pub window : n ≤ fit .«fit_window_end»
+  pub rounded : 2 * n * den (fit .mean) ≤ 2 * num (fit .mean) + den (fit .mean)
+  pub largest : n < fit .«fit_window_end» → 2 * num (fit .mean) + den (fit .mean) < 2 * suc n * den (fit .mean)
 
 -- ---- the cutoff that `hole_cutoff_sure` tells
 abbrev pub told : Sureness → Option ℕ
