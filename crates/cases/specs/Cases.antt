@@ -39,9 +39,10 @@ shareRows =
     ∷ (10 ∷ 4 ∷ 2 ∷ 6 ∷ 8 ∷ 6 ∷ [], 3, 5, dec 1 100)
     ∷ []
 
--- ---- walk over four probabilities with ceiling 4: the allowed share, and the cutoff
+-- ---- walk over four probabilities with ceiling 4: the allowed share, and the cutoff. A fifth stands at the ceiling,
+-- where no walk goes: one through the ceiling would find a sum of 1.25 there, above 1, and answer 4 for none.
 abbrev pub probabilities : ℕ → Float
-probabilities c = getD (dec 125 1000 ∷ dec 125 1000 ∷ dec 25 100 ∷ dec 25 100 ∷ []) c nan
+probabilities c = getD (dec 125 1000 ∷ dec 125 1000 ∷ dec 25 100 ∷ dec 25 100 ∷ dec 5 10 ∷ []) c nan
 
 abbrev pub walks : Float × Option ℕ → Type 0
 walks row = walkOf probabilities (row .0) 4 ≡ row .1
