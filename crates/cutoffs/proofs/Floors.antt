@@ -1,10 +1,12 @@
 -- WHAT `error_floor_cutoff` ANSWERS: one past the last count of the window where the errors reach the height of the
--- single copies at their mode, wherever that mode lies; and the corners that document 01 keeps. Assumes nothing.
-use Prim.Native.Nat.{ℕ, suc, _+_, _≤_, _<_}
+-- single copies at their mode, wherever that mode lies, from 2 to 65,535 (`error-floor-is`); and no other number is that
+-- (`error-floor-only`). And the corners that document 01 keeps. Assumes nothing.
+use Prim.Native.Nat.{ℕ, suc, _+_, _-_, _≤_, _<_}
 use mathlib.Core.Path.{_≡_, refl, sym, ap, _∙_, subst}
 use mathlib.Core.Bool.{Bool, true, false, cond, true≢false, false≢true}
-use mathlib.Core.Logic.{inl, inr}
+use mathlib.Core.Logic.{_⊎_, inl, inr}
 use native.Mathlib.Nat.{le-of-suc-le-suc, eq-or-lt-of-le, le-refl, le-suc, lt-of-lt-of-le}
+use native.Mathlib.Numerals.{add-one}
 use native.Mathlib.Omega.{arith}
 use borrow.Author.Tests.{le-ltb, ne-eqb}
 use lib.Dec.{eqb}
@@ -22,7 +24,7 @@ use Rattle.helpers.specs.Lobes.{two64}
 use Rattle.models.specs.Heights.{heightsAt}
 use Rattle.models.specs.declared.fit.SpectrumFit.{SpectrumFit}
 use Rattle.models.proofs.Corners.{primary-mode-full}
-use Rattle.cutoffs.specs.ClaimsHeights.{bad, ErrorFloor}
+use Rattle.cutoffs.specs.ClaimsHeights.{bad, BadAt, ErrorFloor}
 use Rattle.cutoffs.specs.HeightCutoffs.{errorsIn, referenceOf, laterBad, lastBadOf, floorOf, errorFloorOf}
 
 -- ---- the last bad count before n
@@ -73,6 +75,13 @@ module _ (fit : SpectrumFit) where
   so : LastBad (errorsIn fit) (referenceOf fit) (end + 1) last
   so = last-bad (errorsIn fit) (referenceOf fit) end
 
+  -- the last bad count, where there is one, is a count of the window
+  last-is-bad : 1 ≤ last → BadAt fit last
+  last-is-bad h = (le-of-suc-le-suc (subst (λ (n : ℕ). last < n) (add-one end) (so .low)), so .found h)
+
+  bad-is : (k : ℕ) → 1 ≤ last → last ≡ k → BadAt fit k
+  bad-is k h e = subst (BadAt fit) e (last-is-bad h)
+
   pub error-floor-is : (c : ℕ) → errorFloorOf fit ≡ give c → ErrorFloor fit c
   unfolding errorFloorOf
   error-floor-is c gave =
@@ -83,17 +92,18 @@ module _ (fit : SpectrumFit) where
         least = omega arith;
         most = omega arith;
         behind =
-            λ (k : ℕ) (l : c ≤ k) (m : k ≤ end) (n : k < 65535). so .clear k (behind-last last c k same l n)
+            λ (n : c < 65535) (k : ℕ) (l : c ≤ k) (m : k ≤ end). so .clear k (behind-last last c k same l n)
             (inside k end m);
         before =
-            λ (k : ℕ) (l : k + 1 ≡ c) (m : 2 < c) (n : c < 65535). subst (λ (i : ℕ). bad fit i ≡ true)
-            (the-last last c k same l m n) (so .found (some last c same m));
+            λ (n : c < 65535) (m : 2 < c) (k : ℕ) (l : k + 1 ≡ c). bad-is k (some last c same m)
+            (the-last last c k same l m n);
+        highest = λ (full : c ≡ 65535). top (some last c same (large c full)) (one-of last end c same low few full);
       }
     where
       inside : (k e : ℕ) → k ≤ e → k < e + 1
       inside k e h = omega arith
 
-      behind-last : (a c k : ℕ) → floorOf a ≡ c → c ≤ k → k < 65535 → a < k
+      behind-last : (a c k : ℕ) → floorOf a ≡ c → c ≤ k → c < 65535 → a < k
       behind-last a c k e l n = omega arith
 
       the-last : (a c k : ℕ) → floorOf a ≡ c → k + 1 ≡ c → 2 < c → c < 65535 → a ≡ k
@@ -102,6 +112,38 @@ module _ (fit : SpectrumFit) where
       some : (a c : ℕ) → floorOf a ≡ c → 2 < c → 1 ≤ a
       some a c e m = omega arith
 
+      large : (c : ℕ) → c ≡ 65535 → 2 < c
+      large c e = omega arith
+
+      one-of : (a n c : ℕ) → floorOf a ≡ c → a < n + 1 → n ≤ 65535 → c ≡ 65535 → (a ≡ 65534) ⊎ (a ≡ 65535)
+      one-of a n c e l m f =
+          let h : 65534 ≤ a = omega arith in
+          elim (eq-or-lt-of-le h) [ inl low ↦ inl (sym low) | inr more ↦ inr (omega arith) ]
+
+      top : 1 ≤ last → (last ≡ 65534) ⊎ (last ≡ 65535) → BadAt fit 65534 ⊎ BadAt fit 65535
+      top h (inl e) = inl (bad-is 65534 h e)
+      top h (inr e) = inr (bad-is 65535 h e)
+
+  -- ---- and no other number is one
+  not-behind : (c k : ℕ) → ErrorFloor fit c → c < 65535 → c ≤ k → BadAt fit k → ⊥
+  not-behind c k f n l b = true≢false (sym (b .1) ∙ f .behind n k l (b .0))
+
+  not-lower : (c d : ℕ) → ErrorFloor fit c → ErrorFloor fit d → c < d → ⊥
+  not-lower c d f g l = elim (eq-or-lt-of-le (g .most)) [
+    | inl full ↦ elim (g .highest full) [
+      | inl b ↦ not-behind c 65534 f (omega arith) (omega arith) b
+      | inr b ↦ not-behind c 65535 f (omega arith) (omega arith) b
+    ]
+    | inr n ↦ not-behind c (d - 1) f (omega arith) (omega arith)
+        (g .before n (above (f .least) l) (d - 1) (omega arith))
+  ]
+    where
+      above : 2 ≤ c → c < d → 2 < d
+      above h l = omega arith
+
+  one-floor : (c d : ℕ) → ErrorFloor fit c → ErrorFloor fit d → c ≡ d
+  one-floor c d f g = omega (arith, not-lower c d f g, not-lower d c g f)
+
   -- a window of counts has a floor, wherever the mode lies: nobody gave it as a count
   module _ (some : 1 ≤ end) (few : end ≤ 65535) where
     pub error-floor-given : errorFloorOf fit ≡ give (floorOf last)
@@ -109,6 +151,10 @@ module _ (fit : SpectrumFit) where
     error-floor-given =
         let not-zero : eqb end 0 ≡ false = ne-eqb end 0 (λ (z : end ≡ 0). absurd (omega arith)) in
         rw (le-ltb 65535 end few, not-zero)
+
+    pub error-floor-only : (c : ℕ) → ErrorFloor fit c → errorFloorOf fit ≡ give c
+    error-floor-only c f =
+        error-floor-given ∙ ap give (one-floor (floorOf last) c (error-floor-is (floorOf last) error-floor-given) f)
 
     -- a NaN reference height gives 2
     pub floor-of-nan : referenceOf fit ≡ nan → errorFloorOf fit ≡ give 2

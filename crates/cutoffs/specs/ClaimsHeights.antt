@@ -2,6 +2,7 @@
 use Prim.Native.Nat.{ℕ, _+_, _≤_, _<_, max}
 use mathlib.Core.Path.{_≡_}
 use mathlib.Core.Bool.{Bool, true, false}
+use mathlib.Core.Logic.{_⊎_}
 use lib.Ieee.{le}
 use Rattle.models.specs.declared.fit.SpectrumFit.{SpectrumFit}
 use Rattle.cutoffs.specs.HeightCutoffs.{heightsIn, crossoverCeiling, outgrows, errorsIn, referenceOf}
@@ -26,10 +27,15 @@ pub record Crossover (fit : SpectrumFit) (c k : ℕ) : Type 0 where
 abbrev pub bad : SpectrumFit → ℕ → Bool
 bad fit k = le (referenceOf fit) (errorsIn fit k)
 
--- from c on no count of the window is bad, and above 2 the one before c is. 65,535 is the highest floor: it may be bad
--- itself.
+-- a bad count of the window
+abbrev pub BadAt : SpectrumFit → ℕ → Type 0
+BadAt fit k = (k ≤ fit .«fit_window_end») × (bad fit k ≡ true)
+
+-- from c on no count of the window is bad, and above 2 the one before c is bad, a count of the window. 65,535 is the
+-- highest floor: there 65,534 is bad or 65,535 itself.
 pub record ErrorFloor (fit : SpectrumFit) (c : ℕ) : Type 0 where
   pub least : 2 ≤ c
   pub most : c ≤ 65535
-  pub behind : (k : ℕ) → c ≤ k → k ≤ fit .«fit_window_end» → k < 65535 → bad fit k ≡ false
-  pub before : (k : ℕ) → k + 1 ≡ c → 2 < c → c < 65535 → bad fit k ≡ true
+  pub behind : c < 65535 → (k : ℕ) → c ≤ k → k ≤ fit .«fit_window_end» → bad fit k ≡ false
+  pub before : c < 65535 → 2 < c → (k : ℕ) → k + 1 ≡ c → BadAt fit k
+  pub highest : c ≡ 65535 → BadAt fit 65534 ⊎ BadAt fit 65535
