@@ -26,7 +26,7 @@ use Rattle.cutoffs.specs.ClaimsCutoff.{exactly, sumBelow, removedBy, all
 use Rattle.cutoffs.specs.Cutoffs.{ceilingOf}
 use Rattle.cutoffs.specs.Slips.{downFrom, fromTop, inPairs, walkBy, slipOf}
 use Rattle.cutoffs.specs.Walk.{walkFrom, walkOf}
-use Rattle.cutoffs.proofs.Witnesses.{meanFour}
+use Rattle.cutoffs.specs.Witnesses.{meanFour}
 
 -- ---- the sum through 2 does not exceed a share of 1, nor is the sum below the ceiling at most 0
 two-lost : T (ltZ (allowedShare meanFour (dec 1000 1) *ℤ pos (2 ^ 36)) (removedBy meanFour 3 *ℤ pos (2 ^ 36 + 1))) → ⊥

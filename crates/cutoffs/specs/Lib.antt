@@ -5,3 +5,4 @@ pub mod Cutoffs
 pub mod HeightCutoffs
 pub mod ClaimsCutoff
 pub mod ClaimsHeights
+pub mod Witnesses
