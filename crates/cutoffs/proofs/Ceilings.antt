@@ -161,17 +161,6 @@ module _ (fit : SpectrumFit) where
     mean-two : T (positive mean) × (2 * den mean ≤ num mean)
     mean-two = two-or-more mean (tested .0) (tested .1)
 
-    rounds-to-two : 2 ≤ toUnsigned 64 (roundOf mean)
-    rounds-to-two =
-        subst (λ (x : Float). 2 ≤ toUnsigned 64 x) (sym (round-opened mean (mean-two .0)))
-        (cut-above 2 nearest (zero-lt-suc 1) (lit≤ tt) (half-up-two (num mean) (den mean) (den-pos mean) (mean-two .1)))
-
-    pub ceiling-two : 2 ≤ ceilingOf fit
-    ceiling-two = both (toUnsigned 64 (roundOf mean)) end rounds-to-two (tested .2)
-      where
-        both : (a b : ℕ) → 2 ≤ a → 2 ≤ b → 2 ≤ min a b
-        both a b h k = omega arith
-
     -- the smaller of the window end and the mean to the nearest whole number
     ceiling-nearest : end ≤ 65535 → ceilingOf fit ≡ min nearest end
     ceiling-nearest few =
@@ -184,6 +173,17 @@ module _ (fit : SpectrumFit) where
       largest = λ (h : min nearest end < end). half-less (num mean) (den mean) (min nearest end) (den-pos mean)
           (is-left nearest end h);
     })
+
+    rounds-to-two : 2 ≤ toUnsigned 64 (roundOf mean)
+    rounds-to-two =
+        subst (λ (x : Float). 2 ≤ toUnsigned 64 x) (sym (round-opened mean (mean-two .0)))
+        (cut-above 2 nearest (zero-lt-suc 1) (lit≤ tt) (half-up-two (num mean) (den mean) (den-pos mean) (mean-two .1)))
+
+    pub ceiling-two : 2 ≤ ceilingOf fit
+    ceiling-two = both (toUnsigned 64 (roundOf mean)) end rounds-to-two (tested .2)
+      where
+        both : (a b : ℕ) → 2 ≤ a → 2 ≤ b → 2 ≤ min a b
+        both a b h k = omega arith
 
   -- as it is computed: at most the window end, at most the rounded mean, and one of the two
   pub ceiling-end : ceilingOf fit ≤ end
