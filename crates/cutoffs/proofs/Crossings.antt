@@ -14,7 +14,7 @@ use Rattle.meaning.specs.Rows.{windowTests}
 use Rattle.meaning.proofs.Replies.{gave-answer}
 use Rattle.models.specs.declared.fit.SpectrumFit.{SpectrumFit}
 use Rattle.models.specs.declared.heights.Heights.{Heights}
-use Rattle.cutoffs.specs.ClaimsHeights.{above, ceilingIn, Crossover}
+use Rattle.cutoffs.specs.ClaimsHeights.{above, crossoverCeilingOf, Crossover}
 use Rattle.cutoffs.specs.HeightCutoffs.{heightsIn, outgrows, crossoverStarts, crossingFrom, crossingOf, crossoverOf}
 
 module _ (heights : ℕ → Heights) where
@@ -88,7 +88,7 @@ module _ (heights : ℕ → Heights) where
 -- ---- THE THEOREMS
 module _ (fit : SpectrumFit) where
   abbrev search : Option ℕ
-  search = crossingOf (heightsIn fit) (ceilingIn fit)
+  search = crossingOf (heightsIn fit) (crossoverCeilingOf fit)
 
   answered : (r : Option ℕ) → crossoverOf fit ≡ give r → cond (crossoverStarts fit) search none ≡ r
   unfolding crossoverOf
@@ -100,12 +100,12 @@ module _ (fit : SpectrumFit) where
     where
       go : (b : Bool) → cond b search none ≡ some c → (k : ℕ) × Crossover fit c k
       go true e =
-          let w = found (heightsIn fit) (ceilingIn fit - 1) 1 c e in (
+          let w = found (heightsIn fit) (crossoverCeilingOf fit - 1) 1 c e in (
             w .0,
             record {
               answer = w .1;
               first = w .2 .first;
-              last = below (ceilingIn fit) (w .0) (w .2 .first) (w .2 .last);
+              last = below (crossoverCeilingOf fit) (w .0) (w .2 .first) (w .2 .last);
               there = w .2 .there;
               earlier = w .2 .earlier;
             },
@@ -116,12 +116,12 @@ module _ (fit : SpectrumFit) where
       go false e = let z : _≡_ {A = ℕ} 0 1 = cc in absurd (omega arith)
 
   -- where the search starts and nothing comes back, no count below the ceiling is one
-  pub crossover-none : crossoverStarts fit ≡ true → crossoverOf fit ≡ give none → (k : ℕ) → 1 ≤ k → k < ceilingIn fit
-      → above fit k ≡ false
+  pub crossover-none : crossoverStarts fit ≡ true → crossoverOf fit ≡ give none → (k : ℕ) → 1 ≤ k
+      → k < crossoverCeilingOf fit → above fit k ≡ false
   unfolding crossingOf
   crossover-none starts gave k l m =
-      none-found (heightsIn fit) (ceilingIn fit - 1) 1
-      (ap (λ (b : Bool). cond b search none) (sym starts) ∙ answered none gave) k l (inside (ceilingIn fit) k m)
+      let found : search ≡ none = ap (λ (b : Bool). cond b search none) (sym starts) ∙ answered none gave in
+      none-found (heightsIn fit) (crossoverCeilingOf fit - 1) 1 found k l (inside (crossoverCeilingOf fit) k m)
     where
       inside : (n k : ℕ) → k < n → k < 1 + (n - 1)
       inside n k h = omega arith

@@ -18,7 +18,7 @@ use Rattle.routines.proofs.Compared.{up-to-two, units-bounded}
 use Rattle.routines.proofs.RunningSum.{more}
 use Rattle.routines.proofs.Tests.{yes}
 use Rattle.routines.proofs.Values.{has-units}
-use Rattle.cutoffs.specs.ClaimsCutoff.{exactly, sumBelow, AtMost, Exceeds}
+use Rattle.cutoffs.specs.ClaimsCutoff.{inUnits, sumBelow, AtMost, Exceeds}
 use Rattle.cutoffs.specs.Walk.{probable}
 
 -- ---- one value
@@ -45,12 +45,12 @@ some-units m zero d h e = absurd (omega arith)
 some-units m (suc u) d h e = zero-lt-suc u
 
 -- what is not negative is its units; -0 is 0
-pub exactly-units : (x : Float) → NonNegative binary64 x → exactly x ≡ pos (unitsOf x)
-unfolding exactly
-exactly-units nan h = absurd (h .known)
-exactly-units (inf s) h = absurd (h .known)
-exactly-units (fin false m e) h = refl
-exactly-units (fin true m e) h =
+pub in-units : (x : Float) → NonNegative binary64 x → inUnits x ≡ pos (unitsOf x)
+unfolding inUnits
+in-units nan h = absurd (h .known)
+in-units (inf s) h = absurd (h .known)
+in-units (fin false m e) h = refl
+in-units (fin true m e) h =
     let z : unitsOf (fin true m e) ≡ 0 = none m (up e) (2 ^ low binary64) (unitsOf (fin true m e)) (down e)
     (nltb→le 0 m (h .sign)) (down-pos e) (has-units binary64 (fin true m e) (h .held) tt) in
     ap (λ (u : ℕ). negℤ (pos u)) z ∙ sym (ap pos z)
@@ -75,8 +75,8 @@ negative-times (suc u) N S h k =
     subst (λ (z : ℤ). z <ℤ pos S) (sym (negsuc-*ℤ-pos u N)) (below-zero (suc u * N) S (mul-pos h k))
 
 negative-below : (x : Float) (S : ℕ) → T (fits binary64 x) → T (finite x) → negative x ≡ true
-    → (exactly x *ℤ pos (2 ^ 36)) <ℤ pos S
-unfolding exactly
+    → (inUnits x *ℤ pos (2 ^ 36)) <ℤ pos S
+unfolding inUnits
 negative-below nan S F K e = absurd K
 negative-below (inf s) S F K e = absurd K
 negative-below (fin false m x) S F K e = absurd (false≢true e)
@@ -128,26 +128,26 @@ module _ (p : ℕ → Float) (held : (k : ℕ) → T (fits binary64 (p k))) (cei
   unfolding sumBelow unitsBelow
   signed zero h = refl
   signed (suc n) h =
-      ap (λ (z : ℤ). z +ℤ exactly (p n)) (signed n (le-of-lt h))
+      ap (λ (z : ℤ). z +ℤ inUnits (p n)) (signed n (le-of-lt h))
       ∙ ap (λ (z : ℤ). pos (unitsBelow p n) +ℤ z)
-      (exactly-units (p n) (probable-held (p n) (held n) (between n (le-of-suc-le-suc h))))
+      (in-units (p n) (probable-held (p n) (held n) (between n (le-of-suc-le-suc h))))
       ∙ pos-+ℤ-pos (unitsBelow p n) (unitsOf (p n))
 
   module _ (allowed : Float) (F : T (fits binary64 allowed)) (K : T (finite allowed)) (n : ℕ)
       (h : n ≤ suc ceiling) where
     pub at-most : T (not (negative allowed)) → unitsBelow p n * 2 ^ 36 ≤ unitsOf allowed * (2 ^ 36 + 1)
-        → AtMost (sumBelow p n) (exactly allowed)
+        → AtMost (sumBelow p n) (inUnits allowed)
     at-most s l =
-        rw (signed n h, exactly-units allowed (record { held = F; known = K; sign = s }))
+        rw (signed n h, in-units allowed (record { held = F; known = K; sign = s }))
         (pos-le (unitsBelow p n * 2 ^ 36) (unitsOf allowed * (2 ^ 36 + 1)) l)
 
     pub exceeds : (T (not (negative allowed)) → unitsOf allowed * 2 ^ 36 < unitsBelow p n * (2 ^ 36 + 1))
-        → Exceeds (sumBelow p n) (exactly allowed)
+        → Exceeds (sumBelow p n) (inUnits allowed)
     exceeds l = go (negative allowed) refl
       where
-        go : (b : Bool) → negative allowed ≡ b → Exceeds (sumBelow p n) (exactly allowed)
+        go : (b : Bool) → negative allowed ≡ b → Exceeds (sumBelow p n) (inUnits allowed)
         go false e =
             let s : T (not (negative allowed)) = subst (λ (b : Bool). T (not b)) (sym e) tt in
-            rw (signed n h, exactly-units allowed (record { held = F; known = K; sign = s }))
+            rw (signed n h, in-units allowed (record { held = F; known = K; sign = s }))
             (pos-lt (unitsOf allowed * 2 ^ 36) (unitsBelow p n * (2 ^ 36 + 1)) (l s))
         go true e = rw (signed n h) (negative-below allowed (unitsBelow p n * (2 ^ 36 + 1)) F K e)

@@ -1,5 +1,5 @@
 -- WHAT `error_floor_cutoff` ANSWERS: one past the last count of the window where the errors reach the height of the
--- single copies at their mode, wherever that mode lies, from 2 to 65,535 (`error-floor-is`); and no other number is that
+-- single copies at their mode, wherever that mode lies, from 2 to 65,535 (`error-floor-is`); no other number is that
 -- (`error-floor-only`). And the corners that document 01 keeps. Assumes nothing.
 use Prim.Native.Nat.{ℕ, suc, _+_, _-_, _≤_, _<_}
 use mathlib.Core.Path.{_≡_, refl, sym, ap, _∙_, subst}
@@ -25,7 +25,7 @@ use Rattle.models.specs.Heights.{heightsAt}
 use Rattle.models.specs.declared.fit.SpectrumFit.{SpectrumFit}
 use Rattle.models.proofs.Corners.{primary-mode-full}
 use Rattle.cutoffs.specs.ClaimsHeights.{bad, BadAt, ErrorFloor}
-use Rattle.cutoffs.specs.HeightCutoffs.{errorsIn, referenceOf, laterBad, lastBadOf, floorOf, errorFloorOf}
+use Rattle.cutoffs.specs.HeightCutoffs.{errorsIn, referenceOf, laterBad, lastBadOf, floorBehindOf, errorFloorOf}
 
 -- ---- the last bad count before n
 module _ (errors : ℕ → Float) (reference : Float) where
@@ -85,8 +85,8 @@ module _ (fit : SpectrumFit) where
   pub error-floor-is : (c : ℕ) → errorFloorOf fit ≡ give c → ErrorFloor fit c
   unfolding errorFloorOf
   error-floor-is c gave =
-      let few : end ≤ 65535 = window-passed end (gave-passed (floorOf last) c (windowTests end) gave) .0 in
-      let same : floorOf last ≡ c = gave-answer (floorOf last) c (windowTests end) gave in
+      let few : end ≤ 65535 = window-passed end (gave-passed (floorBehindOf last) c (windowTests end) gave) .0 in
+      let same : floorBehindOf last ≡ c = gave-answer (floorBehindOf last) c (windowTests end) gave in
       let low : last < end + 1 = so .low in
       record {
         least = omega arith;
@@ -103,19 +103,19 @@ module _ (fit : SpectrumFit) where
       inside : (k e : ℕ) → k ≤ e → k < e + 1
       inside k e h = omega arith
 
-      behind-last : (a c k : ℕ) → floorOf a ≡ c → c ≤ k → c < 65535 → a < k
+      behind-last : (a c k : ℕ) → floorBehindOf a ≡ c → c ≤ k → c < 65535 → a < k
       behind-last a c k e l n = omega arith
 
-      the-last : (a c k : ℕ) → floorOf a ≡ c → k + 1 ≡ c → 2 < c → c < 65535 → a ≡ k
+      the-last : (a c k : ℕ) → floorBehindOf a ≡ c → k + 1 ≡ c → 2 < c → c < 65535 → a ≡ k
       the-last a c k e l m n = omega arith
 
-      some : (a c : ℕ) → floorOf a ≡ c → 2 < c → 1 ≤ a
+      some : (a c : ℕ) → floorBehindOf a ≡ c → 2 < c → 1 ≤ a
       some a c e m = omega arith
 
       large : (c : ℕ) → c ≡ 65535 → 2 < c
       large c e = omega arith
 
-      one-of : (a n c : ℕ) → floorOf a ≡ c → a < n + 1 → n ≤ 65535 → c ≡ 65535 → (a ≡ 65534) ⊎ (a ≡ 65535)
+      one-of : (a n c : ℕ) → floorBehindOf a ≡ c → a < n + 1 → n ≤ 65535 → c ≡ 65535 → (a ≡ 65534) ⊎ (a ≡ 65535)
       one-of a n c e l m f =
           let h : 65534 ≤ a = omega arith in
           elim (eq-or-lt-of-le h) [ inl low ↦ inl (sym low) | inr more ↦ inr (omega arith) ]
@@ -146,7 +146,7 @@ module _ (fit : SpectrumFit) where
 
   -- a window of counts has a floor, wherever the mode lies: nobody gave it as a count
   module _ (some : 1 ≤ end) (few : end ≤ 65535) where
-    pub error-floor-given : errorFloorOf fit ≡ give (floorOf last)
+    pub error-floor-given : errorFloorOf fit ≡ give (floorBehindOf last)
     unfolding errorFloorOf
     error-floor-given =
         let not-zero : eqb end 0 ≡ false = ne-eqb end 0 (λ (z : end ≡ 0). absurd (omega arith)) in
@@ -154,7 +154,8 @@ module _ (fit : SpectrumFit) where
 
     pub error-floor-only : (c : ℕ) → ErrorFloor fit c → errorFloorOf fit ≡ give c
     error-floor-only c f =
-        error-floor-given ∙ ap give (one-floor (floorOf last) c (error-floor-is (floorOf last) error-floor-given) f)
+        let floor = floorBehindOf last in
+        error-floor-given ∙ ap give (one-floor floor c (error-floor-is floor error-floor-given) f)
 
     -- a NaN reference height gives 2
     pub floor-of-nan : referenceOf fit ≡ nan → errorFloorOf fit ≡ give 2
@@ -163,7 +164,7 @@ module _ (fit : SpectrumFit) where
         never : le (referenceOf fit) (errorsIn fit last) ≡ true → true ≡ false
         never h = sym h ∙ ap (λ (x : Float). le x (errorsIn fit last)) e ∙ unfold le lt eq in refl
 
-        two : (a : ℕ) → (1 ≤ a → ⊥) → floorOf a ≡ 2
+        two : (a : ℕ) → (1 ≤ a → ⊥) → floorBehindOf a ≡ 2
         two a h = omega (arith, h)
 
     -- a last bad count of 65,535 gives 65,535
@@ -176,7 +177,7 @@ module _ (fit : SpectrumFit) where
         reached : (n : ℕ) → n ≡ 65535 → 65535 < n + 1
         reached n e = omega arith
 
-        full : (a n : ℕ) → a < n + 1 → n ≡ 65535 → (a < 65535 → ⊥) → floorOf a ≡ 65535
+        full : (a n : ℕ) → a < n + 1 → n ≡ 65535 → (a < 65535 → ⊥) → floorBehindOf a ≡ 65535
         full a n l e h = omega (arith, h)
 
   -- a finite mode of 2^64 or more is evaluated at 2^64

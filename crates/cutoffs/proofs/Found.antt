@@ -18,7 +18,7 @@ use Rattle.meaning.proofs.Replies.{gave-answer}
 use Rattle.routines.specs.Ops.{_⊕_}
 use Rattle.models.specs.declared.fit.SpectrumFit.{SpectrumFit}
 use Rattle.cutoffs.specs.ClaimsCutoff.{running, FirstAbove, Finds, HoleFinds}
-use Rattle.cutoffs.specs.Cutoffs.{singleAt, walkStarts, allowedOf, ceilingOf, holeWalkOf, holeCutoffOf}
+use Rattle.cutoffs.specs.Cutoffs.{probabilityIn, walkStarts, allowedOf, ceilingOf, holeWalkOf, holeCutoffOf}
 use Rattle.cutoffs.specs.Walk.{walkFrom, walkOf}
 
 module _ (p : ℕ → Float) (allowed : Float) (ceiling : ℕ) where
@@ -111,11 +111,11 @@ module _ (fit : SpectrumFit) (budget : Float) where
 
   hole-finds : HoleFinds fit budget (holeWalkOf fit budget)
   unfolding holeWalkOf
-  hole-finds = walk-finds (singleAt fit) (allowedOf fit budget) (ceilingOf fit)
+  hole-finds = walk-finds (probabilityIn fit) (allowedOf fit budget) (ceilingOf fit)
 
   hole-only : (answer : Option ℕ) → HoleFinds fit budget answer → holeWalkOf fit budget ≡ answer
   unfolding holeWalkOf
-  hole-only answer f = walk-only (singleAt fit) (allowedOf fit budget) (ceilingOf fit) answer f
+  hole-only answer f = walk-only (probabilityIn fit) (allowedOf fit budget) (ceilingOf fit) answer f
 
   pub hole-cutoff-finds : walkStarts fit ≡ true → (answer : Option ℕ) → holeCutoffOf fit budget ≡ give answer
       → HoleFinds fit budget answer

@@ -25,17 +25,18 @@ use Rattle.routines.proofs.Tests.{yes}
 use Rattle.routines.proofs.Values.{has-units}
 use Rattle.models.specs.declared.fit.SpectrumFit.{SpectrumFit}
 use Rattle.cutoffs.specs.ClaimsCutoff.{Supposed, Keeps, Demanded, DemandedSure, toldOf}
-use Rattle.cutoffs.specs.Cutoffs.{singleAt, walkStarts, allowedOf, ceilingOf, holeWalkOf, holeCutoffOf}
+use Rattle.cutoffs.specs.Cutoffs.{probabilityIn, walkStarts, allowedOf, ceilingOf, holeWalkOf, holeCutoffOf}
 use Rattle.cutoffs.specs.Cutoffs.{sureOf, Sureness, sure, noWalk, sureness, holeCutoffSureOf}
 use Rattle.cutoffs.specs.Walk.{allProbable}
 use Rattle.cutoffs.proofs.Ceilings.{ceiling-two, ceiling-end}
-use Rattle.cutoffs.proofs.Removed.{Says, walk-keeps}
+use Rattle.cutoffs.proofs.Removed.{SumsKept, walk-keeps}
 use Rattle.cutoffs.proofs.Walks.{answer-range, all-each, each-all}
 
 module _ (fit : SpectrumFit) (budget : Float) where
   -- ---- the probabilities and the share are whole numbers of units: nothing is lost of num / den, their exact value
-  pub probability-whole : (k : ℕ) → let p = singleAt fit k in finite p ≡ true → num p * 2 ^ 1074 ≡ unitsOf p * den p
-  probability-whole k h = has-units binary64 (singleAt fit k) (exp-fits _) (yes h)
+  pub probability-whole : (k : ℕ) → let p = probabilityIn fit k in
+      finite p ≡ true → num p * 2 ^ 1074 ≡ unitsOf p * den p
+  probability-whole k h = has-units binary64 (probabilityIn fit k) (exp-fits _) (yes h)
 
   pub share-whole : let s = allowedOf fit budget in finite s ≡ true → num s * 2 ^ 1074 ≡ unitsOf s * den s
   share-whole h = has-units binary64 (allowedOf fit budget) (div-fits binary64 _ _) (yes h)
@@ -53,19 +54,20 @@ module _ (fit : SpectrumFit) (budget : Float) where
   pub hole-cutoff-keeps : Demanded fit budget (holeCutoffOf fit budget)
   unfolding holeCutoffOf holeWalkOf
   hole-cutoff-keeps s answer gave =
-      let p = singleAt fit in
+      let p = probabilityIn fit in
       let allowed = allowedOf fit budget in
       let end = fit .«fit_window_end» in
       let found = holeWalkOf fit budget in
       let walked = cond (walkStarts fit) found none in
-      let says : Says p allowed (ceilingOf fit) found = walk-keeps p (λ (k : ℕ). exp-fits _) (ceilingOf fit)
-      (ceiling-most answer gave) (s .between) allowed (div-fits binary64 _ _) (yes (s .share)) (ceiling-two fit (s .starts)) in
+      let says : SumsKept p allowed (ceilingOf fit) found = walk-keeps p (λ (k : ℕ). exp-fits _) (ceilingOf fit)
+      (ceiling-most answer gave) (s .between) allowed (div-fits binary64 _ _) (yes (s .share))
+      (ceiling-two fit (s .starts)) in
       let same : found ≡ answer = sym (ap (λ (b : Bool). cond b found none) (s .starts))
       ∙ gave-answer walked answer (windowTests end) gave in
       record {
-        removes = λ (c : ℕ) (e : answer ≡ some c). subst (Says p allowed (ceilingOf fit)) (same ∙ e) says .0;
-        reaches = λ (c : ℕ) (e : answer ≡ some c). subst (Says p allowed (ceilingOf fit)) (same ∙ e) says .1;
-        stays = λ (e : answer ≡ none). subst (Says p allowed (ceilingOf fit)) (same ∙ e) says;
+        removes = λ (c : ℕ) (e : answer ≡ some c). subst (SumsKept p allowed (ceilingOf fit)) (same ∙ e) says .0;
+        reaches = λ (c : ℕ) (e : answer ≡ some c). subst (SumsKept p allowed (ceilingOf fit)) (same ∙ e) says .1;
+        stays = λ (e : answer ≡ none). subst (SumsKept p allowed (ceilingOf fit)) (same ∙ e) says;
       }
 
   -- a cutoff is 2 at least, and the ceiling at most
@@ -78,7 +80,8 @@ module _ (fit : SpectrumFit) (budget : Float) where
     where
       go : (b : Bool) → walkStarts fit ≡ b → cond b (holeWalkOf fit budget) none ≡ some c
           → (2 ≤ c) × (c ≤ ceilingOf fit)
-      go true e same = answer-range (singleAt fit) (allowedOf fit budget) (ceilingOf fit) (ceiling-two fit e) c same
+      go true e same =
+          answer-range (probabilityIn fit) (allowedOf fit budget) (ceilingOf fit) (ceiling-two fit e) c same
       go false e same = let z : _≡_ {A = ℕ} 0 1 = cc in absurd (omega arith)
 
   -- ---- the premise, tested
@@ -112,7 +115,7 @@ module _ (fit : SpectrumFit) (budget : Float) where
   unfolding holeCutoffSureOf sureOf
   sure-supposed answer gave =
       let end = fit .«fit_window_end» in
-      let p = singleAt fit in
+      let p = probabilityIn fit in
       let share = finite (allowedOf fit budget) in
       let all = allProbable p (suc (ceilingOf fit)) in
       let t = tested (walkStarts fit) (sureOf fit budget) answer
@@ -130,7 +133,7 @@ module _ (fit : SpectrumFit) (budget : Float) where
   unfolding holeCutoffSureOf sureOf
   supposed-sure s passed =
       let end = fit .«fit_window_end» in
-      let p = singleAt fit in
+      let p = probabilityIn fit in
       let all : allProbable p (suc (ceilingOf fit)) ≡ true = each-all p (suc (ceilingOf fit))
       (λ (k : ℕ) (h : suc k ≤ suc (ceilingOf fit)). s .between k (le-of-suc-le-suc h)) in
       chain-passed (give (answered (walkStarts fit) (sureOf fit budget))) (windowTests end) refl passed

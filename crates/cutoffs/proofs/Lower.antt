@@ -19,7 +19,7 @@ use Rattle.routines.proofs.Shapes.{exp-fits}
 use Rattle.routines.proofs.Tests.{yes}
 use Rattle.models.specs.declared.fit.SpectrumFit.{SpectrumFit}
 use Rattle.cutoffs.specs.ClaimsCutoff.{sumBelow, running, removedBy, allowedShare, AtMost, Exceeds, Supposed}
-use Rattle.cutoffs.specs.Cutoffs.{singleAt, allowedOf, ceilingOf, holeCutoffOf}
+use Rattle.cutoffs.specs.Cutoffs.{probabilityIn, allowedOf, ceilingOf, holeCutoffOf}
 use Rattle.cutoffs.specs.Walk.{probable}
 use Rattle.cutoffs.proofs.Ceilings.{ceiling-two}
 use Rattle.cutoffs.proofs.ExactSums.{pos-le, unitsBelow, below-suc, signed}
@@ -59,7 +59,7 @@ module _ (fit : SpectrumFit) (budget : Float) (s : Supposed fit budget) where
   pub lower-keeps : (h : ℕ) → holeCutoffOf fit budget ≡ give (some h) → 3 ≤ h → (c : ℕ) → c ≤ h
       → AtMost (removedBy fit c) (allowedShare fit budget)
   lower-keeps h gave three c below =
-      lower-sum (singleAt fit) (λ (k : ℕ). exp-fits _) (ceilingOf fit) (s .between) (allowedShare fit budget) c h below
+      lower-sum (probabilityIn fit) (λ (k : ℕ). exp-fits _) (ceilingOf fit) (s .between) (allowedShare fit budget) c h below
       (le-trans (hole-cutoff-range fit budget h gave .1) (le-suc (ceilingOf fit)))
       (hole-cutoff-keeps fit budget s (some h) gave .removes h refl three)
 
@@ -68,14 +68,14 @@ module _ (fit : SpectrumFit) (budget : Float) (s : Supposed fit budget) where
     one : 1 ≤ ceilingOf fit
     one = le-trans (le-suc 1) (ceiling-two fit (s .starts))
 
-    pub least-kept : T (not (lt (allowedOf fit budget) (running (singleAt fit) 1)))
+    pub least-kept : T (not (lt (allowedOf fit budget) (running (probabilityIn fit) 1)))
         → AtMost (removedBy fit 2) (allowedShare fit budget)
     least-kept =
-        within-keeps (singleAt fit) (λ (k : ℕ). exp-fits _) (ceilingOf fit) (ceiling-most fit budget answer gave)
+        within-keeps (probabilityIn fit) (λ (k : ℕ). exp-fits _) (ceilingOf fit) (ceiling-most fit budget answer gave)
         (s .between) (allowedOf fit budget) (div-fits binary64 _ _) (yes (s .share)) 1 one
 
-    pub least-broken : T (lt (allowedOf fit budget) (running (singleAt fit) 1))
+    pub least-broken : T (lt (allowedOf fit budget) (running (probabilityIn fit) 1))
         → Exceeds (removedBy fit 2) (allowedShare fit budget)
     least-broken =
-        above-exceeds (singleAt fit) (λ (k : ℕ). exp-fits _) (ceilingOf fit) (ceiling-most fit budget answer gave)
+        above-exceeds (probabilityIn fit) (λ (k : ℕ). exp-fits _) (ceilingOf fit) (ceiling-most fit budget answer gave)
         (s .between) (allowedOf fit budget) (div-fits binary64 _ _) (yes (s .share)) 1 one

@@ -16,9 +16,9 @@ use Rattle.routines.proofs.Compared.{lt-units, ge-units}
 use Rattle.routines.proofs.RunningSum.{near-start, near-step, near-within, near-beyond, near-room}
 use Rattle.routines.proofs.Sums.{sum-within, sum-grows}
 use Rattle.routines.proofs.Values.{holds-units}
-use Rattle.cutoffs.specs.ClaimsCutoff.{exactly, sumBelow, running, Sharp, AtMost, Exceeds}
+use Rattle.cutoffs.specs.ClaimsCutoff.{inUnits, sumBelow, running, Sharp, AtMost, Exceeds}
 use Rattle.cutoffs.specs.Walk.{walkFrom, walkOf, probable}
-use Rattle.cutoffs.proofs.ExactSums.{probable-held, probable-bounded, exactly-units, pos-le, unitsBelow, below-suc}
+use Rattle.cutoffs.proofs.ExactSums.{probable-held, probable-bounded, in-units, pos-le, unitsBelow, below-suc}
 use Rattle.cutoffs.proofs.ExactSums.{below-one, up-to-answer, below-bounded, signed, at-most, exceeds}
 
 roomy : 2 ^ 20 * 2 ^ low binary64 ≤ overflow binary64
@@ -28,10 +28,10 @@ at-least : (c : ℕ) → 3 ≤ max c 2 → (c ≡ max c 2) × (3 ≤ c)
 at-least c h = (omega arith, omega arith)
 
 -- what a walk's answer says of the exact sums: `Keeps` of specs/ClaimsCutoff.antt, over any probabilities
-abbrev pub Says : (ℕ → Float) → Float → ℕ → Option ℕ → Type 0
-Says p allowed ceiling none = AtMost (sumBelow p ceiling) (exactly allowed)
-Says p allowed ceiling (some c) =
-    (3 ≤ c → AtMost (sumBelow p c) (exactly allowed)) × Exceeds (sumBelow p (suc c)) (exactly allowed)
+abbrev pub SumsKept : (ℕ → Float) → Float → ℕ → Option ℕ → Type 0
+SumsKept p allowed ceiling none = AtMost (sumBelow p ceiling) (inUnits allowed)
+SumsKept p allowed ceiling (some c) =
+    (3 ≤ c → AtMost (sumBelow p c) (inUnits allowed)) × Exceeds (sumBelow p (suc c)) (inUnits allowed)
 
 module _ (p : ℕ → Float) (held : (k : ℕ) → T (fits binary64 (p k))) (ceiling : ℕ) (top : ceiling ≤ 65535)
     (between : (k : ℕ) → k ≤ ceiling → probable (p k) ≡ true) where
@@ -80,7 +80,7 @@ module _ (p : ℕ → Float) (held : (k : ℕ) → T (fits binary64 (p k))) (cei
       let s = sums k h in
       let u = unitsOf (running p k) in
       let S = unitsBelow p (suc k) in
-      let e = exactly-units (running p k) (s .value) in
+      let e = in-units (running p k) (s .value) in
       let f = signed p held ceiling between (suc k) (suc-le-suc h) in
       record {
         over = rw (e, f) (pos-le (u * 2 ^ 53) (S * 2 ^ 53 + k * u) (s .near .over));
@@ -95,7 +95,7 @@ module _ (p : ℕ → Float) (held : (k : ℕ) → T (fits binary64 (p k))) (cei
       passed : 1 ≤ k → T (not (negative allowed)) × (unitsOf cdf ≤ unitsOf allowed)
 
     within : (k : ℕ) (cdf : Float) → suc k ≤ ceiling → 1 ≤ k → Reached k cdf
-        → AtMost (sumBelow p (suc k)) (exactly allowed)
+        → AtMost (sumBelow p (suc k)) (inUnits allowed)
     within k cdf h one r =
         at-most p held ceiling between allowed F K (suc k) (le-trans h (le-suc ceiling)) (r .passed one .0)
         (near-within k (unitsOf cdf) (unitsBelow p (suc k)) (unitsOf allowed) (le-trans (le-of-lt h) top) (r .sum .near)
@@ -106,10 +106,10 @@ module _ (p : ℕ → Float) (held : (k : ℕ) → T (fits binary64 (p k))) (cei
       summed = sum-step k cdf (le-of-lt h) (r .sum)
 
       -- the sum through k + 1 is above what is allowed
-      hit : T (lt allowed (cdf ⊕ p (suc k))) → Says p allowed ceiling (some (max (suc k) 2))
+      hit : T (lt allowed (cdf ⊕ p (suc k))) → SumsKept p allowed ceiling (some (max (suc k) 2))
       hit t = (
         (λ (three : 3 ≤ max (suc k) 2). let e = at-least (suc k) three in
-            subst (λ (n : ℕ). AtMost (sumBelow p n) (exactly allowed)) (e .0)
+            subst (λ (n : ℕ). AtMost (sumBelow p n) (inUnits allowed)) (e .0)
             (within k cdf (le-of-lt h) (past k (e .1)) r)),
         exceeds p held ceiling between allowed F K (suc (max (suc k) 2)) (answer k ceiling h)
             (λ (s : T (not (negative allowed))). lt-of-lt-of-le
@@ -138,28 +138,28 @@ module _ (p : ℕ → Float) (held : (k : ℕ) → T (fits binary64 (p k))) (cei
       }
 
     walks : (left k : ℕ) (cdf : Float) → 2 ≤ ceiling → suc k + left ≡ ceiling → Reached k cdf
-        → Says p allowed ceiling (walkFrom p allowed left (suc k) cdf)
+        → SumsKept p allowed ceiling (walkFrom p allowed left (suc k) cdf)
     unfolding walkFrom
     walks zero k cdf two e r =
         let q : suc k ≡ ceiling = omega arith in
         let one : 1 ≤ k = omega arith in
-        subst (λ (n : ℕ). AtMost (sumBelow p n) (exactly allowed)) q (within k cdf (le-of-eq q) one r)
+        subst (λ (n : ℕ). AtMost (sumBelow p n) (inUnits allowed)) q (within k cdf (le-of-eq q) one r)
     walks (suc left) k cdf two e r =
         let h : suc k < ceiling = omega arith in
         let on : suc (suc k) + left ≡ ceiling = omega arith in
         go (lt allowed (cdf ⊕ p (suc k))) (hit k cdf h r)
         (λ (t : T (not (lt allowed (cdf ⊕ p (suc k))))). walks left (suc k) (cdf ⊕ p (suc k)) two on (miss k cdf h r t))
       where
-        go : (b : Bool) → (T b → Says p allowed ceiling (some (max (suc k) 2)))
-            → (T (not b) → Says p allowed ceiling (walkFrom p allowed left (suc (suc k)) (cdf ⊕ p (suc k))))
-            → Says p allowed ceiling
+        go : (b : Bool) → (T b → SumsKept p allowed ceiling (some (max (suc k) 2)))
+            → (T (not b) → SumsKept p allowed ceiling (walkFrom p allowed left (suc (suc k)) (cdf ⊕ p (suc k))))
+            → SumsKept p allowed ceiling
             (cond b (some (max (suc k) 2)) (walkFrom p allowed left (suc (suc k)) (cdf ⊕ p (suc k))))
         go true u v = u tt
         go false u v = v tt
 
     -- ---- one comparison: the f64 sum through count k against the share, and the exact sum
     pub above-exceeds : (k : ℕ) → k ≤ ceiling → T (lt allowed (running p k))
-        → Exceeds (sumBelow p (suc k)) (exactly allowed)
+        → Exceeds (sumBelow p (suc k)) (inUnits allowed)
     above-exceeds k h t =
         let s = sums k h in
         exceeds p held ceiling between allowed F K (suc k) (suc-le-suc h)
@@ -169,7 +169,7 @@ module _ (p : ℕ → Float) (held : (k : ℕ) → T (fits binary64 (p k))) (cei
         (holds-units binary64 (running p k) (s .value)) t n))
 
     pub within-keeps : (k : ℕ) → k ≤ ceiling → T (not (lt allowed (running p k)))
-        → AtMost (sumBelow p (suc k)) (exactly allowed)
+        → AtMost (sumBelow p (suc k)) (inUnits allowed)
     within-keeps k h t =
         let s = sums k h in
         let u = unitsOf (running p k) in
@@ -177,7 +177,7 @@ module _ (p : ℕ → Float) (held : (k : ℕ) → T (fits binary64 (p k))) (cei
         at-most p held ceiling between allowed F K (suc k) (suc-le-suc h) (g .0)
         (near-within k u (unitsBelow p (suc k)) (unitsOf allowed) (le-trans h top) (s .near) (g .1))
 
-    pub walk-keeps : 2 ≤ ceiling → Says p allowed ceiling (walkOf p allowed ceiling)
+    pub walk-keeps : 2 ≤ ceiling → SumsKept p allowed ceiling (walkOf p allowed ceiling)
     unfolding walkOf
     walk-keeps two =
         walks (ceiling - 1) 0 (p 0) two (all ceiling two)

@@ -22,7 +22,7 @@ use Rattle.routines.specs.Units.{unitsIn}
 use Rattle.routines.specs.Whole.{roundOf}
 use Rattle.helpers.specs.Lobes.{lnDpoisOf, lnDnbinomOf}
 use Rattle.helpers.specs.Shelves.{lnSingleCopyOf}
-use Rattle.cutoffs.specs.ClaimsCutoff.{exactly, sumBelow, removedBy, allowedShare, Keeps}
+use Rattle.cutoffs.specs.ClaimsCutoff.{inUnits, sumBelow, removedBy, allowedShare, Keeps}
 use Rattle.cutoffs.specs.Cutoffs.{ceilingOf}
 use Rattle.cutoffs.specs.Slips.{downFrom, fromTop, inPairs, walkBy, slipOf}
 use Rattle.cutoffs.specs.Walk.{walkFrom, walkOf}
@@ -30,11 +30,11 @@ use Rattle.cutoffs.specs.Witnesses.{meanFour}
 
 -- ---- the sum through 2 does not exceed a share of 1, nor is the sum below the ceiling at most 0
 two-lost : T (ltZ (allowedShare meanFour (dec 1000 1) *ℤ pos (2 ^ 36)) (removedBy meanFour 3 *ℤ pos (2 ^ 36 + 1))) → ⊥
-unfolding exactly sumBelow unitsIn lnSingleCopyOf lnDnbinomOf lnDpoisOf lgammaOf aboveZero fourUp stirlingWith lnOf lnCore lnTail besideZero lnRows expOf tee scaledUp scaledBy reduced expTail besideOne outOfRange atLeast atMost rows roundOf round toUnsigned ofInt toBits ofBits neg add sub mul div lt le eq
+unfolding inUnits sumBelow unitsIn lnSingleCopyOf lnDnbinomOf lnDpoisOf lgammaOf aboveZero fourUp stirlingWith lnOf lnCore lnTail besideZero lnRows expOf tee scaledUp scaledBy reduced expTail besideOne outOfRange atLeast atMost rows roundOf round toUnsigned ofInt toBits ofBits neg add sub mul div lt le eq
 two-lost t = t
 
 none-lost : T (leZ (removedBy meanFour (ceilingOf meanFour) *ℤ pos (2 ^ 36)) (allowedShare meanFour (dec 0 1) *ℤ pos (2 ^ 36 + 1))) → ⊥
-unfolding exactly sumBelow unitsIn lnSingleCopyOf lnDnbinomOf lnDpoisOf lgammaOf aboveZero fourUp stirlingWith lnOf lnCore lnTail besideZero lnRows expOf tee scaledUp scaledBy reduced expTail besideOne outOfRange atLeast atMost rows roundOf round toUnsigned ofInt toBits ofBits neg add sub mul div lt le eq
+unfolding inUnits sumBelow unitsIn lnSingleCopyOf lnDnbinomOf lnDpoisOf lgammaOf aboveZero fourUp stirlingWith lnOf lnCore lnTail besideZero lnRows expOf tee scaledUp scaledBy reduced expTail besideOne outOfRange atLeast atMost rows roundOf round toUnsigned ofInt toBits ofBits neg add sub mul div lt le eq
 none-lost t = t
 
 pub always-two-breaks : Keeps meanFour (dec 1000 1) (some 2) → ⊥

@@ -17,10 +17,11 @@ use Rattle.routines.specs.Ops.{_⊕_, ofCount}
 use Rattle.routines.specs.Signs.{signClear}
 use Rattle.routines.proofs.AnnexF.{exp-clear}
 use Rattle.helpers.specs.SingleCopies.{singleCopyOf}
-use Rattle.helpers.specs.declared.shelves.ShelfPart.{ShelfPart}
 use Rattle.helpers.proofs.SingleCopies.{single-density-is}
+use Rattle.models.specs.declared.fit.SpectrumFit.{SpectrumFit}
+use Rattle.cutoffs.specs.Cutoffs.{probabilityIn}
 use Rattle.cutoffs.specs.Hoists.{probabilityOf}
-use Rattle.cutoffs.specs.Walk.{singleOf, walkFrom, walkOf, probable, allProbable}
+use Rattle.cutoffs.specs.Walk.{walkFrom, walkOf, probable, allProbable}
 
 -- ---- the walk
 one-left : (n c : ℕ) → c < n → n - c ≡ suc (n - (c + 1))
@@ -80,10 +81,10 @@ module _ (p : ℕ → Float) (allowed : Float) (n : ℕ) where
       (w .0, omega arith)
 
 -- ---- the probabilities, with what does not change worked out before
-pub probability-is : (mean dispersion : Float) (shelf : ShelfPart)
-    → probabilityOf (singleCopyOf mean dispersion shelf) ≡ singleOf mean dispersion shelf
-probability-is mean dispersion shelf =
-    fun-ext (λ (c : ℕ). ap expOf (single-density-is (ofCount c) mean dispersion shelf))
+pub probability-is : (fit : SpectrumFit)
+    → probabilityOf (singleCopyOf (fit .mean) (fit .dispersion) (fit .shelf)) ≡ probabilityIn fit
+probability-is fit =
+    fun-ext (λ (c : ℕ). ap expOf (single-density-is (ofCount c) (fit .mean) (fit .dispersion) (fit .shelf)))
 
 -- ---- the test of the probabilities
 -- what is not negative lies between 0 and 2 where it is at most 2

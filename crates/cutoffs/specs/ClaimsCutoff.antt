@@ -16,29 +16,29 @@ use Rattle.meaning.specs.Reply.{Reply, refuse, broken, give}
 use Rattle.routines.specs.Ops.{_⊕_}
 use Rattle.routines.specs.Units.{unitsOf}
 use Rattle.models.specs.declared.fit.SpectrumFit.{SpectrumFit}
-use Rattle.cutoffs.specs.Cutoffs.{singleAt, walkStarts, allowedOf, ceilingOf, holeCutoffOf}
+use Rattle.cutoffs.specs.Cutoffs.{probabilityIn, walkStarts, allowedOf, ceilingOf, holeCutoffOf}
 use Rattle.cutoffs.specs.Cutoffs.{Sureness, sure, notSure, noWalk}
 use Rattle.cutoffs.specs.Walk.{probable}
 
 -- a finite value in units of 2 ^ -1074; either zero is 0, and so are a NaN and an infinity, which no sum below has
-unfoldable pub exactly : Float → ℤ
-exactly nan = pos 0
-exactly (inf s) = pos 0
-exactly (fin false m e) = pos (unitsOf (fin false m e))
-exactly (fin true m e) = negℤ (pos (unitsOf (fin true m e)))
+unfoldable pub inUnits : Float → ℤ
+inUnits nan = pos 0
+inUnits (inf s) = pos 0
+inUnits (fin false m e) = pos (unitsOf (fin false m e))
+inUnits (fin true m e) = negℤ (pos (unitsOf (fin true m e)))
 
 -- p 0 + .. + p (n - 1)
 unfoldable pub sumBelow : (ℕ → Float) → ℕ → ℤ
 sumBelow p zero = pos 0
-sumBelow p (suc n) = sumBelow p n +ℤ exactly (p n)
+sumBelow p (suc n) = sumBelow p n +ℤ inUnits (p n)
 
 -- ---- demand 3
 -- the sum of the single-copy probabilities below c, which is what a cutoff of c removes, and the allowed share
 abbrev pub removedBy : SpectrumFit → ℕ → ℤ
-removedBy fit c = sumBelow (singleAt fit) c
+removedBy fit c = sumBelow (probabilityIn fit) c
 
 abbrev pub allowedShare : SpectrumFit → Float → ℤ
-allowedShare fit budget = exactly (allowedOf fit budget)
+allowedShare fit budget = inUnits (allowedOf fit budget)
 
 -- the sum is at most the share and one part in 2 ^ 36 of it
 abbrev pub AtMost : ℤ → ℤ → Type 0
@@ -53,7 +53,7 @@ Exceeds sum share = (share *ℤ pos (2 ^ 36)) <ℤ (sum *ℤ pos (2 ^ 36 + 1))
 pub record Supposed (fit : SpectrumFit) (budget : Float) : Type 0 where
   pub starts : walkStarts fit ≡ true
   pub share : finite (allowedOf fit budget) ≡ true
-  pub between : (k : ℕ) → k ≤ ceilingOf fit → probable (singleAt fit k) ≡ true
+  pub between : (k : ℕ) → k ≤ ceilingOf fit → probable (probabilityIn fit k) ≡ true
 
 -- Then a cutoff of 3 or more removes at most the allowed share and one part in 2 ^ 36 of it; with any cutoff returned,
 -- the sum up to and including it, enlarged by one part in 2 ^ 36, exceeds the allowed share; with none, the sum below
@@ -80,10 +80,10 @@ running p (suc k) = running p k ⊕ p (suc k)
 
 -- 2 ^ 53 |s - S| ≤ k s, with s the f64 sum after k additions and S the exact one
 pub record Sharp (p : ℕ → Float) (k : ℕ) : Type 0 where
-  pub over : (exactly (running p k) *ℤ pos (2 ^ 53))
-      ≤ℤ (sumBelow p (suc k) *ℤ pos (2 ^ 53) +ℤ pos k *ℤ exactly (running p k))
+  pub over : (inUnits (running p k) *ℤ pos (2 ^ 53))
+      ≤ℤ (sumBelow p (suc k) *ℤ pos (2 ^ 53) +ℤ pos k *ℤ inUnits (running p k))
   pub under : (sumBelow p (suc k) *ℤ pos (2 ^ 53))
-      ≤ℤ (exactly (running p k) *ℤ pos (2 ^ 53) +ℤ pos k *ℤ exactly (running p k))
+      ≤ℤ (inUnits (running p k) *ℤ pos (2 ^ 53) +ℤ pos k *ℤ inUnits (running p k))
 
 -- ---- what the walk finds
 -- c is the first count from 1 to ceiling - 1 whose f64 sum through it is above what is allowed
@@ -100,7 +100,7 @@ Finds p allowed ceiling (some r) = (c : ℕ) × (r ≡ max c 2) × FirstAbove p 
 
 -- of a fit and a budget
 abbrev pub HoleFinds : SpectrumFit → Float → Option ℕ → Type 0
-HoleFinds fit budget = Finds (singleAt fit) (allowedOf fit budget) (ceilingOf fit)
+HoleFinds fit budget = Finds (probabilityIn fit) (allowedOf fit budget) (ceilingOf fit)
 
 -- n is the largest whole number that is at most the window end and at most the mean and a half: so it is the smaller of
 -- the window end and the mean to the nearest whole number, a half up. The mean is num / den.

@@ -11,14 +11,14 @@ use Rattle.cutoffs.specs.HeightCutoffs.{heightsIn, crossoverCeiling, out
 abbrev pub above : SpectrumFit → ℕ → Bool
 above fit = outgrows (heightsIn fit)
 
-abbrev pub ceilingIn : SpectrumFit → ℕ
-ceilingIn fit = crossoverCeiling (fit .mean) (fit .«fit_window_end»)
+abbrev pub crossoverCeilingOf : SpectrumFit → ℕ
+crossoverCeilingOf fit = crossoverCeiling (fit .mean) (fit .«fit_window_end»)
 
 -- c is k, or 2 for 1, and k is the first count below the ceiling where the single copies stand above the errors
 pub record Crossover (fit : SpectrumFit) (c k : ℕ) : Type 0 where
   pub answer : c ≡ max k 2
   pub first : 1 ≤ k
-  pub last : k < ceilingIn fit
+  pub last : k < crossoverCeilingOf fit
   pub there : above fit k ≡ true
   pub earlier : (j : ℕ) → 1 ≤ j → j < k → above fit j ≡ false
 

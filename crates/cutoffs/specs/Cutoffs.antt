@@ -9,10 +9,12 @@ use lib.Ieee.Scale.{finite}
 use Rattle.meaning.specs.Reply.{Reply, refuse, give, chain}
 use Rattle.meaning.specs.Rows.{windowTests}
 use Rattle.routines.specs.Constants.{two, zero as nought}
-use Rattle.routines.specs.Ops.{_⊘_}
+use Rattle.routines.specs.Exp.{expOf}
+use Rattle.routines.specs.Ops.{_⊘_, ofCount}
 use Rattle.routines.specs.Whole.{roundOf}
+use Rattle.helpers.specs.Shelves.{lnSingleCopyOf}
 use Rattle.models.specs.declared.fit.SpectrumFit.{SpectrumFit}
-use Rattle.cutoffs.specs.Walk.{singleOf, walkOf, allProbable, partSays}
+use Rattle.cutoffs.specs.Walk.{walkOf, allProbable, partSays}
 use Rattle.cutoffs.specs.declared.cutoffs.Cutoff.{Cutoff}
 use Rattle.cutoffs.specs.declared.cutoffs.Cutoff.the-variants.{At, Nothing, Refused}
 use Rattle.cutoffs.specs.declared.cutoffs.SureCutoff.{SureCutoff}
@@ -24,8 +26,9 @@ cutoffSays Nothing = give none
 cutoffSays (Refused n) = refuse n
 
 -- ---- what the walk is made of
-abbrev pub singleAt : SpectrumFit → ℕ → Float
-singleAt fit = singleOf (fit .mean) (fit .dispersion) (fit .shelf)
+-- the probability of a count in the single-copy component
+abbrev pub probabilityIn : SpectrumFit → ℕ → Float
+probabilityIn fit c = expOf (lnSingleCopyOf (ofCount c) (fit .mean) (fit .dispersion) (fit .shelf))
 
 unfoldable pub walkStarts : SpectrumFit → Bool
 walkStarts fit =
@@ -35,14 +38,14 @@ walkStarts fit =
 abbrev pub allowedOf : SpectrumFit → Float → Float
 allowedOf fit budget = budget ⊘ fit .«genome_kmers»
 
-abbrev pub ceilingTo : Float → ℕ → ℕ
-ceilingTo mean end = min (toUnsigned 64 (roundOf mean)) end
+abbrev pub holeCeiling : Float → ℕ → ℕ
+holeCeiling mean end = min (toUnsigned 64 (roundOf mean)) end
 
 abbrev pub ceilingOf : SpectrumFit → ℕ
-ceilingOf fit = ceilingTo (fit .mean) (fit .«fit_window_end»)
+ceilingOf fit = holeCeiling (fit .mean) (fit .«fit_window_end»)
 
 unfoldable pub holeWalkOf : SpectrumFit → Float → Option ℕ
-holeWalkOf fit budget = walkOf (singleAt fit) (allowedOf fit budget) (ceilingOf fit)
+holeWalkOf fit budget = walkOf (probabilityIn fit) (allowedOf fit budget) (ceilingOf fit)
 
 -- ---- 2, 5, then none or the walk
 unfoldable pub holeCutoffOf : SpectrumFit → Float → Reply (Option ℕ)
@@ -52,7 +55,7 @@ holeCutoffOf fit budget =
 -- ---- the premise of demand 3, tested: 2, 5, then no walk, or the same cutoff, sure or not
 -- the allowed share is finite, and each probability from count 0 to the ceiling lies between 0 and 2
 unfoldable pub sureOf : SpectrumFit → Float → Bool
-sureOf fit budget = finite (allowedOf fit budget) && allProbable (singleAt fit) (suc (ceilingOf fit))
+sureOf fit budget = finite (allowedOf fit budget) && allProbable (probabilityIn fit) (suc (ceilingOf fit))
 
 pub data Sureness : Type 0 where
   sure : Option ℕ → Sureness

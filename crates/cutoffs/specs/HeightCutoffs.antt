@@ -64,8 +64,8 @@ laterBad reference error count last = cond (le reference error) count last
 unfoldable pub lastBadOf : (ℕ → Float) → Float → ℕ → ℕ
 lastBadOf errors reference top = fold (λ (k : ℕ). laterBad reference (errors k) k) 1 (top + 1) 0
 
-abbrev pub floorOf : ℕ → ℕ
-floorOf last = max (min (last + 1) 65535) 2
+abbrev pub floorBehindOf : ℕ → ℕ
+floorBehindOf last = max (min (last + 1) 65535) 2
 
 abbrev pub floorSays : FloorAnswer → Reply ℕ
 floorSays (At c) = give c
@@ -74,4 +74,4 @@ floorSays (Refused n) = refuse n
 unfoldable pub errorFloorOf : SpectrumFit → Reply ℕ
 errorFloorOf fit =
     let end = fit .«fit_window_end» in
-    chain (windowTests end) (give (floorOf (lastBadOf (errorsIn fit) (referenceOf fit) end)))
+    chain (windowTests end) (give (floorBehindOf (lastBadOf (errorsIn fit) (referenceOf fit) end)))

@@ -5,20 +5,13 @@ use mathlib.Core.Bool.{Bool, true, _&&_, cond}
 use mathlib.Core.Option.{Option, none, some}
 use lib.Ieee.{Float, lt, le}
 use Rattle.routines.specs.Constants.{two, zero as nought}
-use Rattle.routines.specs.Exp.{expOf}
-use Rattle.routines.specs.Ops.{_⊕_, ofCount}
-use Rattle.helpers.specs.Shelves.{lnSingleCopyOf}
-use Rattle.helpers.specs.declared.shelves.ShelfPart.{ShelfPart}
+use Rattle.routines.specs.Ops.{_⊕_}
 use Rattle.cutoffs.specs.declared.walk.CutoffPart.{CutoffPart}
 use Rattle.cutoffs.specs.declared.walk.CutoffPart.the-variants.{Absent, Present}
 
 abbrev pub partSays : CutoffPart → Option ℕ
 partSays Absent = none
 partSays (Present c) = some c
-
--- the probability of a count in the single-copy component
-abbrev pub singleOf : Float → Float → ShelfPart → ℕ → Float
-singleOf mean dispersion shelf c = expOf (lnSingleCopyOf (ofCount c) mean dispersion shelf)
 
 -- ---- the walk
 -- `left` counts are left, from c on; `cdf` is the f64 sum of the probabilities below c. The sum through c is compared.

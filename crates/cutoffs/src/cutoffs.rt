@@ -5,7 +5,7 @@ ghost use mathlib.Core.Path.{_≡_};
 ghost use Prim.Native.Nat.{_≤_};
 ghost use Rattle.cutoffs.specs.Walk.{partSays};
 ghost use Rattle.cutoffs.specs.ClaimsCutoff.{Demanded, DemandedSure};
-ghost use Rattle.cutoffs.specs.Cutoffs.{cutoffSays, sureSays, walkStarts, ceilingTo, holeWalkOf, sureOf, holeCutoffOf, holeCutoffSureOf};
+ghost use Rattle.cutoffs.specs.Cutoffs.{cutoffSays, sureSays, walkStarts, holeCeiling, holeWalkOf, sureOf, holeCutoffOf, holeCutoffSureOf};
 use crate::walk::CutoffPart;
 use crate::walk::all_probable;
 use crate::walk::walk;
@@ -51,7 +51,7 @@ fn walk_starts(fit: SpectrumFit) -> bool
 
 // The smaller of the rounded mean and the window end.
 fn ceiling(mean: f64, end: u16) -> u16
-    ensures { λ r. ⌜ r ≡ ceilingTo mean end ⌝ }
+    ensures { λ r. ⌜ r ≡ holeCeiling mean end ⌝ }
 {
     let rounded = to_u64(round(mean));
     if rounded < (end as u64) {
@@ -86,7 +86,7 @@ fn is_sure(fit: SpectrumFit, budget: f64) -> bool
 }
 
 // The largest cutoff that removes at most `budget` of the genome's k-mers by the fit, and 2 at least; none where each
-// cutoff up to the mean removes at most that. 2 for a window end above 65,535, 5 for 0. `Demanded` is demand 3.
+// cutoff up to the ceiling removes at most that. 2 for a window end above 65,535, 5 for 0. `Demanded` is demand 3.
 pub fn hole_cutoff(fit: SpectrumFit, budget: f64) -> Cutoff
     ensures { λ r. ⌜ cutoffSays r ≡ holeCutoffOf fit budget ⌝ }
     ensures { λ r. ⌜ Demanded fit budget (cutoffSays r) ⌝ }

@@ -7,7 +7,7 @@ ghost use Prim.Native.Nat.{ℕ};
 ghost use Rattle.routines.specs.Ops.{ofCount};
 ghost use Rattle.models.specs.HeightTerms.{errorHeightOf, heightsOf};
 ghost use Rattle.cutoffs.specs.Cutoffs.{cutoffSays};
-ghost use Rattle.cutoffs.specs.HeightCutoffs.{crossoverStarts, crossoverCeiling, crossingOf, crossoverOf, laterBad, lastBadOf, floorOf, floorSays, errorFloorOf};
+ghost use Rattle.cutoffs.specs.HeightCutoffs.{crossoverStarts, crossoverCeiling, crossingOf, crossoverOf, laterBad, lastBadOf, floorBehindOf, floorSays, errorFloorOf};
 ghost use Rattle.cutoffs.specs.Walk.{partSays};
 use crate::cutoffs::Cutoff;
 use crate::walk::CutoffPart;
@@ -135,7 +135,7 @@ fn last_bad(t: HeightTerms, reference: f64, top: u16) -> u16
 
 // One past the last bad count, 65,535 at most and 2 at least.
 fn floor_behind(last: u16) -> u16
-    ensures { λ r. ⌜ r ≡ floorOf last ⌝ }
+    ensures { λ r. ⌜ r ≡ floorBehindOf last ⌝ }
 {
     if last == 65535 {
         return 65535;

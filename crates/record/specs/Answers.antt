@@ -8,7 +8,7 @@ use lib.Dec.{eqb, ltb, leb}
 use lib.Ieee.{Float, lt}
 use Rattle.routines.specs.Ops.{_⊘_}
 use Rattle.cutoffs.specs.ClaimsCutoff.{running}
-use Rattle.cutoffs.specs.Cutoffs.{singleAt, allowedOf}
+use Rattle.cutoffs.specs.Cutoffs.{probabilityIn, allowedOf}
 use Rattle.models.specs.declared.fit.SpectrumFit.{SpectrumFit}
 use Rattle.record.specs.Values.{flagOf}
 use Rattle.record.specs.declared.answers.Answer.{Answer}
@@ -40,7 +40,7 @@ answerOf valley c =
 -- ---- at 2, the least cutoff
 -- what it removes: the walk's f64 sum through count 1
 abbrev pub leastRemoved : SpectrumFit → Float
-leastRemoved fit = running (singleAt fit) 1
+leastRemoved fit = running (probabilityIn fit) 1
 
 -- 0 the answer is not 2; 1 the walk went on behind count 1, so the budget is kept; 2 it stopped there, so it is broken
 unfoldable pub leastKind : Place → Float → Float → ℕ

@@ -5,7 +5,7 @@ use borrow.Author.Needs.{needs}
 use lib.Ieee.{Float}
 use Rattle.cutoffs.specs.Hoists.{probabilityOf}
 use Rattle.cutoffs.specs.Walk.{walkOf}
-use Rattle.cutoffs.specs.Cutoffs.{singleAt, allowedOf, holeWalkOf}
+use Rattle.cutoffs.specs.Cutoffs.{probabilityIn, allowedOf, holeWalkOf}
 use Rattle.cutoffs.proofs.Walks.{probability-is}
 use Rattle.cutoffs.proofs.cutoffs.hole_walk.Statement.{statement}
 use Rattle.cutoffs.proofs.cutoffs.hole_walk.Tie as tie
@@ -31,8 +31,8 @@ returns c =
     let share = allowedOf (a .fit) (a .budget) in
     c .walk .ensures
     ∙ ap (λ (p : ℕ → Float). walkOf p share (top .ceiling .result))
-    (ap probabilityOf (single .single-copy-of .ensures) ∙ probability-is (a .fit .mean) (a .fit .dispersion) (a .fit .shelf))
-    ∙ ap (walkOf (singleAt (a .fit)) share) (top .ceiling .ensures)
+    (ap probabilityOf (single .single-copy-of .ensures) ∙ probability-is (a .fit))
+    ∙ ap (walkOf (probabilityIn (a .fit)) share) (top .ceiling .ensures)
 
 pub hole-walk-spec : {M : Type 1} → statement M
 hole-walk-spec =

@@ -6,7 +6,7 @@ use borrow.Author.Tests.{not-true, not-false}
 use lib.Ieee.{Float}
 use Rattle.cutoffs.specs.Hoists.{probabilityOf}
 use Rattle.cutoffs.specs.Walk.{allProbable}
-use Rattle.cutoffs.specs.Cutoffs.{singleAt, sureOf}
+use Rattle.cutoffs.specs.Cutoffs.{probabilityIn, sureOf}
 use Rattle.cutoffs.proofs.Walks.{probability-is}
 use Rattle.cutoffs.proofs.cutoffs.is_sure.Statement.{statement}
 use Rattle.cutoffs.proofs.cutoffs.is_sure.Tie as tie
@@ -40,8 +40,8 @@ returns-2 c =
     rw (sym (finite .before .is-finite .ensures) ∙ not-false _ (finite .if1 .left))
     (c .all-probable .ensures
     ∙ ap (λ (p : ℕ → Float). allProbable p (suc (top .ceiling .result)))
-    (ap probabilityOf (single .single-copy-of .ensures) ∙ probability-is (a .fit .mean) (a .fit .dispersion) (a .fit .shelf))
-    ∙ ap (λ (n : ℕ). allProbable (singleAt (a .fit)) (suc n)) (top .ceiling .ensures))
+    (ap probabilityOf (single .single-copy-of .ensures) ∙ probability-is (a .fit))
+    ∙ ap (λ (n : ℕ). allProbable (probabilityIn (a .fit)) (suc n)) (top .ceiling .ensures))
 
 pub is-sure-spec : {M : Type 1} → statement M
 is-sure-spec =

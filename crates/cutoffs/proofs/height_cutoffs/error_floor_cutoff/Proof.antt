@@ -2,7 +2,7 @@
 use mathlib.Core.Path.{ap, _∙_}
 use borrow.Author.Tests.{lt-ltb, le-ltb, eq-eqb, ne-eqb}
 use Rattle.meaning.specs.Reply.{give}
-use Rattle.cutoffs.specs.HeightCutoffs.{floorOf, errorFloorOf}
+use Rattle.cutoffs.specs.HeightCutoffs.{floorBehindOf, errorFloorOf}
 use Rattle.cutoffs.proofs.HeightCutoffs.{floor-of-terms}
 use borrow.Author.Needs.{needs}
 use Rattle.cutoffs.proofs.height_cutoffs.error_floor_cutoff.Statement.{statement}
@@ -48,7 +48,7 @@ returns-3 c =
     let last =
     floor-of-terms (some .before .before .args .fit) _ (terms .height-terms .ensures) _ _ _ _ _ (mode .primary-mode .ensures)
     (place .from-u64 .ensures) (reference .single-height .ensures) (c .before .last-bad .ensures) in
-    simp (le-ltb _ _ (some .before .if1 .left), ne-eqb _ _ (some .if2 .left)) (ap give (c .floor-behind .ensures ∙ ap floorOf last))
+    simp (le-ltb _ _ (some .before .if1 .left), ne-eqb _ _ (some .if2 .left)) (ap give (c .floor-behind .ensures ∙ ap floorBehindOf last))
 
 pub error-floor-cutoff-spec : {M : Type 1} → statement M
 error-floor-cutoff-spec =

@@ -4,7 +4,7 @@ use Prim.Native.Nat.{ℕ}
 use lib.Ieee.{Float}
 use Rattle.routines.specs.Ops.{_⊕_}
 use Rattle.cutoffs.specs.ClaimsCutoff.{running}
-use Rattle.cutoffs.specs.Cutoffs.{singleAt}
+use Rattle.cutoffs.specs.Cutoffs.{probabilityIn}
 use Rattle.cutoffs.specs.Hoists.{probabilityOf}
 use Rattle.cutoffs.proofs.Walks.{probability-is}
 use borrow.Author.Needs.{needs}
@@ -16,11 +16,11 @@ unfolding running
 returns c =
     let single = c .before .before in
     let fit = single .before .args .fit in
-    let same : probabilityOf (single .single-copy-of .result) ≡ singleAt fit = ap probabilityOf (single .single-copy-of .ensures)
-    ∙ probability-is (fit .mean) (fit .dispersion) (fit .shelf) in
+    let same : probabilityOf (single .single-copy-of .result) ≡ probabilityIn fit = ap probabilityOf (single .single-copy-of .ensures)
+    ∙ probability-is fit in
     ap (λ (x : Float). x ⊕ c .probability2 .result)
     (c .before .probability .ensures ∙ ap (λ (p : ℕ → Float). p 0) same)
-    ∙ ap (λ (x : Float). singleAt fit 0 ⊕ x) (c .probability2 .ensures ∙ ap (λ (p : ℕ → Float). p 1) same)
+    ∙ ap (λ (x : Float). probabilityIn fit 0 ⊕ x) (c .probability2 .ensures ∙ ap (λ (p : ℕ → Float). p 1) same)
 
 pub least-removed-spec : {M : Type 1} → statement M
 least-removed-spec = tie.close (tie.spec (λ c κs. search needs) (λ c κs. search needs) (λ c κs. search needs) returns)
