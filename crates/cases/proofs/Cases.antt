@@ -9,7 +9,7 @@ use Rattle.routines.specs.Constants.{one}
 use Rattle.routines.specs.Starts.{dec}
 use Rattle.routines.specs.Whole.{roundOf}
 use Rattle.models.specs.Recovery.{usedScaleOf, roundedQuotientOf}
-use Rattle.cutoffs.specs.Walk.{walkFrom, walkOf}
+use Rattle.models.specs.Walk.{walkFrom, walkOf}
 use Rattle.cases.specs.Cases.{Each, recovers, recoveredRows, shares, shareRows, walks, walkRows, selects, selectionRows, Table}
 use Rattle.fitter.specs.Recovering.{recovered, recoverBinsOf}
 use Rattle.fitter.specs.Selection.{replacesOf}

@@ -10,7 +10,7 @@ use lib.Ieee.{Float, nan}
 use Rattle.meaning.specs.Reply.{give}
 use Rattle.routines.specs.Constants.{one}
 use Rattle.routines.specs.Starts.{dec}
-use Rattle.cutoffs.specs.Walk.{walkOf}
+use Rattle.models.specs.Walk.{walkOf}
 use Rattle.fitter.specs.Attempts.{validOf}
 use Rattle.fitter.specs.Recovering.{recoverBinsOf}
 use Rattle.fitter.specs.Selection.{chosen, selectOf}

@@ -2,7 +2,7 @@
 use Prim.Native.Nat.{ℕ}
 use mathlib.Core.Option.{Option, none, some}
 use Rattle.meaning.specs.Reply.{Reply, refuse, broken, give}
-use Rattle.cutoffs.specs.Cutoffs.{Sureness, sure, notSure, noWalk}
+use Rattle.models.specs.Cutoffs.{Sureness, sure, notSure, noWalk}
 use Rattle.exports.specs.declared.flat_cutoffs.FlatCutoff.{FlatCutoff}
 use Rattle.exports.specs.declared.flat_cutoffs.FlatSureCutoff.{FlatSureCutoff}
 

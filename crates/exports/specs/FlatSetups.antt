@@ -1,5 +1,5 @@
 -- How C has the numbers of an attempt, in one struct. Definitions only. Assumes nothing.
-use Rattle.attempts.specs.declared.settling.Setup.{Setup}
+use Rattle.fitter.specs.declared.settling.Setup.{Setup}
 use Rattle.exports.specs.FlatTables.{setupOf}
 use Rattle.exports.specs.declared.run_slices.FlatSetup.{FlatSetup}
 

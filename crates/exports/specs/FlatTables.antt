@@ -7,8 +7,8 @@ use Rattle.fitter.specs.Validation.{reasonNumber}
 use Rattle.fitter.specs.declared.attempts.FitAttempt.{FitAttempt}
 use Rattle.fitter.specs.declared.attempts.RejectionPart.{RejectionPart}
 use Rattle.fitter.specs.declared.attempts.RejectionPart.the-variants.{Absent, Present}
-use Rattle.attempts.specs.declared.settling.AttemptAnswer.{AttemptAnswer}
-use Rattle.attempts.specs.declared.settling.Setup.{Setup}
+use Rattle.fitter.specs.declared.settling.AttemptAnswer.{AttemptAnswer}
+use Rattle.fitter.specs.declared.settling.Setup.{Setup}
 use Rattle.exports.specs.FlatFits.{errorOf, genomeOf, ofError, ofGenome, ofFit}
 use Rattle.exports.specs.declared.flat_attempts.FlatAttempt.{FlatAttempt}
 use Rattle.exports.specs.declared.run_tables.FlatAttemptAnswer.{FlatAttemptAnswer}

@@ -1,20 +1,20 @@
 // The cutoffs of a fit.
 ghost use mathlib.Core.Path.{_≡_};
-ghost use Rattle.cutoffs.specs.Cutoffs.{cutoffSays, sureSays, holeCutoffOf, holeCutoffSureOf};
-ghost use Rattle.cutoffs.specs.HeightCutoffs.{crossoverOf, floorSays, errorFloorOf};
-ghost use Rattle.cutoffs.specs.Walk.{partSays};
+ghost use Rattle.models.specs.Cutoffs.{cutoffSays, sureSays, holeCutoffOf, holeCutoffSureOf};
+ghost use Rattle.models.specs.HeightCutoffs.{crossoverOf, floorSays, errorFloorOf};
+ghost use Rattle.models.specs.Walk.{partSays};
 ghost use Rattle.exports.specs.FlatCutoffs.{orZero, sayCutoff, saySure, sayFloor};
 ghost use Rattle.exports.specs.FlatFits.{fitOf};
 use crate::fits::FlatFit;
 use crate::fits::fit_of;
-use cutoffs::cutoffs::Cutoff;
-use cutoffs::cutoffs::SureCutoff;
-use cutoffs::cutoffs::hole_cutoff;
-use cutoffs::cutoffs::hole_cutoff_sure;
-use cutoffs::height_cutoffs::FloorAnswer;
-use cutoffs::height_cutoffs::crossover;
-use cutoffs::height_cutoffs::error_floor_cutoff;
-use cutoffs::walk::CutoffPart;
+use models::cutoffs::Cutoff;
+use models::cutoffs::SureCutoff;
+use models::cutoffs::hole_cutoff;
+use models::cutoffs::hole_cutoff_sure;
+use models::height_cutoffs::FloorAnswer;
+use models::height_cutoffs::crossover;
+use models::height_cutoffs::error_floor_cutoff;
+use models::walk::CutoffPart;
 
 // A cutoff is 2 at least, so 0 stands for none.
 #[repr(C)]

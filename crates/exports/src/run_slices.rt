@@ -1,16 +1,16 @@
 // Attempts over a run table that is an array of run structs, as C has them.
 ghost use mathlib.Core.Path.{_≡_};
 ghost use lib.ListN.{length, drop};
-ghost use Rattle.attempts.specs.Attempting.{attemptAnswerOf, attemptFrom, standsFrom};
-ghost use Rattle.attempts.specs.Columns.{runIn};
+ghost use Rattle.fitter.specs.Attempting.{attemptAnswerOf, attemptFrom, standsFrom};
+ghost use Rattle.fitter.specs.Columns.{runIn};
 ghost use Rattle.exports.specs.FlatTables.{sayAttempt};
 ghost use Rattle.exports.specs.FlatSetups.{setupFrom};
 use crate::run_tables::FlatAttemptAnswer;
 use crate::run_tables::flat_attempt_answer;
 use crate::run_tables::setup_of;
-use attempts::run_table::attempt_from;
-use attempts::runs::Run;
-use attempts::settling::Setup;
+use fitter::run_table::attempt_from;
+use fitter::runs::Run;
+use fitter::settling::Setup;
 
 // The numbers of an attempt; the families are bytes.
 #[repr(C)]

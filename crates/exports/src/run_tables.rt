@@ -1,8 +1,8 @@
 // Attempts over a run table, as C has them: the table is six arrays, and has as many runs as the shortest of them.
 ghost use mathlib.Core.Path.{_≡_};
 ghost use lib.ListN.{length, drop};
-ghost use Rattle.attempts.specs.Attempting.{attemptAnswerOf, attemptFrom, standsFrom};
-ghost use Rattle.attempts.specs.Columns.{countOfRuns, runOf};
+ghost use Rattle.fitter.specs.Attempting.{attemptAnswerOf, attemptFrom, standsFrom};
+ghost use Rattle.fitter.specs.Columns.{countOfRuns, runOf};
 ghost use Rattle.exports.specs.FlatTables.{flagOf, rejectionThere, rejectionNumber, ofAttempt, setupOf, sayAttempt};
 use crate::families::error_of;
 use crate::families::flat_error;
@@ -11,11 +11,11 @@ use crate::families::genome_of;
 use crate::fits::flat_fit;
 use crate::flat_attempts::FlatAttempt;
 use crate::verdicts::reason_number;
-use attempts::attempting::attempt_from_numbers;
-use attempts::settling::AttemptAnswer;
-use attempts::settling::Setup;
+use fitter::attempting::attempt_from_numbers;
 use fitter::attempts::FitAttempt;
 use fitter::attempts::RejectionPart;
+use fitter::settling::AttemptAnswer;
+use fitter::settling::Setup;
 
 #[repr(C)]
 pub struct FlatAttemptAnswer {

@@ -7,3 +7,11 @@ pub mod Validation
 pub mod Attempts
 pub mod Selection
 pub mod Outcomes
+pub mod Runs
+pub mod Surveys
+pub mod Judging
+pub mod Columns
+pub mod Attempting
+pub mod Settling
+pub mod Turns
+pub mod Kept

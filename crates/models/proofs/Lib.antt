@@ -20,3 +20,16 @@ pub mod Highest
 pub mod Corners
 pub mod Says
 pub mod Outdone
+pub mod Found
+pub mod Walks
+pub mod Ceilings
+pub mod ExactSums
+pub mod Removed
+pub mod HoleCutoffs
+pub mod Lower
+pub mod HeightCutoffs
+pub mod Crossings
+pub mod Floors
+pub mod Witnesses
+pub mod CutoffsSay
+pub mod Slips

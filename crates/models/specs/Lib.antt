@@ -19,3 +19,11 @@ pub mod Prepared
 pub mod Deviances
 pub mod Unpacking
 pub mod Claims
+pub mod WalkHoists
+pub mod Walk
+pub mod Slips
+pub mod Cutoffs
+pub mod HeightCutoffs
+pub mod ClaimsCutoff
+pub mod ClaimsHeights
+pub mod Witnesses

@@ -13,10 +13,10 @@ use lib.Dec.{T, eqb}
 use lib.Ieee.{Float, lt}
 use lib.Ieee.Scale.{finite}
 use Rattle.meaning.specs.Reply.{Reply, refuse, broken, give}
-use Rattle.cutoffs.specs.ClaimsCutoff.{removedBy, allowedShare, AtMost, Exceeds, Supposed, toldOf}
-use Rattle.cutoffs.specs.Cutoffs.{Sureness, sure, notSure, noWalk, allowedOf, ceilingOf, holeCutoffOf, holeCutoffSureOf}
-use Rattle.cutoffs.proofs.HoleCutoffs.{told-same, sure-supposed, sure-keeps, hole-cutoff-range}
-use Rattle.cutoffs.proofs.Lower.{lower-keeps, least-kept, least-broken}
+use Rattle.models.specs.ClaimsCutoff.{removedBy, allowedShare, AtMost, Exceeds, Supposed, toldOf}
+use Rattle.models.specs.Cutoffs.{Sureness, sure, notSure, noWalk, allowedOf, ceilingOf, holeCutoffOf, holeCutoffSureOf}
+use Rattle.models.proofs.HoleCutoffs.{told-same, sure-supposed, sure-keeps, hole-cutoff-range}
+use Rattle.models.proofs.Lower.{lower-keeps, least-kept, least-broken}
 use Rattle.fitter.specs.declared.selection.Selected.{Selected}
 use Rattle.models.specs.declared.fit.SpectrumFit.{SpectrumFit}
 use Rattle.record.specs.Answers.{smallerOf, answerPlace, answerOf, isBelow, byHole, leastRemoved, leastKind}

@@ -7,8 +7,8 @@ use mathlib.Core.Bool.{Bool, true, not, cond, _&&_, _||_}
 use lib.Dec.{eqb, ltb, leb}
 use lib.Ieee.{Float, lt}
 use Rattle.routines.specs.Ops.{_⊘_}
-use Rattle.cutoffs.specs.ClaimsCutoff.{running}
-use Rattle.cutoffs.specs.Cutoffs.{probabilityIn, allowedOf}
+use Rattle.models.specs.ClaimsCutoff.{running}
+use Rattle.models.specs.Cutoffs.{probabilityIn, allowedOf}
 use Rattle.models.specs.declared.fit.SpectrumFit.{SpectrumFit}
 use Rattle.record.specs.Values.{flagOf}
 use Rattle.record.specs.declared.answers.Answer.{Answer}

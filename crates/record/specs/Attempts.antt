@@ -4,7 +4,7 @@ use Prim.Native.Nat.{ℕ}
 use mathlib.Core.Bool.{Bool, cond}
 use mathlib.Core.List.{List, [], _∷_}
 use lib.Ieee.{Float, neg}
-use Rattle.cutoffs.specs.HeightCutoffs.{crossoverOf, errorFloorOf}
+use Rattle.models.specs.HeightCutoffs.{crossoverOf, errorFloorOf}
 use Rattle.fitter.specs.declared.attempts.FitAttempt.{FitAttempt}
 use Rattle.models.specs.declared.fit.SpectrumFit.{SpectrumFit}
 use Rattle.templates.specs.Filling.{filledOf}

@@ -4,7 +4,7 @@ use mathlib.Core.Bool.{cond}
 use mathlib.Core.List.{List, [], _∷_, _++_}
 use lib.Dec.{eqb}
 use lib.Ieee.{Float}
-use Rattle.cutoffs.specs.Cutoffs.{allowedOf}
+use Rattle.models.specs.Cutoffs.{allowedOf}
 use Rattle.fitter.specs.Selection.{selectOf}
 use Rattle.fitter.specs.declared.attempts.FitAttempt.{FitAttempt}
 use Rattle.fitter.specs.declared.selection.Selected.{Selected}

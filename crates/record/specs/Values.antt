@@ -5,8 +5,8 @@ use mathlib.Core.Option.{Option, none, some}
 use lib.Ieee.{Float, nan, binary64, isNan, toBits}
 use lib.Ieee.Scale.{finite}
 use Rattle.meaning.specs.Reply.{Reply, refuse, broken, give}
-use Rattle.cutoffs.specs.Cutoffs.{Sureness, sure, notSure, noWalk, allowedOf, holeCutoffSureOf}
-use Rattle.cutoffs.specs.HeightCutoffs.{crossoverOf, errorFloorOf}
+use Rattle.models.specs.Cutoffs.{Sureness, sure, notSure, noWalk, allowedOf, holeCutoffSureOf}
+use Rattle.models.specs.HeightCutoffs.{crossoverOf, errorFloorOf}
 use Rattle.fitter.specs.declared.attempts.RejectionPart.{RejectionPart}
 use Rattle.fitter.specs.declared.attempts.RejectionPart.the-variants as rejection
 use Rattle.fitter.specs.declared.rejections.FitRejection.{FitRejection}

@@ -5,9 +5,9 @@ use crate::attempt_lines::Cutoffs;
 use crate::values::Hole;
 use crate::values::Place;
 use crate::values::flag;
-use cutoffs::walk::probability;
 use helpers::single_copies::single_copy_of;
 use models::fit::SpectrumFit;
+use models::walk::probability;
 
 // The cutoff; whether the hole decides it, and not the valley; whether it is a count under the error floor.
 pub struct Answer {

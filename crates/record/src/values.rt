@@ -1,22 +1,22 @@
 // The numbers that a record's marks take, for what is no number itself.
 ghost use mathlib.Core.Path.{_≡_};
 ghost use mathlib.Core.Option.{some};
-ghost use Rattle.cutoffs.specs.Cutoffs.{allowedOf, cutoffSays, sureSays};
-ghost use Rattle.cutoffs.specs.HeightCutoffs.{crossoverOf, errorFloorOf, floorSays};
-ghost use Rattle.cutoffs.specs.Walk.{partSays};
+ghost use Rattle.models.specs.Cutoffs.{allowedOf, cutoffSays, sureSays};
+ghost use Rattle.models.specs.HeightCutoffs.{crossoverOf, errorFloorOf, floorSays};
+ghost use Rattle.models.specs.Walk.{partSays};
 ghost use Rattle.record.specs.Values.{patternOf, flagOf, errorNumber, genomeNumber, reasonNumber, rejectionNumber, noPlace, placeIn, crossoverPlace, floorPlace, whyNot, holeIn, holeOf};
-use cutoffs::cutoffs::Cutoff;
-use cutoffs::cutoffs::SureCutoff;
-use cutoffs::cutoffs::hole_cutoff_sure;
-use cutoffs::height_cutoffs::FloorAnswer;
-use cutoffs::height_cutoffs::crossover;
-use cutoffs::height_cutoffs::error_floor_cutoff;
-use cutoffs::walk::CutoffPart;
 use fitter::attempts::RejectionPart;
 use fitter::rejections::FitRejection;
+use models::cutoffs::Cutoff;
+use models::cutoffs::SureCutoff;
+use models::cutoffs::hole_cutoff_sure;
 use models::families::ErrorModel;
 use models::families::GenomeModel;
 use models::fit::SpectrumFit;
+use models::height_cutoffs::FloorAnswer;
+use models::height_cutoffs::crossover;
+use models::height_cutoffs::error_floor_cutoff;
+use models::walk::CutoffPart;
 use routines::pick::is_finite;
 
 // A cutoff: 0 for none, 1 for a count, 2 where there is no fit to ask, or it is refused.

@@ -4,15 +4,15 @@ use crate::answers::small;
 use crate::fits::fit;
 use crate::words::from;
 use crate::words::number;
-use cutoffs::cutoffs::Cutoff;
-use cutoffs::cutoffs::SureCutoff;
-use cutoffs::cutoffs::hole_cutoff;
-use cutoffs::cutoffs::hole_cutoff_sure;
-use cutoffs::height_cutoffs::FloorAnswer;
-use cutoffs::height_cutoffs::crossover;
-use cutoffs::height_cutoffs::error_floor_cutoff;
-use cutoffs::walk::CutoffPart;
+use models::cutoffs::Cutoff;
+use models::cutoffs::SureCutoff;
+use models::cutoffs::hole_cutoff;
+use models::cutoffs::hole_cutoff_sure;
 use models::fit::SpectrumFit;
+use models::height_cutoffs::FloorAnswer;
+use models::height_cutoffs::crossover;
+use models::height_cutoffs::error_floor_cutoff;
+use models::walk::CutoffPart;
 
 pub(crate) const HOLE_CUTOFF: u64 = 85;
 

@@ -19,10 +19,10 @@ use crate::words::flag;
 use crate::words::from;
 use crate::words::least;
 use crate::words::word;
-use attempts::attempting::attempt_from_numbers;
-use attempts::settling::AttemptAnswer;
-use attempts::settling::Setup;
+use fitter::attempting::attempt_from_numbers;
 use fitter::attempts::RejectionPart;
+use fitter::settling::AttemptAnswer;
+use fitter::settling::Setup;
 
 pub(crate) const ATTEMPT_FROM_NUMBERS: u64 = 105;
 

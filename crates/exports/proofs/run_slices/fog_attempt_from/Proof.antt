@@ -31,14 +31,14 @@ use denote.Triple.Spec.{Meets, tripleOf}
 use denote.Triple.Table.{entered, cited}
 use denote.Triple.Walked.{goes-none, goes-none-slice, goes-slice, walked, walk-meets}
 use denote.Exit.{yes}
-use Rattle.attempts.proofs.RunSlices.{Run-row, Arguments, m, bins-ref, runs-ref, lists-ref, table-ref, bins-at}
-use Rattle.attempts.proofs.RunSlices.{setup-at, runs-at, lists-at, table-at}
+use Rattle.fitter.proofs.RunSlices.{Run-row, Arguments, m, bins-ref, runs-ref, lists-ref, table-ref, bins-at}
+use Rattle.fitter.proofs.RunSlices.{setup-at, runs-at, lists-at, table-at}
 use Rattle.exports.proofs.run_slices.FlatSetup as Flat-type
 use Rattle.exports.proofs.run_slices.FlatSetup.Laws as Flat-laws
 use Rattle.exports.proofs.run_slices.setup_from.Symbol as made-def
 use Rattle.exports.proofs.run_slices.setup_from.Met as made-thm
-use Rattle.attempts.proofs.run_table.attempt_from.Symbol as asked-def
-use Rattle.attempts.proofs.run_table.attempt_from.Met as asked-thm
+use Rattle.fitter.proofs.run_table.attempt_from.Symbol as asked-def
+use Rattle.fitter.proofs.run_table.attempt_from.Met as asked-thm
 use Rattle.exports.proofs.run_tables.flat_attempt_answer.Symbol as said-def
 use Rattle.exports.proofs.run_tables.flat_attempt_answer.Met as said-thm
 use Rattle.exports.proofs.run_slices.fog_attempt_from as scan
@@ -183,6 +183,6 @@ fog-attempt-from-spec 𝓤 H 𝓜 𝓖 𝓡 =
     (cited 𝓤 H (Made 𝓤 H (𝓖 .A) mem run) 𝓜 𝓡 code.env made-def.name made-def.routine
     code.calls-exports·run-slices·setup-from (made-thm.met 𝓤 H 𝓜 𝓖 𝓡))
     (cited 𝓤 H (Asked 𝓤 H (𝓖 .A) mem run) 𝓜 𝓡 code.env asked-def.name asked-def.routine
-    code.calls-attempts·run-table·attempt-from (asked-thm.met 𝓤 H 𝓜 𝓖 𝓡))
+    code.calls-fitter·run-table·attempt-from (asked-thm.met 𝓤 H 𝓜 𝓖 𝓡))
     (cited 𝓤 H (Said 𝓤 H (𝓖 .A) mem run) 𝓜 𝓡 code.env said-def.name said-def.routine
     code.calls-exports·run-tables·flat-attempt-answer (said-thm.met 𝓤 H 𝓜 𝓖 𝓡)))

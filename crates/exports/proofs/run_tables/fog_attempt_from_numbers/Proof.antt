@@ -4,8 +4,8 @@ use mathlib.Core.Path.{_≡_, sym, ap, subst}
 use mathlib.Core.List.{List}
 use lib.ListN.{drop}
 use lib.Ieee.{Float}
-use Rattle.attempts.specs.Attempting.{standsFrom}
-use Rattle.attempts.specs.declared.settling.Setup.{Setup}
+use Rattle.fitter.specs.Attempting.{standsFrom}
+use Rattle.fitter.specs.declared.settling.Setup.{Setup}
 use Rattle.exports.specs.FlatTables.{sayAttempt}
 use Rattle.exports.specs.declared.run_tables.FlatAttemptAnswer.{FlatAttemptAnswer}
 use borrow.Author.Needs.{needs}

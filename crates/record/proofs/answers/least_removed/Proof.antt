@@ -3,10 +3,10 @@ use mathlib.Core.Path.{_≡_, ap, _∙_}
 use Prim.Native.Nat.{ℕ}
 use lib.Ieee.{Float}
 use Rattle.routines.specs.Ops.{_⊕_}
-use Rattle.cutoffs.specs.ClaimsCutoff.{running}
-use Rattle.cutoffs.specs.Cutoffs.{probabilityIn}
-use Rattle.cutoffs.specs.Hoists.{probabilityOf}
-use Rattle.cutoffs.proofs.Walks.{probability-is}
+use Rattle.models.specs.ClaimsCutoff.{running}
+use Rattle.models.specs.Cutoffs.{probabilityIn}
+use Rattle.models.specs.WalkHoists.{probabilityOf}
+use Rattle.models.proofs.Walks.{probability-is}
 use borrow.Author.Needs.{needs}
 use Rattle.record.proofs.answers.least_removed.Statement.{statement}
 use Rattle.record.proofs.answers.least_removed.Tie as tie

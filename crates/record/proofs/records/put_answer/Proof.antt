@@ -4,7 +4,7 @@ use Rattle.templates.specs.Filling.{filledOf}
 use Rattle.templates.proofs.Cuts.{put-same}
 use lib.Ieee.{Float}
 use Rattle.routines.specs.Ops.{_⊘_}
-use Rattle.cutoffs.specs.Cutoffs.{allowedOf}
+use Rattle.models.specs.Cutoffs.{allowedOf}
 use Rattle.record.specs.Answers.{leastKind}
 use Rattle.record.specs.Record.{answerTemplate}
 use Rattle.record.specs.Values.{patternOf, flagOf}

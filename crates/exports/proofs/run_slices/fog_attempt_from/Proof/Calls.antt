@@ -24,15 +24,15 @@ use denote.Steps.{nothing}
 use denote.Triple.Statement.{Contract}
 use denote.Triple.Clauses.{ensured, lasts}
 use denote.Triple.Spec.{tripleOf}
-use Rattle.attempts.specs.declared.runs.Run.{Run}
-use Rattle.attempts.specs.declared.settling.Setup.{Setup}
+use Rattle.fitter.specs.declared.runs.Run.{Run}
+use Rattle.fitter.specs.declared.settling.Setup.{Setup}
 use Rattle.exports.specs.FlatSetups.{setupFrom}
 use Rattle.exports.specs.FlatTables.{sayAttempt}
 use Rattle.exports.specs.declared.run_tables.FlatAttemptAnswer.{FlatAttemptAnswer}
-use Rattle.attempts.proofs.RunSlices.{Run-row, Arguments, m, bins-ref, runs-ref, lists-ref, table-ref, bins-at}
-use Rattle.attempts.proofs.RunSlices.{setup-at, runs-at, lists-at, table-at}
+use Rattle.fitter.proofs.RunSlices.{Run-row, Arguments, m, bins-ref, runs-ref, lists-ref, table-ref, bins-at}
+use Rattle.fitter.proofs.RunSlices.{setup-at, runs-at, lists-at, table-at}
 use Rattle.exports.proofs.run_slices.setup_from as made
-use Rattle.attempts.proofs.run_table.attempt_from as asked
+use Rattle.fitter.proofs.run_table.attempt_from as asked
 use Rattle.exports.proofs.run_tables.flat_attempt_answer as said
 use Rattle.exports.proofs.run_slices.fog_attempt_from.Proof.Types.{Flat-row, Setup-row, Answer-row, Args}
 use Rattle.exports.proofs.run_slices.fog_attempt_from.Proof.Types.{Numbers, Answer}

@@ -12,10 +12,10 @@ use prog.Wp.{Heap, Env}
 use types.Kit.{Item, ‵}
 use denote.Memory.{pointee}
 use denote.Slice.{sliceTy}
-use Rattle.attempts.proofs.RunSlices.{Run-row, Arguments, m, bins-at, setup-at, runs-at, lists-at, table-at, OwnB, OwnR}
-use Rattle.attempts.proofs.RunSlices.{OwnL, OwnT}
-use Rattle.attempts.proofs.settling.Setup.Laws as Setup-laws
-use Rattle.attempts.proofs.settling.AttemptAnswer.Laws as Answer-laws
+use Rattle.fitter.proofs.RunSlices.{Run-row, Arguments, m, bins-at, setup-at, runs-at, lists-at, table-at, OwnB, OwnR}
+use Rattle.fitter.proofs.RunSlices.{OwnL, OwnT}
+use Rattle.fitter.proofs.settling.Setup.Laws as Setup-laws
+use Rattle.fitter.proofs.settling.AttemptAnswer.Laws as Answer-laws
 use Rattle.exports.proofs.run_slices.FlatSetup.Laws as Flat-laws
 use Rattle.exports.proofs.run_tables.FlatAttemptAnswer.Laws as Out-laws
 use Rattle.exports.proofs.run_slices.fog_attempt_from.Proof.Types.{Args, ref, Numbers, Answer}

@@ -21,9 +21,9 @@ use denote.Struct.Laws as LL
 use denote.Triple.Walked.{Stays, stay-none, stay-none-slice, stay-slice, walkOf, ends-at}
 use denote.Exit.{yes}
 use Rattle.exports.specs.declared.run_tables.FlatAttemptAnswer.{FlatAttemptAnswer}
-use Rattle.attempts.proofs.SaidFacts.{says-both}
-use Rattle.attempts.proofs.RunSlices.{Run-row, Arguments, m, bins-ref, runs-ref, lists-ref, table-ref, bins-at}
-use Rattle.attempts.proofs.RunSlices.{setup-at, runs-at, lists-at, table-at, OwnB, OwnR, OwnL, OwnT}
+use Rattle.fitter.proofs.SaidFacts.{says-both}
+use Rattle.fitter.proofs.RunSlices.{Run-row, Arguments, m, bins-ref, runs-ref, lists-ref, table-ref, bins-at}
+use Rattle.fitter.proofs.RunSlices.{setup-at, runs-at, lists-at, table-at, OwnB, OwnR, OwnL, OwnT}
 use Rattle.exports.proofs.run_slices.FlatSetup as Flat-type
 use Rattle.exports.proofs.run_slices.FlatSetup.Laws as Flat-laws
 use Rattle.exports.proofs.run_tables.FlatAttemptAnswer as Out-type

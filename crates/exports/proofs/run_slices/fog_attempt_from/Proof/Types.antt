@@ -9,17 +9,17 @@ use mir.Val.{Val}
 use denote.RattleType.{RattleType}
 use denote.Laws.{Is}
 use denote.Struct.Laws as LL
-use Rattle.attempts.specs.Attempting.{attemptAnswerOf, attemptFrom, standsFrom}
-use Rattle.attempts.specs.Columns.{runIn}
-use Rattle.attempts.specs.declared.settling.AttemptAnswer.{AttemptAnswer}
-use Rattle.attempts.specs.declared.settling.Setup.{Setup}
+use Rattle.fitter.specs.Attempting.{attemptAnswerOf, attemptFrom, standsFrom}
+use Rattle.fitter.specs.Columns.{runIn}
+use Rattle.fitter.specs.declared.settling.AttemptAnswer.{AttemptAnswer}
+use Rattle.fitter.specs.declared.settling.Setup.{Setup}
 use Rattle.exports.specs.FlatSetups.{setupFrom}
 use Rattle.exports.specs.FlatTables.{sayAttempt}
 use Rattle.exports.specs.declared.run_slices.FlatSetup.{FlatSetup}
 use Rattle.exports.specs.declared.run_tables.FlatAttemptAnswer.{FlatAttemptAnswer}
-use Rattle.attempts.proofs.RunSlices.{Arguments, n, m}
-use Rattle.attempts.proofs.settling.Setup as Setup-type
-use Rattle.attempts.proofs.settling.AttemptAnswer as Answer-type
+use Rattle.fitter.proofs.RunSlices.{Arguments, n, m}
+use Rattle.fitter.proofs.settling.Setup as Setup-type
+use Rattle.fitter.proofs.settling.AttemptAnswer as Answer-type
 use Rattle.exports.proofs.run_slices.FlatSetup as Flat-type
 use Rattle.exports.proofs.run_slices.FlatSetup.Laws as Flat-laws
 use Rattle.exports.proofs.run_tables.FlatAttemptAnswer as Out-type

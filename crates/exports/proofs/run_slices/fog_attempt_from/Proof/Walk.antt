@@ -26,26 +26,26 @@ use denote.Struct.Laws as LL
 use denote.Triple.Statement.{Triple}
 use denote.Triple.Call.{calls-at}
 use denote.Triple.Clauses.{ensured, lasts}
-use Rattle.attempts.specs.declared.settling.AttemptAnswer.{AttemptAnswer}
-use Rattle.attempts.specs.declared.settling.Setup.{Setup}
+use Rattle.fitter.specs.declared.settling.AttemptAnswer.{AttemptAnswer}
+use Rattle.fitter.specs.declared.settling.Setup.{Setup}
 use Rattle.exports.specs.FlatSetups.{setupFrom}
 use Rattle.exports.specs.FlatTables.{sayAttempt}
 use Rattle.exports.specs.declared.run_tables.FlatAttemptAnswer.{FlatAttemptAnswer}
-use Rattle.attempts.proofs.LentOn.{LentAgain, lends-again, comes-back}
-use Rattle.attempts.proofs.RunSlices.{Run-row, Arguments, m, bins-ref, runs-ref, lists-ref, bins-at, setup-at, runs-at}
-use Rattle.attempts.proofs.RunSlices.{lists-at, OwnB, OwnR, OwnL, OwnT, Lended}
-use Rattle.attempts.proofs.settling.Setup as Setup-type
-use Rattle.attempts.proofs.settling.Setup.Laws as Setup-laws
-use Rattle.attempts.proofs.settling.AttemptAnswer as Answer-type
-use Rattle.attempts.proofs.settling.AttemptAnswer.Laws as Answer-laws
+use Rattle.fitter.proofs.LentOn.{LentAgain, lends-again, comes-back}
+use Rattle.fitter.proofs.RunSlices.{Run-row, Arguments, m, bins-ref, runs-ref, lists-ref, bins-at, setup-at, runs-at}
+use Rattle.fitter.proofs.RunSlices.{lists-at, OwnB, OwnR, OwnL, OwnT, Lended}
+use Rattle.fitter.proofs.settling.Setup as Setup-type
+use Rattle.fitter.proofs.settling.Setup.Laws as Setup-laws
+use Rattle.fitter.proofs.settling.AttemptAnswer as Answer-type
+use Rattle.fitter.proofs.settling.AttemptAnswer.Laws as Answer-laws
 use Rattle.exports.proofs.run_slices.FlatSetup as Flat-type
 use Rattle.exports.proofs.run_slices.FlatSetup.Laws as Flat-laws
 use Rattle.exports.proofs.run_tables.FlatAttemptAnswer as Out-type
 use Rattle.exports.proofs.run_tables.FlatAttemptAnswer.Laws as Out-laws
 use Rattle.exports.proofs.run_slices.setup_from as made
 use Rattle.exports.proofs.run_slices.setup_from.Symbol as made-def
-use Rattle.attempts.proofs.run_table.attempt_from as asked
-use Rattle.attempts.proofs.run_table.attempt_from.Symbol as asked-def
+use Rattle.fitter.proofs.run_table.attempt_from as asked
+use Rattle.fitter.proofs.run_table.attempt_from.Symbol as asked-def
 use Rattle.exports.proofs.run_tables.flat_attempt_answer as said
 use Rattle.exports.proofs.run_tables.flat_attempt_answer.Symbol as said-def
 use Rattle.exports.proofs.run_slices.fog_attempt_from.Code.Mir as code-mir

@@ -1,0 +1,91 @@
+-- A judged run, out of its fit and the verdict on it. Assumes nothing.
+use Prim.Native.Nat.{ℕ}
+use mathlib.Core.Path.{_≡_, refl, sym, ap, _∙_}
+use mathlib.Core.Bool.{Bool, true, false, not, cond, _&&_, true≢false, false≢true}
+use mathlib.Core.List.{List}
+use lib.Ieee.{Float}
+use Rattle.meaning.specs.Reply.{give}
+use Rattle.meaning.proofs.Replies.{same-answer, answer-not-refused}
+use Rattle.models.specs.Unpacking.{unpackAt}
+use Rattle.models.specs.declared.fit.SpectrumFit.{SpectrumFit}
+use Rattle.fitter.specs.Attempts.{unrejected}
+use Rattle.fitter.specs.Validation.{Judgement, verdictOf, verdictSays}
+use Rattle.fitter.specs.declared.attempts.RejectionPart.{RejectionPart}
+use Rattle.fitter.specs.declared.attempts.RejectionPart.the-variants.{Present}
+use Rattle.fitter.specs.declared.validation.Verdict.{Verdict}
+use Rattle.fitter.specs.declared.validation.Verdict.the-variants.{Valid, Rejected, Refused}
+use Rattle.fitter.proofs.Verdicts.{there-and-back}
+use Rattle.fitter.specs.Judging.{rejectionOf, rejectionSaid, fitOfRun, judgedOf, heldOf, couldWin, retryStep}
+use Rattle.fitter.specs.Runs.{listAt, pointOf}
+use Rattle.fitter.specs.Surveys.{bestOf}
+use Rattle.fitter.specs.declared.judging.Frame.{Frame}
+use Rattle.fitter.specs.declared.judging.Held.{Held}
+use Rattle.fitter.specs.declared.runs.Run.{Run}
+use Rattle.fitter.specs.declared.runs.RunPoint.{RunPoint}
+use Rattle.fitter.specs.declared.runs.RunPoint.the-variants.{Converged, Missing}
+
+said-is : (v : Verdict) (j : Judgement) → verdictSays v ≡ give j → rejectionSaid v ≡ rejectionOf j
+said-is Valid j e = ap rejectionOf (same-answer e)
+said-is (Rejected why) j e = ap Present (sym (there-and-back why)) ∙ ap rejectionOf (same-answer e)
+said-is (Refused n) j e = absurd (answer-not-refused (sym e))
+
+module _ (bins : List ℕ) (frame : Frame) (lists : List Float) (room : ℕ) (run : Run) where
+  pub judged-is : (list : List Float) (fit : SpectrumFit) (v : Verdict) (r : RejectionPart)
+      → list ≡ listAt lists (run .place) (run .length)
+      → fit
+      ≡ unpackAt bins (frame .window) (frame .peak) (frame .error) (frame .genome) list (run .cost) (run .iterations) room
+      → verdictSays v ≡ give (verdictOf fit (frame .valley) (frame .peak) (frame .«mass_limit»))
+      → r ≡ rejectionSaid v
+      → record { fit = fit; rejection = r } ≡ judgedOf bins frame lists room run
+  unfolding judgedOf fitOfRun
+  judged-is list fit v r el ef ev er =
+      let f : fit ≡ fitOfRun bins frame lists room run =
+      ef
+      ∙ ap (λ (l : List Float).
+      unpackAt bins (frame .window) (frame .peak) (frame .error) (frame .genome) l (run .cost) (run .iterations)
+      room) el in
+      let s : r
+      ≡ rejectionOf
+      (verdictOf (fitOfRun bins frame lists room run) (frame .valley) (frame .peak) (frame .«mass_limit»)) =
+      er ∙ said-is v _ ev
+      ∙ ap (λ (x : SpectrumFit). rejectionOf (verdictOf x (frame .valley) (frame .peak) (frame .«mass_limit»))) f in
+      λ i. record { fit = f i; rejection = s i }
+
+-- ---- a run looked at again, by its answer
+module _ (bins : List ℕ) (frame : Frame) (lists : List Float) (room i : ℕ) (run : Run) (held : Held) where
+  abbrev new : Held
+  new = heldOf bins frame lists room (bestOf i run)
+
+  abbrev fine : Bool
+  fine = unrejected (judgedOf bins frame lists room run .rejection)
+
+  abbrev next : Held
+  next = retryStep bins frame lists room i run held
+
+  abbrev pointed : RunPoint → Held
+  pointed Missing = held
+  pointed (Converged cost place) = cond (couldWin held cost && fine) new held
+
+  by-point : (c : Bool) → run .converged ≡ c → pointed (pointOf run) ≡ next
+  unfolding retryStep
+  by-point true e = rw e
+  by-point false e = rw e
+
+  pub passed-by : Missing ≡ pointOf run → held ≡ next
+  passed-by e = ap pointed e ∙ by-point (run .converged) refl
+
+  both : (cost : Float) (w u : Bool) → couldWin held cost ≡ w → fine ≡ u → (couldWin held cost && fine) ≡ (w && u)
+  both cost w u e f = ap (λ (x : Bool). x && fine) e ∙ ap (λ (x : Bool). w && x) f
+
+  pub looked-at : (cost : Float) (place : ℕ) (w u : Bool) → Converged cost place ≡ pointOf run → couldWin held cost ≡ w
+      → fine ≡ u → cond (w && u) new held ≡ next
+  looked-at cost place w u p e f =
+      ap (λ (b : Bool). cond b new held) (sym (both cost w u e f)) ∙ ap pointed p ∙ by-point (run .converged) refl
+
+pub from-not : {b : Bool} → not b ≡ true → b ≡ false
+from-not {b = true} e = absurd (false≢true e)
+from-not {b = false} e = refl
+
+pub from-not-not : {b : Bool} → not b ≡ false → b ≡ true
+from-not-not {b = true} e = refl
+from-not-not {b = false} e = absurd (true≢false e)

@@ -1,0 +1,132 @@
+-- `fitter::attempting::attempt_from_numbers` meets its contract. Assumes nothing.
+use Prim.Native.Nat.{ℕ}
+use mathlib.Core.Path.{_≡_, ap, _∙_}
+use borrow.Author.Needs.{needs}
+use lib.ListN.{length}
+use Rattle.fitter.specs.Columns.{countOfRuns, runOf}
+use Rattle.fitter.specs.Judging.{retriedOf}
+use Rattle.fitter.specs.Settling.{withHeld, finishOf, surveyed, settled}
+use Rattle.fitter.specs.declared.runs.Run.{Run}
+use Rattle.fitter.proofs.Answered.{survey-is, settled-is, one-pass, two-passes, one-stands, two-stand}
+use Rattle.fitter.proofs.attempting.attempt_from_numbers.Statement.{statement}
+use Rattle.fitter.proofs.attempting.attempt_from_numbers.Tie as tie
+
+run-count-requires : tie.Need-run-count-requires
+run-count-requires c κs = search needs
+
+list-length-requires : tie.Need-list-length-requires
+list-length-requires c κs = search needs
+
+survey-columns-requires : tie.Need-survey-columns-requires
+survey-columns-requires c κs = search needs
+
+settle-requires : tie.Need-settle-requires
+settle-requires c κs = search needs
+
+retry-columns-requires : tie.Need-retry-columns-requires
+retry-columns-requires c κs = search needs
+
+with-held-requires : tie.Need-with-held-requires
+with-held-requires c κs = search needs
+
+finish-requires : tie.Need-finish-requires
+finish-requires c κs = search needs
+
+-- ---- behind the first pass
+module _ (t : tie.After-settle) where
+  abbrev first : tie.After-survey-columns
+  first = t .before .before
+
+  abbrev start : tie.Start
+  start = first .before .before .before .before .before .before .before .before .before .before .before .before
+
+  abbrev at : ℕ → Run
+  at =
+      let a = start .args in
+      runOf (a .converged .now) (a .costs .now) (a .places .now) (a .lengths .now) (a .iterations .now) (a .caps .now)
+
+  abbrev n : ℕ
+  n =
+      let a = start .args in
+      countOfRuns (a .converged .now) (a .costs .now) (a .places .now) (a .lengths .now) (a .iterations .now)
+      (a .caps .now)
+
+  abbrev room : ℕ
+  room = length (start .args .table .now)
+
+  surveyed-so : let a = start .args in
+      first .survey-columns .result ≡ surveyed (a .bins .now) (a .setup) (a .lists .now) room at n
+  surveyed-so =
+      let a = start .args in
+      survey-is (a .bins .now) (a .setup) (a .lists .now) room at n _ _ (first .before .list-length .ensures)
+      (first .survey-columns .ensures)
+
+  settled-so : let a = start .args in
+      t .settle .result ≡ settled (a .bins .now) (a .setup) (a .lists .now) room at n
+  settled-so =
+      let a = start .args in
+      settled-is (a .bins .now) (a .setup) (a .lists .now) room at n _ _ _ (first .before .before .run-count .ensures)
+      surveyed-so (t .settle .ensures .0)
+
+same-length : tie.Need-same-length
+same-length c =
+    let r = c .before .before .before .before in
+    let t = r .before .before .before .before .before in
+    r .retry-columns .kept .1 .1 .1 .1 .1 .1 .1 .1 .1 .1 .0 ∙ t .settle .kept .1 .1 .1 .1 .1 .0
+
+returns : tie.Need-returns
+returns c =
+    let w = c .before in
+    let r = w .before .before .before in
+    let u = r .before .before in
+    let t = u .before .before .before in
+    let a = start t .args in
+    let s = t .settle .result in
+    let held : r .retry-columns .result
+    ≡ retriedOf (a .bins .now) (s .frame) (a .lists .now) (room t) (at t) (n t) (s .held) =
+    r .retry-columns .ensures .0
+    ∙ ap (λ (m : ℕ). retriedOf (a .bins .now) (s .frame) (a .lists .now) m (at t) (n t) (s .held))
+    (t .settle .kept .1 .1 .1 .1 .1 .0) in
+    let done : c .finish .result ≡ finishOf (first t .survey-columns .result) (withHeld s (r .retry-columns .result)) =
+    c .finish .ensures ∙ ap (finishOf (first t .survey-columns .result)) (w .with-held .ensures) in (
+      done
+          ∙ two-passes (a .bins .now) (a .setup) (a .lists .now) (room t) (at t) (n t) _ _ (surveyed-so t) (settled-so t)
+          _ (u .if1 .taken) held,
+      two-stand (a .bins .now) (a .setup) (a .lists .now) (room t) (at t) (n t) _ _ (surveyed-so t) (settled-so t) _ _
+          (t .settle .ensures .1) _ _ _ done (u .if1 .taken) (r .retry-columns .ensures .1),
+    )
+
+finish-requires-2 : tie.Need-finish-requires-2
+finish-requires-2 c κs = search needs
+
+same-length-2 : tie.Need-same-length-2
+same-length-2 c = let t = c .before .before .before .before in t .settle .kept .1 .1 .1 .1 .1 .0
+
+returns-2 : tie.Need-returns-2
+returns-2 c =
+    let u = c .before in
+    let t = u .before .before .before in
+    let a = start t .args in (
+      c .finish2 .ensures
+          ∙ one-pass (a .bins .now) (a .setup) (a .lists .now) (room t) (at t) (n t) _ _ (surveyed-so t) (settled-so t)
+          (u .if1 .left),
+      one-stands (a .bins .now) (a .setup) (a .lists .now) (room t) (at t) (n t) _ _ (surveyed-so t) (settled-so t) _ _
+          (t .settle .ensures .1) _ (c .finish2 .ensures),
+    )
+
+pub attempt-from-numbers-spec : {M : Type 1} → statement M
+attempt-from-numbers-spec =
+    tie.close
+    (tie.spec
+    run-count-requires
+    list-length-requires
+    survey-columns-requires
+    settle-requires
+    retry-columns-requires
+    with-held-requires
+    finish-requires
+    same-length
+    returns
+    finish-requires-2
+    same-length-2
+    returns-2)

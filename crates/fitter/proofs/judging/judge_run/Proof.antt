@@ -1,0 +1,49 @@
+-- `fitter::judging::judge_run` meets its contract. Assumes nothing.
+use borrow.Author.Needs.{needs}
+use Rattle.fitter.proofs.Judgements.{judged-is}
+use Rattle.fitter.proofs.Standing.{entries-stand}
+use Rattle.fitter.proofs.judging.judge_run.Statement.{statement}
+use Rattle.fitter.proofs.judging.judge_run.Tie as tie
+
+list-at-requires : tie.Need-list-at-requires
+list-at-requires c κs = search needs
+
+unpack-at-requires : tie.Need-unpack-at-requires
+unpack-at-requires c κs = search needs
+
+cast-judge : tie.Need-cast-judge
+cast-judge c = search needs
+
+judge-requires : tie.Need-judge-requires
+judge-requires c κs = search needs
+
+rejection-of-requires : tie.Need-rejection-of-requires
+rejection-of-requires c κs = search needs
+
+same-length : tie.Need-same-length
+same-length c = search needs
+
+returns : tie.Need-returns
+returns c =
+    let judged = c .before in
+    let unpacked = judged .before .before .before .before in
+    let listed = unpacked .before .before in
+    let a = listed .before .before .before .before .before .args in
+    let f = a .frame in (
+      judged-is (a .bins .now) f (a .lists .now) _ (a .run) _ _ (judged .judge .result) _ (listed .list-at .ensures)
+          (unpacked .unpack-at .ensures .0) (judged .judge .ensures) (c .rejection-of .ensures),
+      entries-stand (f .window) (f .peak) (f .error) (f .genome) _ _ (a .table .now) _
+          (unpacked .unpack-at .ensures .1),
+    )
+
+pub judge-run-spec : {M : Type 1} → statement M
+judge-run-spec =
+    tie.close
+    (tie.spec
+    list-at-requires
+    unpack-at-requires
+    cast-judge
+    judge-requires
+    rejection-of-requires
+    same-length
+    returns)

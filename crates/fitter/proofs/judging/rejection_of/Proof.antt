@@ -1,0 +1,26 @@
+-- `fitter::judging::rejection_of` meets its contract. Assumes nothing.
+use borrow.Author.Needs.{needs}
+use Rattle.fitter.proofs.judging.rejection_of.Statement.{statement}
+use Rattle.fitter.proofs.judging.rejection_of.Tie as tie
+
+enum-told : tie.Need-enum-told
+enum-told c = search needs
+
+enum-known-verdict : tie.Need-enum-known-verdict
+enum-known-verdict c = search needs
+
+enum-told-2 : tie.Need-enum-told-2
+enum-told-2 c = search needs
+
+returns : tie.Need-returns
+returns c = search needs
+
+returns-2 : tie.Need-returns-2
+returns-2 c = rw (c .before .verdict .given .1)
+
+returns-3 : tie.Need-returns-3
+returns-3 c = search needs
+
+pub rejection-of-spec : {M : Type 1} → statement M
+rejection-of-spec =
+    tie.close (tie.spec enum-told enum-known-verdict enum-told-2 returns returns-2 returns-3)

@@ -1,0 +1,125 @@
+-- `fitter::judging::retry_run` meets its contract. Assumes nothing.
+use mathlib.Core.Path.{_≡_, refl, sym, ap, _∙_}
+use mathlib.Core.Bool.{Bool, true, false}
+use borrow.Author.Needs.{needs}
+use lib.ListN.{length}
+use Rattle.fitter.specs.Attempts.{unrejected}
+use Rattle.fitter.specs.Judging.{judgedOf}
+use Rattle.fitter.specs.Surveys.{bestOf}
+use Rattle.fitter.specs.declared.judging.Judged.{Judged}
+use Rattle.fitter.proofs.Judgements.{passed-by, looked-at, from-not, from-not-not}
+use Rattle.fitter.proofs.judging.retry_run.Statement.{statement}
+use Rattle.fitter.proofs.judging.retry_run.Tie as tie
+
+run-point-requires : tie.Need-run-point-requires
+run-point-requires c κs = search needs
+
+enum-known-point : tie.Need-enum-known-point
+enum-known-point c = c .match .keys1
+
+enum-told : tie.Need-enum-told
+enum-told c = c .match .keys2
+
+abbrev start : tie.After-run-point → tie.Start
+start p = p .before .before .before .before
+
+returns : tie.Need-returns
+returns c =
+    let p = c .before .before in
+    let a = start p .args in (
+      passed-by (a .bins .now) (a .frame) (a .lists .now) _ (a .position) (a .run) (a .held)
+          (sym (c .enum-told .given .1) ∙ p .run-point .ensures),
+      refl,
+    )
+
+could-win-requires : tie.Need-could-win-requires
+could-win-requires c κs = search needs
+
+returns-2 : tie.Need-returns-2
+returns-2 c =
+    let w = c .before in
+    let k = w .before .before in
+    let g = k .point .given in
+    let p = k .before .before in
+    let a = start p .args in (
+      looked-at (a .bins .now) (a .frame) (a .lists .now) _ (a .position) (a .run) (a .held) (g .0 .0) (g .0 .1 .0)
+          false _ (sym (g .1) ∙ p .run-point .ensures) (sym (w .could-win .ensures) ∙ from-not (c .if1 .taken)) refl,
+      refl,
+    )
+
+judge-run-requires : tie.Need-judge-run-requires
+judge-run-requires c κs = search needs
+
+is-unrejected-requires : tie.Need-is-unrejected-requires
+is-unrejected-requires c κs = search needs
+
+same-length : tie.Need-same-length
+same-length c = let j = c .before .before .before .before in j .judge-run .kept .1 .1 .1 .1 .0
+
+-- ---- what the tests behind the run's judgement say
+module _ (u : tie.After-is-unrejected) where
+  abbrev judged : tie.After-judge-run
+  judged = u .before .before .before
+
+  abbrev win : tie.After-could-win
+  win = judged .before .before .before
+
+  abbrev point : tie.After-point
+  point = win .before .before
+
+  abbrev from : tie.Start
+  from = start (point .before .before)
+
+  verdict : (b : Bool) → u .is-unrejected .result ≡ b
+      → unrejected (judgedOf (from .args .bins .now) (from .args .frame) (from .args .lists .now)
+      (length (from .args .table .now)) (from .args .run) .rejection) ≡ b
+  verdict b e =
+      sym (ap (λ (j : Judged). unrejected (j .rejection)) (judged .judge-run .ensures .0))
+      ∙ sym (u .is-unrejected .ensures) ∙ e
+
+returns-3 : tie.Need-returns-3
+returns-3 c =
+    let u = c .before in
+    let g = point u .point .given in
+    let p = point u .before .before in
+    let a = from u .args in (
+      looked-at (a .bins .now) (a .frame) (a .lists .now) _ (a .position) (a .run) (a .held) (g .0 .0) (g .0 .1 .0)
+          true false (sym (g .1) ∙ p .run-point .ensures)
+          (sym (win u .could-win .ensures) ∙ from-not-not (judged u .before .before .if1 .left))
+          (verdict u false (from-not (c .if2 .taken))),
+      judged u .judge-run .ensures .1,
+    )
+
+same-length-2 : tie.Need-same-length-2
+same-length-2 c = let j = c .before .before .before .before in j .judge-run .kept .1 .1 .1 .1 .0
+
+returns-4 : tie.Need-returns-4
+returns-4 c =
+    let u = c .before in
+    let g = point u .point .given in
+    let p = point u .before .before in
+    let a = from u .args in (
+      ap (λ (j : Judged). record { best = bestOf (a .position) (a .run); judged = j }) (judged u .judge-run .ensures .0)
+          ∙ looked-at (a .bins .now) (a .frame) (a .lists .now) _ (a .position) (a .run) (a .held) (g .0 .0) (g .0 .1 .0)
+          true true (sym (g .1) ∙ p .run-point .ensures)
+          (sym (win u .could-win .ensures) ∙ from-not-not (judged u .before .before .if1 .left))
+          (verdict u true (from-not-not (c .if2 .left))),
+      judged u .judge-run .ensures .1,
+    )
+
+pub retry-run-spec : {M : Type 1} → statement M
+retry-run-spec =
+    tie.close
+    (tie.spec
+    run-point-requires
+    enum-known-point
+    enum-told
+    returns
+    could-win-requires
+    returns-2
+    judge-run-requires
+    is-unrejected-requires
+    same-length
+    returns-3
+    same-length-2
+    returns-4)

@@ -1,0 +1,84 @@
+-- `fitter::runs::list_at` meets its contract. Assumes nothing.
+use Prim.Native.Nat.{ℕ, _+_, _-_, _≤_, _<_}
+use mathlib.Core.Path.{_≡_}
+use mathlib.Core.List.{List, []}
+use native.Mathlib.Omega.{arith}
+use borrow.Author.Tests.{lt-ltb, le-ltb}
+use lib.ListN.{length, take, drop}
+use lib.Ieee.{Float}
+use Rattle.fitter.specs.Runs.{listAt}
+use borrow.Author.Needs.{needs}
+use Rattle.fitter.proofs.runs.list_at.Statement.{statement}
+use Rattle.fitter.proofs.runs.list_at.Tie as tie
+
+module _ (lists : List Float) (place n : ℕ) where
+  none : length lists < place + n → [] ≡ listAt lists place n
+  unfolding listAt
+  none h = rw (lt-ltb _ _ h)
+
+  part : place + n ≤ length lists → take (place + n - place) (drop place lists) ≡ listAt lists place n
+  unfolding listAt
+  part h =
+      let e : place + n - place ≡ n = omega arith in
+      rw (le-ltb _ _ h, e)
+
+sub-result : tie.Need-sub-result
+sub-result c = search needs
+
+part-result-start : tie.Need-part-result-start
+part-result-start c = search needs
+
+part-result-end : tie.Need-part-result-end
+part-result-end c = search needs
+
+returns : tie.Need-returns
+returns c = none _ _ _ (omega (arith, c .before .if1 .taken))
+
+sub-result-2 : tie.Need-sub-result-2
+sub-result-2 c = search needs
+
+part-result-start-2 : tie.Need-part-result-start-2
+part-result-start-2 c = search needs
+
+part-result-end-2 : tie.Need-part-result-end-2
+part-result-end-2 c = search needs
+
+returns-2 : tie.Need-returns-2
+returns-2 c = none _ _ _ (omega (arith, c .before .before .if1 .left, c .before .if2 .taken))
+
+add-end : tie.Need-add-end
+add-end c = search needs
+
+mul-result : tie.Need-mul-result
+mul-result c = search needs
+
+sub-result-3 : tie.Need-sub-result-3
+sub-result-3 c = search needs
+
+part-result-start-3 : tie.Need-part-result-start-3
+part-result-start-3 c = search needs
+
+part-result-end-3 : tie.Need-part-result-end-3
+part-result-end-3 c = search needs
+
+returns-3 : tie.Need-returns-3
+returns-3 c = part _ _ _ (omega (arith, c .before .before .if1 .left, c .before .if2 .left))
+
+pub list-at-spec : {M : Type 1} → statement M
+list-at-spec =
+    tie.close
+    (tie.spec
+    sub-result
+    part-result-start
+    part-result-end
+    returns
+    sub-result-2
+    part-result-start-2
+    part-result-end-2
+    returns-2
+    add-end
+    mul-result
+    sub-result-3
+    part-result-start-3
+    part-result-end-3
+    returns-3)

@@ -1,0 +1,60 @@
+-- `fitter::turns::survey_turn` meets its contract. Assumes nothing.
+use mathlib.Core.Path.{refl}
+use borrow.Author.Needs.{needs}
+use Rattle.fitter.proofs.Turned.{first-on, first-settled}
+use Rattle.fitter.proofs.turns.survey_turn.Statement.{statement}
+use Rattle.fitter.proofs.turns.survey_turn.Tie as tie
+
+list-length-requires : tie.Need-list-length-requires
+list-length-requires c κs = search needs
+
+survey-run-requires : tie.Need-survey-run-requires
+survey-run-requires c κs = search needs
+
+add-next : tie.Need-add-next
+add-next c = search needs
+
+abbrev start : tie.After-survey-run → tie.Start
+start s = s .before .before .before .before .before .before
+
+returns : tie.Need-returns
+returns c =
+    let s = c .before .before in
+    let a = start s .args in (
+      first-on (a .bins .now) (a .setup) (a .lists .now) _ (a .run) (a .t) _ _ (s .before .list-length .ensures)
+          (s .survey-run .ensures) (c .if1 .taken),
+      refl,
+    )
+
+settle-requires : tie.Need-settle-requires
+settle-requires c κs = search needs
+
+second-from-requires : tie.Need-second-from-requires
+second-from-requires c κs = search needs
+
+same-length : tie.Need-same-length
+same-length c = search needs
+
+returns-2 : tie.Need-returns-2
+returns-2 c =
+    let k = c .before .before .before in
+    let e = k .before .before in
+    let s = e .before .before in
+    let a = start s .args in (
+      first-settled (a .bins .now) (a .setup) (a .lists .now) _ (a .run) (a .t) _ _ (s .before .list-length .ensures)
+          (s .survey-run .ensures) _ _ (e .if1 .left) (k .settle .ensures .0) (c .second-from .ensures),
+      k .settle .ensures .1,
+    )
+
+pub survey-turn-spec : {M : Type 1} → statement M
+survey-turn-spec =
+    tie.close
+    (tie.spec
+    list-length-requires
+    survey-run-requires
+    add-next
+    returns
+    settle-requires
+    second-from-requires
+    same-length
+    returns-2)

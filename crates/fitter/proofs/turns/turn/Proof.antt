@@ -1,0 +1,43 @@
+-- `fitter::turns::turn` meets its contract. Assumes nothing.
+use mathlib.Core.Path.{_∙_}
+use borrow.Author.Needs.{needs}
+use Rattle.fitter.proofs.Turned.{turn-first, turn-second}
+use Rattle.fitter.proofs.turns.turn.Statement.{statement}
+use Rattle.fitter.proofs.turns.turn.Tie as tie
+
+retry-turn-requires : tie.Need-retry-turn-requires
+retry-turn-requires c κs = search needs
+
+same-length : tie.Need-same-length
+same-length c = search needs
+
+returns : tie.Need-returns
+returns c =
+    let r = c .before .before in
+    let t = r .before .before in
+    let a = t .before .before .before .before .args in (
+      r .retry-turn .ensures .0
+          ∙ turn-second (a .bins .now) (a .setup) (a .lists .now) _ (a .run) (a .t) (t .if1 .taken),
+      rw (t .if1 .taken) (r .retry-turn .ensures .1),
+    )
+
+survey-turn-requires : tie.Need-survey-turn-requires
+survey-turn-requires c κs = search needs
+
+same-length-2 : tie.Need-same-length-2
+same-length-2 c = search needs
+
+returns-2 : tie.Need-returns-2
+returns-2 c =
+    let r = c .before .before in
+    let t = r .before .before in
+    let a = t .before .before .before .before .args in (
+      r .survey-turn .ensures .0
+          ∙ turn-first (a .bins .now) (a .setup) (a .lists .now) _ (a .run) (a .t) (t .if1 .left),
+      rw (t .if1 .left) (r .survey-turn .ensures .1),
+    )
+
+pub turn-spec : {M : Type 1} → statement M
+turn-spec =
+    tie.close
+    (tie.spec retry-turn-requires same-length returns survey-turn-requires same-length-2 returns-2)

@@ -1,0 +1,141 @@
+// A converged run as a fit, with what speaks against it, and the run that is kept.
+// Ported from src/preprocessing/spectrum_fitter.rs of bacpop/sparrowhawk-asm, f1f8af1232, Apache-2.0; ported and
+// changed: the window is worked out once, and a search for the least stands for the stable sort.
+ghost use mathlib.Core.Path.{_≡_};
+ghost use lib.ListN.{length, drop};
+ghost use Rattle.fitter.specs.Attempts.{unrejected};
+ghost use Rattle.fitter.specs.Judging.{rejectionSaid, tableFrom, judgedOf, couldWin, retryStep};
+use crate::attempts::RejectionPart;
+use crate::runs::Run;
+use crate::runs::RunPoint;
+use crate::runs::list_at;
+use crate::runs::run_point;
+use crate::surveys::Best;
+use crate::validation::Verdict;
+use crate::validation::judge;
+use models::families::ErrorModel;
+use models::families::GenomeModel;
+use models::fit::SpectrumFit;
+use models::spectra::Window;
+use models::unpacking::unpack_at;
+
+// What all runs of an attempt are judged by, once nothing is refused.
+pub struct Frame {
+    pub window: Window,
+    pub peak: u16,
+    pub valley: usize,
+    pub error: ErrorModel,
+    pub genome: GenomeModel,
+    pub mass_limit: f64,
+}
+
+// A fit, and why it is not used; absent where it is valid.
+pub struct Judged {
+    pub fit: SpectrumFit,
+    pub rejection: RejectionPart,
+}
+
+// The run that is kept so far.
+pub struct Held {
+    pub best: Best,
+    pub judged: Judged,
+}
+
+// The validator's verdict on a fit of a run; it refuses none.
+fn rejection_of(verdict: Verdict) -> RejectionPart
+    ensures { λ r. ⌜ r ≡ rejectionSaid verdict ⌝ }
+{
+    match verdict {
+        Verdict::Valid => RejectionPart::Absent,
+        Verdict::Rejected(reason) => RejectionPart::Present(reason),
+        Verdict::Refused(_) => RejectionPart::Absent,
+    }
+}
+
+pub(crate) fn is_unrejected(rejection: RejectionPart) -> bool
+    ensures { λ r. ⌜ r ≡ unrejected rejection ⌝ }
+{
+    match rejection {
+        RejectionPart::Absent => true,
+        RejectionPart::Present(_) => false,
+    }
+}
+
+// A run's list as a fit, judged. The shelf's table is written where there is a shelf.
+pub(crate) fn judge_run(
+    bins: &[u32],
+    frame: Frame,
+    run: Run,
+    lists: &[f64],
+    table: &mut [f64],
+) -> Judged
+    ensures { λ r. ⌜ r ≡ judgedOf (now (bins .entry)) frame (now (lists .entry)) (length (now (table .entry))) run ⌝ }
+    ensures { λ _. ⌜ drop (tableFrom frame) (now (table .exit)) ≡ drop (tableFrom frame) (now (table .entry)) ⌝ }
+{
+    let window = frame.window;
+    let error = frame.error;
+    let genome = frame.genome;
+    let list = list_at(lists, run.place, run.length);
+    let fit = unpack_at(
+        bins,
+        window,
+        frame.peak,
+        error,
+        genome,
+        list,
+        run.cost,
+        run.iterations,
+        table,
+    );
+    let verdict = judge(fit, frame.valley, frame.peak as usize, frame.mass_limit);
+    let rejection = rejection_of(verdict);
+    Judged {
+        fit: fit,
+        rejection: rejection,
+    }
+}
+
+// Whether a run of this cost is kept instead, should it be valid.
+fn could_win(held: Held, cost: f64) -> bool
+    ensures { λ r. ⌜ r ≡ couldWin held cost ⌝ }
+{
+    let best = held.best;
+    let run = best.run;
+    let judged = held.judged;
+    let rejection = judged.rejection;
+    if is_unrejected(rejection) {
+        return cost < run.cost;
+    }
+    true
+}
+
+// One run more, behind the rejected one of least cost: what can't win is not unpacked.
+pub(crate) fn retry_run(
+    held: Held,
+    position: usize,
+    run: Run,
+    bins: &[u32],
+    frame: Frame,
+    lists: &[f64],
+    table: &mut [f64],
+) -> Held
+    ensures { λ r. ⌜ r ≡ retryStep (now (bins .entry)) frame (now (lists .entry)) (length (now (table .entry))) position run held ⌝ }
+    ensures { λ _. ⌜ drop (tableFrom frame) (now (table .exit)) ≡ drop (tableFrom frame) (now (table .entry)) ⌝ }
+{
+    let point = run_point(run);
+    let RunPoint::Converged(cost, _) = point else {
+        return held;
+    };
+    if !could_win(held, cost) {
+        return held;
+    }
+    let judged = judge_run(bins, frame, run, lists, table);
+    let rejection = judged.rejection;
+    if !is_unrejected(rejection) {
+        return held;
+    }
+    Held {
+        best: Best { run: run, position },
+        judged: judged,
+    }
+}

@@ -1,0 +1,134 @@
+-- `models::height_cutoffs::crossing` meets its contract. The invariant: what is left of the search, from the count on,
+-- is the whole of it; and the survival that the loop carries is that of its count. Assumes nothing.
+use mathlib.Core.Path.{_≡_, sym, ap, _∙_}
+use mathlib.Core.Bool.{Bool}
+use mathlib.Core.Option.{some}
+use Prim.Native.Nat.{ℕ, _+_, _-_, _≤_}
+use native.Mathlib.Omega.{arith}
+use lib.Ieee.{lt}
+use Rattle.routines.specs.Ops.{ofCount}
+use Rattle.models.specs.Errors.{survivalOf}
+use Rattle.models.specs.HeightTerms.{heightsOf}
+use Rattle.models.specs.declared.height_terms.HeightTerms.{HeightTerms}
+use Rattle.models.specs.declared.heights.Heights.{Heights}
+use Rattle.models.proofs.Survivals.{first-survival, next-survival, error-from-is}
+use Rattle.models.specs.HeightCutoffs.{outgrows, crossingFrom, crossingOf}
+use Rattle.models.proofs.HeightCutoffs.{crossing-starts, crossing-ends, crossing-hits, crossing-goes, outgrows-is}
+use borrow.Author.Needs.{needs}
+use Rattle.models.proofs.height_cutoffs.crossing.Statement.{statement}
+use Rattle.models.proofs.height_cutoffs.crossing.Tie as tie
+
+abbrev heights-in : HeightTerms → ℕ → Heights
+heights-in t k = heightsOf t (ofCount k)
+
+abbrev Inv-loop : tie.InvT-loop
+Inv-loop t ceiling p here₀ count₀ here count =
+    (here ≡ survivalOf (t .«error_params») (ofCount count)) ×
+    (crossingOf (heights-in t) ceiling ≡ crossingFrom (heights-in t) (ceiling - count) count)
+
+abbrev μ-loop : tie.MeasureT-loop
+μ-loop t ceiling p here₀ count₀ here count = ceiling - count
+
+-- the turn of a comparison, and the call's start
+abbrev at : tie.After-single-height Inv-loop μ-loop → tie.At-loop Inv-loop μ-loop
+at c = c .before .before .before .before .before .before .before .before
+
+abbrev start : tie.After-single-height Inv-loop μ-loop → tie.Start Inv-loop μ-loop
+start c = at c .before .before .before
+
+few : (c : tie.After-single-height Inv-loop μ-loop) → at c .loop .count ≤ 65535
+few c = omega (arith, c .before .before .before .before .before .before .before .loop-test .taken, start c .fits)
+
+survives : (c : tie.After-single-height Inv-loop μ-loop)
+    → c .before .before .before .before .survival-with .result
+    ≡ survivalOf (start c .args .t .«error_params») (ofCount (at c .loop .count + 1))
+survives c =
+    let next = c .before .before .before .before in
+    next-survival (at c .loop .count) (few c) _ _ _ (next .survival-with .ensures) (next .before .ln .ensures)
+
+tested : (c : tie.After-single-height Inv-loop μ-loop) (b : Bool)
+    → lt (c .before .before .error-height-from .result) (c .single-height .result) ≡ b
+    → outgrows (heights-in (start c .args .t)) (at c .loop .count) ≡ b
+tested c b h =
+    let t = start c .args .t in
+    let turn = at c .loop in
+    let error = c .before .before .error-height-from .ensures ∙ error-from-is (turn .count) (few c) _ _ t (turn .inv .0) (survives c) in
+    outgrows-is t (turn .count) _ _ b error (c .single-height .ensures) h
+
+log-survival-from-two-requires : tie.Need-log-survival-from-two-requires Inv-loop μ-loop
+log-survival-from-two-requires c κs = search needs
+
+loop-holds : tie.Need-loop-holds Inv-loop μ-loop
+loop-holds c = (first-survival _ _ (c .log-survival-from-two .ensures), crossing-starts _ _)
+
+int-to-float-ln : tie.Need-int-to-float-ln Inv-loop μ-loop
+int-to-float-ln c = search needs
+
+ln-requires : tie.Need-ln-requires Inv-loop μ-loop
+ln-requires c κs = search needs
+
+survival-with-requires : tie.Need-survival-with-requires Inv-loop μ-loop
+survival-with-requires c κs = search needs
+
+int-to-float-error-height-from : tie.Need-int-to-float-error-height-from Inv-loop μ-loop
+int-to-float-error-height-from c = search needs
+
+error-height-from-requires : tie.Need-error-height-from-requires Inv-loop μ-loop
+error-height-from-requires c κs = search needs
+
+int-to-float-single-height : tie.Need-int-to-float-single-height Inv-loop μ-loop
+int-to-float-single-height c = search needs
+
+single-height-requires : tie.Need-single-height-requires Inv-loop μ-loop
+single-height-requires c κs = search needs
+
+at-least-two-requires : tie.Need-at-least-two-requires Inv-loop μ-loop
+at-least-two-requires c κs = search needs
+
+returns : tie.Need-returns Inv-loop μ-loop
+returns c =
+    let compared = c .before .before in
+    let turn = at compared .loop in
+    sym
+    (turn .inv .1
+    ∙ crossing-hits _ _ (turn .count) (omega arith) (tested compared _ (c .before .if1 .taken))
+    ∙ ap some (sym (c .at-least-two .ensures)))
+
+add-count : tie.Need-add-count Inv-loop μ-loop
+add-count c = omega arith
+
+loop-less : tie.Need-loop-less Inv-loop μ-loop
+loop-less c = omega arith
+
+loop-again : tie.Need-loop-again Inv-loop μ-loop
+loop-again c =
+    let compared = c .before in
+    let turn = at compared .loop in
+    (survives compared, turn .inv .1 ∙ crossing-goes _ _ (turn .count) (omega arith) (tested compared _ (c .if1 .left)))
+
+returns-2 : tie.Need-returns-2 Inv-loop μ-loop
+returns-2 c =
+    let turn = c .before .loop in
+    sym (turn .inv .1 ∙ crossing-ends _ _ (turn .count) (omega arith))
+
+pub crossing-spec : {M : Type 1} → statement M
+crossing-spec =
+    tie.close
+    (tie.spec
+    Inv-loop
+    μ-loop
+    log-survival-from-two-requires
+    loop-holds
+    int-to-float-ln
+    ln-requires
+    survival-with-requires
+    int-to-float-error-height-from
+    error-height-from-requires
+    int-to-float-single-height
+    single-height-requires
+    at-least-two-requires
+    returns
+    add-count
+    loop-less
+    loop-again
+    returns-2)

@@ -1,0 +1,100 @@
+-- `models::height_cutoffs::last_bad` meets its contract. The survival that the loop carries is that of its count.
+-- Assumes nothing.
+use mathlib.Core.Path.{_≡_, refl, ap, _∙_}
+use Prim.Native.Nat.{ℕ, _+_, _-_, _≤_}
+use native.Mathlib.Omega.{arith}
+use lib.Ieee.{Float}
+use Rattle.meaning.proofs.Loops.{Folded, begins, goes-on, ends}
+use Rattle.routines.specs.Ops.{ofCount}
+use Rattle.models.specs.Errors.{survivalOf}
+use Rattle.models.specs.HeightTerms.{errorHeightOf}
+use Rattle.models.specs.declared.height_terms.HeightTerms.{HeightTerms}
+use Rattle.models.proofs.Survivals.{first-survival, next-survival, error-from-is}
+use Rattle.models.specs.HeightCutoffs.{laterBad, lastBadOf}
+use borrow.Author.Needs.{needs}
+use Rattle.models.proofs.height_cutoffs.last_bad.Statement.{statement}
+use Rattle.models.proofs.height_cutoffs.last_bad.Tie as tie
+
+abbrev step : HeightTerms → Float → ℕ → ℕ → ℕ
+step t reference k = laterBad reference (errorHeightOf t (ofCount k)) k
+
+abbrev Inv-loop : tie.InvT-loop
+Inv-loop t reference top p here₀ last₀ i₀ here last i =
+    (here ≡ survivalOf (t .«error_params») (ofCount (i + 1))) × Folded (step t reference) 0 1 (top + 1) last (i + 1)
+
+abbrev μ-loop : tie.MeasureT-loop
+μ-loop t reference top p here₀ last₀ i₀ here last i = top - i
+
+log-survival-from-two-requires : tie.Need-log-survival-from-two-requires Inv-loop μ-loop
+log-survival-from-two-requires c κs = search needs
+
+loop-holds : tie.Need-loop-holds Inv-loop μ-loop
+loop-holds c = (first-survival _ _ (c .log-survival-from-two .ensures), begins _ _ _ _ _ (omega arith) refl)
+
+add-count : tie.Need-add-count Inv-loop μ-loop
+add-count c = omega arith
+
+int-to-float-ln : tie.Need-int-to-float-ln Inv-loop μ-loop
+int-to-float-ln c = search needs
+
+ln-requires : tie.Need-ln-requires Inv-loop μ-loop
+ln-requires c κs = search needs
+
+survival-with-requires : tie.Need-survival-with-requires Inv-loop μ-loop
+survival-with-requires c κs = search needs
+
+int-to-float-error-height-from : tie.Need-int-to-float-error-height-from Inv-loop μ-loop
+int-to-float-error-height-from c = search needs
+
+error-height-from-requires : tie.Need-error-height-from-requires Inv-loop μ-loop
+error-height-from-requires c κs = search needs
+
+later-bad-requires : tie.Need-later-bad-requires Inv-loop μ-loop
+later-bad-requires c κs = search needs
+
+add-i : tie.Need-add-i Inv-loop μ-loop
+add-i c = omega arith
+
+loop-less : tie.Need-loop-less Inv-loop μ-loop
+loop-less c = omega arith
+
+loop-again : tie.Need-loop-again Inv-loop μ-loop
+loop-again c =
+    let error = c .before in
+    let next = error .before .before in
+    let test = next .before .before .before in
+    let turn = test .before .loop in
+    let start = test .before .before .before .before in
+    let a = start .args in
+    let few : turn .i + 1 ≤ 65535 = omega (arith, test .loop-test .taken, start .fits) in
+    let survives = next-survival (turn .i + 1) few _ _ _ (next .survival-with .ensures) (next .before .ln .ensures) in (
+      survives,
+      goes-on _ _ _ _ (turn .inv .1) _ (omega arith)
+          (c .later-bad .ensures
+          ∙ ap (λ (x : Float). laterBad (a .reference) x (turn .i + 1) (turn .last))
+          (error .error-height-from .ensures ∙ error-from-is (turn .i + 1) few _ _ (a .t) (turn .inv .0) survives)),
+    )
+
+returns : tie.Need-returns Inv-loop μ-loop
+unfolding lastBadOf
+returns c = ends _ _ _ _ (c .before .loop .inv .1) (omega arith)
+
+pub last-bad-spec : {M : Type 1} → statement M
+last-bad-spec =
+    tie.close
+    (tie.spec
+    Inv-loop
+    μ-loop
+    log-survival-from-two-requires
+    loop-holds
+    add-count
+    int-to-float-ln
+    ln-requires
+    survival-with-requires
+    int-to-float-error-height-from
+    error-height-from-requires
+    later-bad-requires
+    add-i
+    loop-less
+    loop-again
+    returns)
