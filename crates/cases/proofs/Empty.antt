@@ -1,5 +1,5 @@
 -- Empty programs of document 01, each at one input: what the contract's definition leaves in the lent memory is not what
--- such a program leaves there. Those of the hole cutoff stand in crates/cutoffs/proofs/Slips.antt. Assumes nothing.
+-- such a program leaves there. Those of the hole cutoff stand in crates/models/proofs/Slips.antt. Assumes nothing.
 use Prim.Native.Nat.{ℕ, _/_}
 use mathlib.Core.Path.{_≡_, refl}
 use mathlib.Core.Bool.{false}

@@ -424,8 +424,7 @@ double fog_component_total_ratio(fog_fit fit);
 /*
  * The hole cutoff: the largest cutoff that removes at most `budget` single-copy k-mers of the library by the fit, and 2 at least. What a
  * cutoff removes is the sum of the single-copy probabilities below it, from count 0 on, so k-mers that no read shows use up the budget
- * too; the budget over genome_kmers is the allowed share. At 2, the least cutoff, the removed part may exceed the budget, and a budget
- * below 0 gives 2.
+ * too; the budget over genome_kmers is the allowed share. At 2, the least cutoff, the removed part may exceed the budget.
  *
  * None is not "keep everything": every cutoff up to the ceiling, the smaller of the rounded mean and the window end, removes at most the
  * budget (a budget that is a NaN too); or no walk starts, where genome_kmers is 0 or less, the mean is not finite or is below 2, or the

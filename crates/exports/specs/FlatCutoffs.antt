@@ -6,7 +6,7 @@ use Rattle.models.specs.Cutoffs.{Sureness, sure, notSure, noWalk}
 use Rattle.exports.specs.declared.flat_cutoffs.FlatCutoff.{FlatCutoff}
 use Rattle.exports.specs.declared.flat_cutoffs.FlatSureCutoff.{FlatSureCutoff}
 
--- a cutoff is 2 at least (`hole-cutoff-range` of crates/cutoffs), so 0 stands for none
+-- a cutoff is 2 at least (`hole-cutoff-range` of crates/models), so 0 stands for none
 abbrev pub orZero : Option ℕ → ℕ
 orZero none = 0
 orZero (some c) = c
