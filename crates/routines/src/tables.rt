@@ -148,19 +148,77 @@ pub fn power_at(i: u64) -> Power
     }
 }
 
-// The error starts, rows of three: tail exponent, singleton probability, shape. Pareto has no shape: its 0 is not read.
-const PARETO: [f64; 6] = [1.5, 0.8, 0.0, 2.5, 0.95, 0.0];
+// An error start. Pareto has no shape: its 0 is not read.
+pub struct Start {
+    pub tail_exponent: f64,
+    pub singleton_probability: f64,
+    pub shape: f64,
+}
 
-const WEIBULL: [f64; 9] = [1.5, 0.8, 0.05, 2.5, 0.9, 0.5, 2.0, 0.95, 1.0];
+const PARETO: [Start; 2] = [
+    Start {
+        tail_exponent: 1.5,
+        singleton_probability: 0.8,
+        shape: 0.0,
+    },
+    Start {
+        tail_exponent: 2.5,
+        singleton_probability: 0.95,
+        shape: 0.0,
+    },
+];
 
+const WEIBULL: [Start; 3] = [
+    Start {
+        tail_exponent: 1.5,
+        singleton_probability: 0.8,
+        shape: 0.05,
+    },
+    Start {
+        tail_exponent: 2.5,
+        singleton_probability: 0.9,
+        shape: 0.5,
+    },
+    Start {
+        tail_exponent: 2.0,
+        singleton_probability: 0.95,
+        shape: 1.0,
+    },
+];
+
+// Row behind row, as a lent table has them.
 pub fn pareto_starts() -> [f64; 6]
     ensures { λ r. ⌜ r ≡ paretoStarts ⌝ }
 {
-    PARETO
+    let rows = PARETO;
+    let a = rows[0];
+    let b = rows[1];
+    [
+        a.tail_exponent,
+        a.singleton_probability,
+        a.shape,
+        b.tail_exponent,
+        b.singleton_probability,
+        b.shape,
+    ]
 }
 
 pub fn weibull_starts() -> [f64; 9]
     ensures { λ r. ⌜ r ≡ weibullStarts ⌝ }
 {
-    WEIBULL
+    let rows = WEIBULL;
+    let a = rows[0];
+    let b = rows[1];
+    let c = rows[2];
+    [
+        a.tail_exponent,
+        a.singleton_probability,
+        a.shape,
+        b.tail_exponent,
+        b.singleton_probability,
+        b.shape,
+        c.tail_exponent,
+        c.singleton_probability,
+        c.shape,
+    ]
 }

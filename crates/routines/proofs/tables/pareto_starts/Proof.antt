@@ -1,5 +1,6 @@
 -- `routines::tables::pareto_starts` meets its contract. Assumes nothing.
 use mathlib.Core.Path.{refl}
+use borrow.Author.Needs.{needs}
 use lib.Ieee.{ofBits, round}
 use Rattle.routines.specs.Starts.{paretoStarts}
 use Rattle.routines.proofs.tables.pareto_starts.Statement.{statement}
@@ -10,4 +11,4 @@ unfolding paretoStarts ofBits round
 returns c = refl
 
 pub pareto-starts-spec : {M : Type 1} → statement M
-pareto-starts-spec = tie.close (tie.spec returns)
+pareto-starts-spec = tie.close (tie.spec (λ c. search needs) (λ c. search needs) returns)
