@@ -25,7 +25,7 @@ pub enum RunPoint {
 }
 
 // Every answer is made here.
-pub fn run_point(run: Run) -> RunPoint
+pub(crate) fn run_point(run: Run) -> RunPoint
     ensures { λ r. ⌜ r ≡ pointOf run ⌝ }
 {
     if run.converged {

@@ -26,7 +26,7 @@ pub enum Verdict {
 }
 
 // What a mass limit may not be: not finite, or below 1.
-pub fn bad_limit(mass_limit: f64) -> bool
+pub(crate) fn bad_limit(mass_limit: f64) -> bool
     ensures { λ r. ⌜ r ≡ badLimit «mass_limit» ⌝ }
 {
     !is_finite(mass_limit) || mass_limit < 1.0
@@ -61,7 +61,7 @@ fn validate_refusal(window_end: usize, valley: usize, peak: usize, mass_limit: f
 }
 
 // The ten rules in turn. It never refuses.
-pub fn judge(fit: SpectrumFit, valley: usize, peak: usize, mass_limit: f64) -> Verdict
+pub(crate) fn judge(fit: SpectrumFit, valley: usize, peak: usize, mass_limit: f64) -> Verdict
     ensures { λ r. ⌜ verdictSays r ≡ give (verdictOf fit valley peak «mass_limit») ⌝ }
 {
     if non_finite_likelihood(fit) {
