@@ -96,7 +96,7 @@ module _ (bins : List ℕ) (setup : Setup) (n : ℕ) (wrong bad : Bool) (room : 
       test-passed bad 9 (omega arith) (parts (badRuns bad) (inOrder from-limit) refl b .0)
 
 -- ---- where no run has a property, none has it
-any-none : (p : ℕ → Bool) (n : ℕ) → anyOf p n ≡ false → (i : ℕ) → i < n → p i ≡ false
+pub any-none : (p : ℕ → Bool) (n : ℕ) → anyOf p n ≡ false → (i : ℕ) → i < n → p i ≡ false
 unfolding anyOf
 any-none p n h i l = go (p i) refl
   where
@@ -193,7 +193,7 @@ module _ (bins : List ℕ) (setup : Setup) (lists : List Float) (room : ℕ) (at
         ap attemptAnswerOf
         (chain-passed (give (candidateOf bins setup lists room at n kept)) all (setup-numbered bins setup n _ _ room) z)
 
-    good : (i : ℕ) → i < n → at i .converged ≡ true → badCost (at i .cost) ≡ false
+    pub good : (i : ℕ) → i < n → at i .converged ≡ true → badCost (at i .cost) ≡ false
     good i l e =
         good-cost (at i) (any-none (λ (k : ℕ). badRun (at k)) n (none-bad bins setup n _ _ room z) i l) e
 

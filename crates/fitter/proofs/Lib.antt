@@ -30,6 +30,9 @@ pub mod Answered
 pub mod Turned
 pub mod Columned
 pub mod KeptRuns
+pub mod RunFits
+pub mod KeptFit
+pub mod AnyTable
 pub mod LentOn
 pub mod SaidFacts
 pub mod FirstField

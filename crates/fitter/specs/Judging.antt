@@ -12,6 +12,7 @@ use Rattle.fitter.specs.Attempts.{unrejected}
 use Rattle.fitter.specs.Validation.{Judgement, valid, rejected, verdictOf, reasonAt}
 use Rattle.fitter.specs.declared.attempts.RejectionPart.{RejectionPart}
 use Rattle.fitter.specs.declared.attempts.RejectionPart.the-variants.{Absent, Present}
+use Rattle.fitter.specs.declared.rejections.FitRejection.the-variants as reason
 use Rattle.fitter.specs.declared.validation.Verdict.{Verdict}
 use Rattle.fitter.specs.declared.validation.Verdict.the-variants.{Valid, Rejected, Refused}
 use Rattle.fitter.specs.Runs.{listAt}
@@ -26,10 +27,11 @@ abbrev pub rejectionOf : Judgement → RejectionPart
 rejectionOf valid = Absent
 rejectionOf (rejected n) = Present (reasonAt n)
 
+-- no fit of a run is refused (`said-is`, proofs/Judgements.antt); one that were would not be valid
 abbrev pub rejectionSaid : Verdict → RejectionPart
 rejectionSaid Valid = Absent
 rejectionSaid (Rejected why) = Present why
-rejectionSaid (Refused n) = Absent
+rejectionSaid (Refused n) = Present reason.OptimisationFailed
 
 -- from where on the shelf's table stands as found
 abbrev pub tableFrom : Frame → ℕ

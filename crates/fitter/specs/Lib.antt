@@ -15,3 +15,4 @@ pub mod Attempting
 pub mod Settling
 pub mod Turns
 pub mod Kept
+pub mod Candidates

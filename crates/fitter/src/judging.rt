@@ -6,6 +6,7 @@ ghost use lib.ListN.{length, drop};
 ghost use Rattle.fitter.specs.Attempts.{unrejected};
 ghost use Rattle.fitter.specs.Judging.{rejectionSaid, tableFrom, judgedOf, couldWin, retryStep};
 use crate::attempts::RejectionPart;
+use crate::rejections::FitRejection;
 use crate::runs::Run;
 use crate::runs::RunPoint;
 use crate::runs::list_at;
@@ -41,14 +42,14 @@ pub struct Held {
     pub judged: Judged,
 }
 
-// The validator's verdict on a fit of a run; it refuses none.
+// The validator's verdict on a fit of a run; it refuses none, and a fit that it refused would not be used.
 fn rejection_of(verdict: Verdict) -> RejectionPart
     ensures { λ r. ⌜ r ≡ rejectionSaid verdict ⌝ }
 {
     match verdict {
         Verdict::Valid => RejectionPart::Absent,
         Verdict::Rejected(reason) => RejectionPart::Present(reason),
-        Verdict::Refused(_) => RejectionPart::Absent,
+        Verdict::Refused(_) => RejectionPart::Present(FitRejection::OptimisationFailed),
     }
 }
 

@@ -19,7 +19,7 @@ returns-2 : tie.Need-returns-2
 returns-2 c = rw (c .before .verdict .given .1)
 
 returns-3 : tie.Need-returns-3
-returns-3 c = search needs
+returns-3 c = rw (c .enum-told2 .given .1)
 
 pub rejection-of-spec : {M : Type 1} → statement M
 rejection-of-spec =
