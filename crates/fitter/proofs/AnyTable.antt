@@ -2,9 +2,8 @@
 -- answer; and a table that is long enough is not refused with 10. Of every run table. Assumes nothing.
 use Prim.Native.Nat.{ℕ}
 use mathlib.Core.Path.{_≡_, refl, sym, ap, _∙_}
-use mathlib.Core.Bool.{Bool, true, false, not, cond, _&&_, true≢false, false≢true}
+use mathlib.Core.Bool.{Bool, true, false, not, cond, _&&_, false≢true}
 use mathlib.Core.List.{List, [], _∷_, _++_}
-use native.Mathlib.Omega.{arith}
 use borrow.Author.Tests.{le-ltb, eqb-false}
 use lib.Dec.{ltb, eqb}
 use lib.ListN.{length}
@@ -30,7 +29,8 @@ use Rattle.fitter.specs.declared.rejections.FitRejection.the-variants as
 use Rattle.fitter.specs.declared.runs.Run.{Run}
 use Rattle.fitter.specs.declared.settling.Setup.{Setup}
 use Rattle.fitter.specs.declared.surveys.Best.{Best}
-use Rattle.fitter.proofs.RunFits.{clear, fit-whole}
+use Rattle.fitter.proofs.Cleared.{clear}
+use Rattle.fitter.proofs.RunFits.{fit-whole}
 
 -- ---- chains whose last test is that of 10
 abbrev ten : Bool → List Test
@@ -109,8 +109,8 @@ module _ (bins : List ℕ) (setup : Setup) (lists : List Float) (at : ℕ → Ru
       (w : 0 ≡ firstOf (attemptTests bins setup lists other at n)) where
     same-fit : (run : Run) → fitOfRun bins frame lists room run ≡ fitOfRun bins frame lists other run
     same-fit run =
-        fit-whole bins setup n _ room (clear bins setup n _ _ room z) lists run
-        ∙ sym (fit-whole bins setup n _ other (clear bins setup n _ _ other w) lists run)
+        fit-whole bins setup n _ _ room (clear bins setup n _ _ room z) lists run
+        ∙ sym (fit-whole bins setup n _ _ other (clear bins setup n _ _ other w) lists run)
 
     same-judged : judgedOf bins frame lists room ≡ judgedOf bins frame lists other
     unfolding judgedOf

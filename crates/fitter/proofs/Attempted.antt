@@ -12,9 +12,8 @@ use lib.Ieee.{Float}
 use Rattle.meaning.specs.Fold.{fold}
 use Rattle.meaning.specs.Reply.{give, Test, firstOf}
 use Rattle.meaning.specs.Rows.{most, inOrder, few, many}
-use Rattle.meaning.proofs.Chains.{numbered, parts, goes-on, chain-refused, chain-passed}
+use Rattle.meaning.proofs.Chains.{numbered, goes-on, chain-refused, chain-passed}
 use Rattle.meaning.proofs.Folds.{fold-more, fold-split, fold-keeps}
-use Rattle.meaning.proofs.Rows.{many-passed, test-passed}
 use Rattle.models.specs.Refusals.{spectrumTests, shortTable}
 use Rattle.fitter.specs.Attempts.{unrejected}
 use Rattle.fitter.specs.Validation.{outsideLimit}
@@ -34,6 +33,7 @@ use Rattle.fitter.specs.declared.settling.Settled.{Settled}
 use Rattle.fitter.specs.declared.settling.Setup.{Setup}
 use Rattle.fitter.specs.declared.surveys.Best.{Best}
 use Rattle.fitter.specs.declared.surveys.Survey.{Survey}
+use Rattle.fitter.proofs.Cleared.{clear}
 use Rattle.fitter.proofs.Totals.{within}
 use Rattle.fitter.proofs.Surveyed.{survey-wrong, survey-bad, survey-iterations, survey-capped, survey-least}
 use Rattle.fitter.proofs.Surveyed.{capped-few}
@@ -68,16 +68,11 @@ module _ (bins : List ℕ) (setup : Setup) (n : ℕ) (wrong bad : Bool) (room : 
   unfolding spectrumTests
   spectrum-numbered = refl
 
-  past-low : 0 ≡ firstOf tests → 0 ≡ firstOf (inOrder (many highs ∷ spectrum ∷ from-wrong))
-  unfolding setupTests
-  past-low z =
-      parts (few lows) (inOrder (many highs ∷ spectrum ∷ from-wrong)) refl z .1
-
   -- peak, window end and the number of runs are in their limits
   pub in-limits : 0 ≡ firstOf tests → (setup .peak ≤ most) × (setup .«window_end» ≤ most) × (n ≤ most)
   in-limits z =
-      let e = many-passed highs (parts (many highs) (inOrder (spectrum ∷ from-wrong)) refl (past-low z) .0) in
-      (e .1 .0, e .1 .1 .1 .0, e .1 .1 .1 .1 .0)
+      let l = clear bins setup n wrong bad room z .limits in
+      (l .1 .0, l .1 .1 .1 .0, l .1 .1 .1 .1 .0)
 
   -- 7 of any run comes before 9 of any other, and before the limit's
   pub seven-first : 0 ≡ firstOf (few lows) → 0 ≡ firstOf (many highs) → 0 ≡ firstOf spectrum → wrong ≡ true
@@ -87,13 +82,6 @@ module _ (bins : List ℕ) (setup : Setup) (n : ℕ) (wrong bad : Bool) (room : 
       goes-on (few lows) (inOrder (many highs ∷ spectrum ∷ from-wrong)) refl l 7
       (goes-on (many highs) (inOrder (spectrum ∷ from-wrong)) refl h 7
       (goes-on spectrum (inOrder from-wrong) spectrum-numbered s 7 (rw w)))
-
-  pub none-bad : 0 ≡ firstOf tests → bad ≡ false
-  none-bad z =
-      let s = parts (many highs) (inOrder (spectrum ∷ from-wrong)) refl (past-low z) .1 in
-      let w = parts spectrum (inOrder from-wrong) spectrum-numbered s .1 in
-      let b = parts (wrongRuns wrong) (inOrder (badRuns bad ∷ from-limit)) refl w .1 in
-      test-passed bad 9 (omega arith) (parts (badRuns bad) (inOrder from-limit) refl b .0)
 
 -- ---- where no run has a property, none has it
 pub any-none : (p : ℕ → Bool) (n : ℕ) → anyOf p n ≡ false → (i : ℕ) → i < n → p i ≡ false
@@ -195,7 +183,7 @@ module _ (bins : List ℕ) (setup : Setup) (lists : List Float) (room : ℕ) (at
 
     pub good : (i : ℕ) → i < n → at i .converged ≡ true → badCost (at i .cost) ≡ false
     good i l e =
-        good-cost (at i) (any-none (λ (k : ℕ). badRun (at k)) n (none-bad bins setup n _ _ room z) i l) e
+        good-cost (at i) (any-none (λ (k : ℕ). badRun (at k)) n (clear bins setup n _ _ room z .good) i l) e
 
     runs-few : n ≤ most
     runs-few = in-limits bins setup n _ _ room z .2

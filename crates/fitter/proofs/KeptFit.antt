@@ -17,7 +17,7 @@ use Rattle.fitter.specs.Attempts.{attemptOf}
 use Rattle.fitter.specs.Candidates.{RunFit, FromRun}
 use Rattle.fitter.specs.Judging.{judgedOf, validRun, keptOf}
 use Rattle.fitter.specs.Kept.{KeptRun, is-valid, is-rejected, is-missing}
-use Rattle.fitter.specs.Runs.{wrongRun, anyOf, iterationsOf, cappedOf}
+use Rattle.fitter.specs.Runs.{wrongRun, badRun, anyOf, iterationsOf, cappedOf}
 use Rattle.fitter.specs.declared.attempts.FitAttempt.{FitAttempt}
 use Rattle.fitter.specs.declared.attempts.RejectionPart.the-variants.{Present}
 use Rattle.fitter.specs.declared.judging.Frame.{Frame}
@@ -27,9 +27,10 @@ use Rattle.fitter.specs.declared.runs.Run.{Run}
 use Rattle.fitter.specs.declared.settling.Setup.{Setup}
 use Rattle.fitter.specs.declared.surveys.Best.{Best}
 use Rattle.fitter.proofs.Attempted.{any-none, good}
+use Rattle.fitter.proofs.Cleared.{Clear, clear}
 use Rattle.fitter.proofs.Keeping.{valid-converged}
 use Rattle.fitter.proofs.KeptRuns.{kept-run}
-use Rattle.fitter.proofs.RunFits.{Clear, clear, run-fit}
+use Rattle.fitter.proofs.RunFits.{run-fit}
 
 -- of two attempts, the one that has a candidate and the one that has none
 which : (c b : Bool) (x y : FitAttempt) → x .«has_candidate» ≡ true → y .«has_candidate» ≡ false
@@ -62,7 +63,8 @@ module _ (bins : List ℕ) (setup : Setup) (lists : List Float) (room : ℕ) (at
   unfolding attemptFrom
   none-holds = gave-passed (candidateOf bins setup lists room at n kept) attempt tests gave
 
-  all-clear : Clear bins setup n (anyOf (λ (i : ℕ). wrongRun (length lists) wanted (at i)) n) room
+  all-clear : Clear bins setup n (anyOf (λ (i : ℕ). wrongRun (length lists) wanted (at i)) n)
+      (anyOf (λ (i : ℕ). badRun (at i)) n) room
   all-clear = clear bins setup n _ _ room none-holds
 
   right : (i : ℕ) → i < n → wrongRun (length lists) wanted (at i) ≡ false
@@ -75,7 +77,7 @@ module _ (bins : List ℕ) (setup : Setup) (lists : List Float) (room : ℕ) (at
   -- what each converged run is judged by
   pub each-judged : (i : ℕ) → i < n → at i .converged ≡ true
       → RunFit bins setup lists (at i) (judged (at i) .fit) (judged (at i) .rejection)
-  each-judged i l c = run-fit bins setup n _ room all-clear lists (at i) c (right i l)
+  each-judged i l c = run-fit bins setup n _ _ room all-clear lists (at i) c (right i l)
 
   abbrev with-run : FitAttempt
   with-run =
@@ -107,7 +109,7 @@ module _ (bins : List ℕ) (setup : Setup) (lists : List Float) (room : ℕ) (at
         fits =
             subst (λ (a : FitAttempt). RunFit bins setup lists (kept .run) (a .candidate) (a .rejection))
             (by-converged true c)
-            (run-fit bins setup n _ room all-clear lists (kept .run) c
+            (run-fit bins setup n _ _ room all-clear lists (kept .run) c
             (subst (λ (r : Run). wrongRun (length lists) wanted r ≡ false) (sym there) (right (kept .position) below)));
       }
     where

@@ -25,6 +25,7 @@ pub mod Keeping
 pub mod Standing
 pub mod Judgements
 pub mod Settlement
+pub mod Cleared
 pub mod Attempted
 pub mod Answered
 pub mod Turned

@@ -1,18 +1,18 @@
 -- Where no test of an attempt holds, each converged run of the table is unpacked as `unpack` does, whatever table is
 -- lent, if it is long enough, and judged as `validate_fit` does. Assumes nothing.
-use Prim.Native.Nat.{ℕ, _+_, _≤_, _<_}
+use Prim.Native.Nat.{ℕ, _+_, _≤_}
 use mathlib.Core.Path.{_≡_, refl, sym, ap, _∙_, subst}
-use mathlib.Core.Bool.{Bool, true, false, not, cond, _&&_, _||_, true≢false}
+use mathlib.Core.Bool.{Bool, true, false, not, _&&_, _||_, true≢false}
 use mathlib.Core.List.{List, [], _∷_}
 use native.Mathlib.Omega.{arith}
 use borrow.Author.Tests.{ltb-false, eqb-true, eq-eqb, ne-eqb, le-ltb, not-false}
 use lib.Dec.{ltb, eqb}
-use lib.ListN.{length, take, drop, length-take, length-drop}
+use lib.ListN.{length, length-take, length-drop}
 use lib.Ieee.{Float}
-use Rattle.meaning.specs.Reply.{Reply, give, Test, chain, firstOf}
+use Rattle.meaning.specs.Reply.{give, firstOf}
 use Rattle.meaning.specs.Rows.{most, inOrder, few, many, noWindow}
-use Rattle.meaning.proofs.Chains.{parts, goes-on, chain-passed}
-use Rattle.meaning.proofs.Rows.{Each, test-passed, many-passed, many-clear, short-passed}
+use Rattle.meaning.proofs.Chains.{goes-on, chain-passed}
+use Rattle.meaning.proofs.Rows.{many-clear}
 use Rattle.routines.specs.Ops.{ofCount}
 use Rattle.models.specs.Families.{listLengthOf}
 use Rattle.models.specs.Masses.{entriesOf}
@@ -24,58 +24,14 @@ use Rattle.models.specs.declared.fit.SpectrumFit.{SpectrumFit}
 use Rattle.models.specs.declared.params.Params.{Params}
 use Rattle.models.proofs.Filled.{entries-fit}
 use Rattle.models.proofs.Passed.{spectrum-passed}
-use Rattle.fitter.specs.Attempting.{wrongRuns, badRuns, setupTests, frameOf}
+use Rattle.fitter.specs.Attempting.{frameOf}
 use Rattle.fitter.specs.Candidates.{LongEnough, listOf, unpackRun, RunFit}
-use Rattle.fitter.specs.Judging.{rejectionOf, fitOfRun, judgedOf}
+use Rattle.fitter.specs.Judging.{fitOfRun, judgedOf}
 use Rattle.fitter.specs.Runs.{wrongPlace, wrongRun, listAt}
 use Rattle.fitter.specs.Validation.{outsideLimit, validateTests, validateOf, verdictOf}
-use Rattle.fitter.specs.declared.judging.Judged.{Judged}
 use Rattle.fitter.specs.declared.runs.Run.{Run}
 use Rattle.fitter.specs.declared.settling.Setup.{Setup}
-
--- ---- what no test leaves to doubt
-pub record Clear (bins : List ℕ) (setup : Setup) (n : ℕ) (wrong : Bool) (room : ℕ) : Type 0 where
-  pub peak-some : 0 ≡ firstOf (few (setup .peak ∷ []))
-  pub valley-some : 0 ≡ firstOf (few (setup .valley ∷ []))
-  pub bins-some : 0 ≡ firstOf (few (length bins ∷ []))
-  pub limits : Each (λ (k : ℕ). k ≤ most)
-      (length bins ∷ setup .peak ∷ setup .valley ∷ setup .«window_end» ∷ n ∷ [])
-  pub spectrum : 0 ≡ firstOf (spectrumTests bins (setup .scale) (setup .«window_end»))
-  pub right : wrong ≡ false
-  pub limited : 0 ≡ firstOf (outsideLimit (setup .«mass_limit»))
-  pub roomed : LongEnough setup room
-
-pub clear : (bins : List ℕ) (setup : Setup) (n : ℕ) (wrong bad : Bool) (room : ℕ)
-    → 0 ≡ firstOf (setupTests bins setup n wrong bad room) → Clear bins setup n wrong room
-unfolding setupTests
-clear bins setup n wrong bad room z =
-    let table = shortTable (setup .genome) (setup .«window_end») room ∷ [] in
-    let limit = outsideLimit (setup .«mass_limit») ∷ table in
-    let costs = badRuns bad ∷ limit in
-    let lists = wrongRuns wrong ∷ costs in
-    let spectra = spectrumTests bins (setup .scale) (setup .«window_end») ∷ lists in
-    let highs = length bins ∷ setup .peak ∷ setup .valley ∷ setup .«window_end» ∷ n ∷ [] in
-    let above = many highs ∷ spectra in
-    let peaks = parts (few (setup .peak ∷ [])) (inOrder (few (setup .valley ∷ length bins ∷ []) ∷ above)) refl z in
-    let valleys = parts (few (setup .valley ∷ [])) (inOrder (few (length bins ∷ []) ∷ above)) refl (peaks .1) in
-    let all = parts (few (length bins ∷ [])) (inOrder above) refl (valleys .1) in
-    let manys = parts (many highs) (inOrder spectra) refl (all .1) in
-    let window =
-    parts (spectrumTests bins (setup .scale) (setup .«window_end»)) (inOrder lists) (unfold spectrumTests in refl)
-    (manys .1) in
-    let sevens = parts (wrongRuns wrong) (inOrder costs) refl (window .1) in
-    let nines = parts (badRuns bad) (inOrder limit) refl (sevens .1) in
-    let limits = parts (outsideLimit (setup .«mass_limit»)) (inOrder table) refl (nines .1) in
-    record {
-      peak-some = peaks .0;
-      valley-some = valleys .0;
-      bins-some = all .0;
-      limits = many-passed highs (manys .0);
-      spectrum = window .0;
-      right = test-passed wrong 7 (omega arith) (sevens .0);
-      limited = limits .0;
-      roomed = short-passed room (tableDemand (setup .genome) (setup .«window_end»)) (limits .1);
-    }
+use Rattle.fitter.proofs.Cleared.{Clear}
 
 -- ---- a run whose list is not wrong
 or-none : (a b : Bool) → (a || b) ≡ false → (a ≡ false) × (b ≡ false)
@@ -118,7 +74,7 @@ module _ (bins : List ℕ) (setup : Setup) where
       fitAt bins (windowOf bins (setup .scale) end) (setup .error) (setup .genome) (p list)
       (entriesOf (p list .shelf) (p list .mean) end) cost iterations
 
-  module _ (n : ℕ) (wrong : Bool) (room : ℕ) (all : Clear bins setup n wrong room) where
+  module _ (n : ℕ) (wrong bad : Bool) (room : ℕ) (all : Clear bins setup n wrong bad room) where
     end-some : 1 ≤ end
     end-some = spectrum-passed bins (setup .scale) end (all .spectrum) .end-some
 
