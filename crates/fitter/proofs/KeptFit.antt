@@ -3,16 +3,16 @@
 -- and where there is no candidate no run converged. Of every run table, out of the answer alone. Assumes nothing.
 use Prim.Native.Nat.{ℕ, _<_}
 use mathlib.Core.Path.{_≡_, refl, sym, ap, _∙_, subst}
-use mathlib.Core.Bool.{Bool, true, false, cond, true≢false}
+use mathlib.Core.Bool.{Bool, true, false, cond, true≢false, false≢true}
 use mathlib.Core.List.{List}
 use lib.ListN.{length}
 use lib.Ieee.{Float}
-use Rattle.meaning.specs.Reply.{give, Test, firstOf}
+use Rattle.meaning.specs.Reply.{Reply, refuse, broken, give, Test, firstOf}
 use Rattle.meaning.proofs.Chains.{gave-passed}
 use Rattle.meaning.proofs.Replies.{gave-answer}
 use Rattle.models.specs.Families.{listLengthOf}
 use Rattle.models.specs.Unpacking.{emptyFit}
-use Rattle.fitter.specs.Attempting.{frameOf, attemptTests, candidateOf, attemptFrom}
+use Rattle.fitter.specs.Attempting.{frameOf, attemptTests, candidateOf, attemptFrom, attemptAnswerOf}
 use Rattle.fitter.specs.Attempts.{attemptOf}
 use Rattle.fitter.specs.Candidates.{RunFit, FromRun}
 use Rattle.fitter.specs.Judging.{judgedOf, validRun, keptOf}
@@ -131,3 +131,19 @@ module _ (bins : List ℕ) (setup : Setup) (lists : List Float) (room : ℕ) (at
       none c (is-valid f) = absurd (true≢false (sym (valid-converged bins frame lists room (kept .run) (f .holds)) ∙ c))
       none c (is-rejected other f) = absurd (true≢false (sym (f .holds) ∙ c))
       none c (is-missing other e) = other
+
+-- ---- of the call's answer: a candidate there is one that was given
+module _ (bins : List ℕ) (setup : Setup) (lists : List Float) (room : ℕ) (at : ℕ → Run) (n : ℕ) where
+  abbrev answer : FitAttempt
+  answer = attemptAnswerOf (attemptFrom bins setup lists room at n) .attempt
+
+  pub answer-fit : answer .«has_candidate» ≡ true
+      → FromRun bins setup lists at n (keptOf bins (frameOf bins setup) lists room at n) answer
+  answer-fit = go (attemptFrom bins setup lists room at n) refl
+    where
+      go : (r : Reply FitAttempt) → attemptFrom bins setup lists room at n ≡ r
+          → attemptAnswerOf r .attempt .«has_candidate» ≡ true
+          → FromRun bins setup lists at n (keptOf bins (frameOf bins setup) lists room at n) (attemptAnswerOf r .attempt)
+      go (refuse k) e h = absurd (false≢true h)
+      go (broken k) e h = absurd (false≢true h)
+      go (give a) e h = kept-fit bins setup lists room at n a e h
