@@ -1,6 +1,5 @@
 -- On which side of e ^ x a number of units lies that is an ulp away from exp's value: a whole ulp is more than the
--- claim
--- allows. Assumes nothing.
+-- claim allows. Assumes nothing.
 use mathlib.Core.Path.{_≡_}
 use mathlib.Core.Bool.{Bool, not}
 use Prim.Native.Nat.{ℕ, _+_, _-_, _*_, _^_, _≤_, _<_}

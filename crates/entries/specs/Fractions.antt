@@ -53,8 +53,7 @@ abbrev pub isNumber : ℕ → Bool
 isNumber bits = isFinite bits && not (eqb bits (2 ^ 63))
 
 -- The patterns of the next value up and the next value down. Below zero, where the sign's bit adds 2 ^ 63, a larger
--- pattern
--- is a lower value; just below 0 stands 2 ^ 63 + 1. No value lies between: `none-above`, `none-below` of
+-- pattern is a lower value; just below 0 stands 2 ^ 63 + 1. No value lies between: `none-above`, `none-below` of
 -- Neighbours.antt
 abbrev pub nextUp : ℕ → ℕ
 nextUp bits = cond (ltb bits (2 ^ 63)) (suc bits) (bits - 1)

@@ -164,8 +164,7 @@ fn hand_over(file: &[u8], first: usize, n: usize, held: &mut [u32], bins: &mut [
 // The bins of a file into the first of the lent ones; 3 with its place where the file breaks the layout, then 10 where
 // the bins are too few.
 // A refusal writes nothing, and the bins past the last one read stand as found. A spectrum's few bins are held in a
-// small array: a large one
-// takes longer to clear than they take to read.
+// small array: a large one takes longer to clear than they take to read.
 pub fn read_histogram(file: &[u8], bins: &mut [u32]) -> FileRead
     ensures { λ r. ⌜ fileSays r ≡ counted (readHistogramOf (now (file .entry)) (length (now (bins .entry)))) ⌝ }
     ensures { λ _. ⌜ now (bins .exit) ≡ laid (readHistogramOf (now (file .entry)) (length (now (bins .entry)))) (now (bins .entry)) ⌝ }

@@ -1,6 +1,5 @@
 -- A lent table has no part in the answer of `cost` and of `unpack`, whatever it holds and however long it is: two
--- tables,
--- neither of them refused with 10, get the same answer and the same entries written in front. Assumes nothing.
+-- tables, neither of them refused with 10, get the same answer and the same entries written in front. Assumes nothing.
 use Prim.Native.Nat.{ℕ, _≤_, zero-le}
 use mathlib.Core.Path.{_≡_, refl, sym, ap, _∙_, subst}
 use mathlib.Core.Bool.{Bool, true, false, cond}

@@ -1,6 +1,5 @@
 -- Where count 2 has a log probability, every count's is an `f64`, whatever Float the probability of count 1 is: above
--- the
--- largest `f64`, taken from 1, it would be below 0, and the logarithm of that is NaN. Assumes nothing.
+-- the largest `f64`, taken from 1, it would be below 0, and the logarithm of that is NaN. Assumes nothing.
 use Prim.Native.Nat.{ℕ, _+_, _-_, _*_, _≤_, _<_}
 use mathlib.Core.Path.{_≡_, refl, sym, ap, _∙_, subst}
 use mathlib.Core.Bool.{Bool, true, false, cond, true≢false, false≢true}

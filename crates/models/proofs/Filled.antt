@@ -1,6 +1,5 @@
 -- What a shelf's table is once it is written into a lent slice: the entries that the slice holds, the rest as found;
--- and
--- where the refusals were gone through, these are all of the shelf's entries. Assumes nothing.
+-- and where the refusals were gone through, these are all of the shelf's entries. Assumes nothing.
 use Prim.Native.Nat.{ℕ, suc, _+_, _-_, _≤_, _<_}
 use mathlib.Core.Path.{_≡_, refl, sym, ap, _∙_}
 use mathlib.Core.Bool.{Bool, true, false}

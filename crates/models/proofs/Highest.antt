@@ -1,6 +1,5 @@
 -- WHAT `error_mode` ANSWERS: 8 exactly where a log probability among the counts 1 to the window end is NaN; otherwise
--- the
--- count whose log probability ranks highest, and of equals the last. There is one such count. Assumes nothing.
+-- the count whose log probability ranks highest, and of equals the last. There is one such count. Assumes nothing.
 use Prim.Native.Nat.{ℕ, suc, _+_, _*_, _≤_, _<_}
 use mathlib.Core.Path.{_≡_, refl, sym, ap, _∙_, subst}
 use mathlib.Core.Bool.{Bool, true, false, not, _&&_, _||_, Bool·beq, cond, or-true, true≢false, false≢true}

@@ -17,8 +17,7 @@ pub enum ShapePart {
 }
 
 // Count 1 has the probability `singleton_probability`; from 2 on the tail has survival exp(-l ((x-1)^b - 1)/b), with l
-// the
-// tail exponent and b the shape, and (x-1)^-l without a shape.
+// the tail exponent and b the shape, and (x-1)^-l without a shape.
 pub struct ErrorParams {
     pub singleton_probability: f64,
     pub tail_exponent: f64,

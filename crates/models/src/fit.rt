@@ -43,9 +43,8 @@ pub struct SpectrumFit {
     pub fit_window_end: usize,
     // The search's, from the start that converged.
     pub best_iterations: u64,
-    // Each component's log mass on the counts 1 to the window end: its density is divided by it, so that the mixture
-    // is a
-    // distribution over the counts that were fitted.
+    // Each component's log mass on the counts 1 to the window end: its density is divided by it, so that the mixture is
+    // a distribution over the counts that were fitted.
     pub component_log_window_masses: [f64; 3],
     // Each component's log total of distinct k-mers over every count, in the library.
     pub component_log_totals: [f64; 3],

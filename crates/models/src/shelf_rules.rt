@@ -8,9 +8,8 @@ use routines::pick::is_finite;
 // The shelf's largest share of the single-copy k-mers: with more it could swallow the lobe.
 pub const SHELF_MAX_SHARE: f64 = 0.5;
 
-// The least fraction of coverage that its k-mers keep on average: with less it came to lie on the error tail, at
-// counts 0
-// and 1.
+// The least fraction of coverage that its k-mers keep on average: with less it came to lie on the error tail, at counts
+// 0 and 1.
 pub const SHELF_MIN_RETAINED: f64 = 0.3;
 
 // The largest a + b: with more the shelf is a spike.
@@ -39,8 +38,7 @@ pub struct Bounds {
 }
 
 // The bounds on a + b for a retained fraction. The lower one is a >= 1: with less the density has no bound at count 0,
-// and
-// the mass at counts 1 and 2 pulled the cutoff down.
+// and the mass at counts 1 and 2 pulled the cutoff down.
 pub fn shelf_concentration_bounds(retained: f64) -> Bounds
     ensures { λ r. ⌜ r ≡ boundsOf retained ⌝ }
 {

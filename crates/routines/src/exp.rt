@@ -60,8 +60,7 @@ fn scaled_up(x: f64, t: f64) -> f64
 }
 
 // Step 8: v on the side of 1 where e^x lies, and never below 0. It changes no value (`step-8-changes-nothing`); it
-// makes the
-// rule hold by its form.
+// makes the rule hold by its form.
 fn beside_one(x: f64, v: f64) -> f64
     ensures { λ r. ⌜ r ≡ besideOne x v ⌝ }
 {

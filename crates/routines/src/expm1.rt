@@ -1,6 +1,5 @@
-// expm1, in the steps of docs/ROUTINES.md and under its names: exp's table and polynomial, with 1 taken off before
-// what is
-// small is added.
+// expm1, in the steps of docs/ROUTINES.md and under its names: exp's table and polynomial, with 1 taken off before what
+// is small is added.
 ghost use mathlib.Core.Path.{_≡_};
 ghost use mathlib.Core.Bool.{not};
 ghost use lib.Dec.{T};
@@ -22,9 +21,8 @@ const LEAST: f64 = 6755399441086720.0;
 
 const MOST: f64 = 6755399441090240.0;
 
-// Steps 4 to 9: e^x - 1 from t. `big` and `small` are the power of two and its correction; less + g is big - 1, and s
-// + e is
-// less + y, both exactly. The row has T[i] and D[i], and 0x10_0000_0000_0000 is 2^52.
+// Steps 4 to 9: e^x - 1 from t. `big` and `small` are the power of two and its correction; less + g is big - 1, and s +
+// e is less + y, both exactly. The row has T[i] and D[i], and 0x10_0000_0000_0000 is 2^52.
 fn less_one(x: f64, t: f64) -> f64
     requires { ⌜ T (not (isNan t)) ⌝ }
     ensures { λ r. ⌜ r ≡ lessOne x t ⌝ }
@@ -48,8 +46,7 @@ fn less_one(x: f64, t: f64) -> f64
 }
 
 // Step 10: below 0, v held to -1 .. 0; above 0, to 0 and above. No value was ever met that needs it; it makes the rule
-// hold
-// by its form.
+// hold by its form.
 fn beside_minus_one(x: f64, v: f64) -> f64
     ensures { λ r. ⌜ r ≡ besideMinusOne x v ⌝ }
 {

@@ -51,10 +51,8 @@ fn tail(r: f64, t: f64) -> f64
 }
 
 // Steps 3 to 8: ln w from a normal w and the offset that goes with it. The piece has C[i] and B[i], and the log H[i]
-// and
-// L[i]; 0x10_0000_0000_0000 is 2^52, and 0x2000_0000_0000 is 2^45. The signs in the last step keep LLVM from packing
-// its
-// terms in pairs, which is slower.
+// and L[i]; 0x10_0000_0000_0000 is 2^52, and 0x2000_0000_0000 is 2^45. The signs in the last step keep LLVM from
+// packing its terms in pairs, which is slower.
 fn core(w: f64, offset: u64) -> f64
     requires { ⌜ T (not (isNan w)) ⌝ ∗ ⌜ offset ≤ OFFSET ⌝ }
     ensures { λ r. ⌜ r ≡ lnCore w offset ⌝ }
