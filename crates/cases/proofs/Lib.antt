@@ -1,2 +1,4 @@
 pub mod Cases
+pub mod RuleCases
+pub mod ClauseCases
 pub mod Empty

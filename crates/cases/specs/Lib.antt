@@ -1,1 +1,4 @@
 pub mod Cases
+pub mod RuleFits
+pub mod RuleCases
+pub mod ClauseCases
