@@ -21,7 +21,7 @@ use Rattle.cases.specs.Cases.{Each}
 use Rattle.cases.specs.ClauseCases.{ShareTable, hints, hintRows, seedsThenHint, startsThenShapes, SelectionTable, ClauseTable}
 
 share-table : ShareTable
-unfolding shelfShareOf shareOf massOf clampOf recovered roundedQuotientOf usedScaleOf roundOf fold round ofInt ofBits add mul div neg lt le toUnsigned
+unfolding shelfShareOf shareOf massOf clampOf recovered roundedQuotientOf usedScaleOf roundOf fold round ofInt ofBits toBits add mul div neg lt le toUnsigned
 share-table = (
   (refl, (refl, (refl, (refl, (refl, (refl, tt)))))),
   (refl, (refl, (refl, (refl, (refl, (refl, tt)))))),

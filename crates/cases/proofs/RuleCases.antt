@@ -18,7 +18,7 @@ use Rattle.models.specs.Fits.{absOf}
 use Rattle.models.specs.Modes.{laterWins, withNan, higherWith, higherOf, highestOf, errorModeOf}
 use Rattle.models.specs.ShelfRules.{retainedOf, concentrationOf, shelfIsValidOf}
 use Rattle.fitter.specs.Validation.{nonFiniteLikelihood, badWeight, badMean, badDispersion, invalidComponents, badMass, invalidWindowMass, excessOf, aboveOrNan, componentMassExceeded, unstableMode, outsideWindow, lobeOutsideWindow, errorModePastValley, outsideBand, primaryModeOutsideBand, repeatModeTooEarly, positiveLogLikelihood, verdictOf, badLimit, validateTests, validateOf}
-use Rattle.cases.specs.RuleCases.{bands, rule8Far, Rules1To3, Rules4To6, Rules7To10, RulesInOrder, RuleTable}
+use Rattle.cases.specs.RuleCases.{Rules1To3, Rules4To6, Rules7To10, bands, rule8Far, RulesInOrder, named, reasons, RuleTable}
 use Rattle.cases.specs.Cases.{Each}
 
 rules-1-to-3 : Rules1To3
@@ -60,5 +60,8 @@ rule-8-far : Each bands rule8Far
 unfolding primaryModeOutsideBand outsideBand discreteNbModeOf minOf floorOf round toUnsigned ofInt ofBits neg add sub mul lt le eq
 rule-8-far = (refl, (refl, (refl, (refl, tt))))
 
+reasons-named : Each named reasons
+reasons-named = (refl, (refl, (refl, (refl, (refl, (refl, (refl, (refl, (refl, (refl, tt))))))))))
+
 pub rule-table : RuleTable
-rule-table = (rules-1-to-3, rules-4-to-6, rules-7-to-10, rule-8-far, rules-in-order, (refl, (refl, (refl, (refl, (refl, (refl, (refl, (refl, (refl, (refl, tt)))))))))))
+rule-table = (rules-1-to-3, rules-4-to-6, rules-7-to-10, rule-8-far, rules-in-order, reasons-named)

@@ -2,11 +2,12 @@
 -- contracts of `shelf_share`, `fit_starts` and `select_fit` cite them. Definitions only. Assumes nothing.
 use Prim.Native.Nat.{ℕ, suc}
 use mathlib.Core.Path.{_≡_}
-use mathlib.Core.Bool.{Bool, true, false, cond}
+use mathlib.Core.Bool.{Bool, true, false, _&&_, cond}
 use mathlib.Core.List.{List, [], _∷_}
 use mathlib.Core.Option.{Option, none, some}
+use lib.Dec.{eqb}
 use lib.ListN.{getD}
-use lib.Ieee.{Float, nan, inf, neg, binary64, ofBits}
+use lib.Ieee.{Float, nan, inf, neg, binary64, ofBits, toBits}
 use Rattle.meaning.specs.Reply.{Reply, refuse, broken, give}
 use Rattle.routines.specs.Constants.{zero, half, one, two, three}
 use Rattle.routines.specs.Ln.{lnOf}
@@ -26,12 +27,31 @@ use Rattle.fitter.specs.declared.selection.Selected.{Selected}
 use Rattle.cases.specs.Cases.{Each}
 use Rattle.cases.specs.RuleFits.{set, count, bic, iterations, fitFrom, outward, inward, largest}
 
+-- ---- numbers are held side by side by their bits, so that a wrong row is told in a few steps
+abbrev pub same : Float → Float → Bool
+same a b = eqb (toBits binary64 a) (toBits binary64 b)
+
+abbrev pub sameList : List Float → List Float → Bool
+sameList [] [] = true
+sameList [] (y ∷ ys) = false
+sameList (x ∷ xs) [] = false
+sameList (x ∷ xs) (y ∷ ys) = same x y && sameList xs ys
+
+abbrev pub sameReply : Reply Float → Reply Float → Bool
+sameReply (give a) (give b) = same a b
+sameReply (give a) (refuse n) = false
+sameReply (give a) (broken place) = false
+sameReply (refuse m) (refuse n) = eqb m n
+sameReply (refuse m) (give b) = false
+sameReply (refuse m) (broken place) = false
+sameReply (broken place) r = false
+
 -- ---- shelf share: bins, scale, valley, peak, and the answer
 abbrev pub Share : Type 0
 Share = List ℕ × Float × ℕ × ℕ × Reply Float
 
 abbrev pub sharesAt : Share → Type 0
-sharesAt row = shelfShareOf (row .0) (row .1) (row .2) (row .3) ≡ row .4
+sharesAt row = sameReply (shelfShareOf (row .0) (row .1) (row .2) (row .3)) (row .4) ≡ true
 
 -- the lobe is the sum over counts valley..2·peak, and 0.05 where that is not above 0: the last count, and the one behind
 -- it; an inverted range; the first count, and the one before it; an end beyond the bins
@@ -112,7 +132,8 @@ paretoOf genome seeds hint shapes room =
 -- 0.001 at least
 abbrev pub hints : Float × Float × Float → Type 0
 hints row =
-    (hintOf (row .0) ≡ row .1) × (getD (paretoOf NegativeBinomial [] (row .0) [] 14) 3 nan ≡ lnOf (row .2))
+    (same (hintOf (row .0)) (row .1) ≡ true)
+    × (same (getD (paretoOf NegativeBinomial [] (row .0) [] 14) 3 nan) (lnOf (row .2)) ≡ true)
 
 abbrev pub hintRows : List (Float × Float × Float)
 hintRows =
@@ -138,8 +159,9 @@ picked list (i ∷ is) = getD list i nan ∷ picked list is
 -- seed 3 and hint 5: the dispersion and the tail exponent of each of four starts of seven numbers
 abbrev pub seedsThenHint : Type 0
 seedsThenHint =
-    picked (paretoOf NegativeBinomial (three ∷ []) (dec 5 1) [] 28) (3 ∷ 4 ∷ 10 ∷ 11 ∷ 17 ∷ 18 ∷ 24 ∷ 25 ∷ [])
-    ≡ (lnOf two
+    sameList
+    (picked (paretoOf NegativeBinomial (three ∷ []) (dec 5 1) [] 28) (3 ∷ 4 ∷ 10 ∷ 11 ∷ 17 ∷ 18 ∷ 24 ∷ 25 ∷ []))
+    (lnOf two
     ∷ lnOf (dec 15 10)
     ∷ lnOf two
     ∷ lnOf (dec 25 10)
@@ -148,6 +170,7 @@ seedsThenHint =
     ∷ lnOf (dec 4 1)
     ∷ lnOf (dec 25 10)
     ∷ [])
+    ≡ true
 
 -- hint 5, and shelves that keep 0.6 and 0.8: the tail exponent, and what is kept above 0.3, of each of four starts of ten
 -- numbers
@@ -157,10 +180,11 @@ keptAbove retained =
 
 abbrev pub startsThenShapes : Type 0
 startsThenShapes =
-    picked
+    sameList
+    (picked
     (paretoOf ShelfNegativeBinomial [] (dec 5 1) (dec 6 10 ∷ dec 4 1 ∷ dec 8 10 ∷ dec 4 1 ∷ []) 40)
-    (4 ∷ 8 ∷ 14 ∷ 18 ∷ 24 ∷ 28 ∷ 34 ∷ 38 ∷ [])
-    ≡ (lnOf (dec 15 10)
+    (4 ∷ 8 ∷ 14 ∷ 18 ∷ 24 ∷ 28 ∷ 34 ∷ 38 ∷ []))
+    (lnOf (dec 15 10)
     ∷ keptAbove (dec 6 10)
     ∷ lnOf (dec 15 10)
     ∷ keptAbove (dec 8 10)
@@ -169,6 +193,7 @@ startsThenShapes =
     ∷ lnOf (dec 25 10)
     ∷ keptAbove (dec 8 10)
     ∷ [])
+    ≡ true
 
 -- ---- selection: four attempts, each with its BIC, and which is taken
 pub data Tried : Type 0 where
