@@ -20,6 +20,7 @@ pub enum SureCutoff {
 
 impl SpectrumFit {
     /// The largest cutoff that removes at most `budget` of the genome's k-mers by the fit, and 2 at least, where more may be removed.
+    /// Cut there, or at the valley where that is smaller: a smaller cutoff keeps the budget too.
     /// None is not "keep everything": either every cutoff up to the mean removes at most that, or there is nothing to walk over, and
     /// [`SpectrumFit::hole_cutoff_sure`] tells which. Refusals 2 and 5.
     pub fn hole_cutoff(&self, budget: f64) -> Result<Option<u16>, Refusal> {

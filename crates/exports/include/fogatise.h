@@ -30,7 +30,8 @@
  *     fog_attempt_from_numbers      over those, or fog_attempt_from over runs as structs; the original's mass limit is 1.1. A search of the
  *                                   caller's own lowers fog_cost_prepared, with fog_prepare_window once for a window end
  *   fog_select_fit                  the fit that is used
- *   fog_hole_cutoff_sure            the cutoff that a budget allows; fog_crossover and fog_error_floor_cutoff to compare it with
+ *   fog_hole_cutoff_sure            the largest cutoff that a budget allows; cut there, or at the valley where that is smaller.
+ *                                   fog_crossover and fog_error_floor_cutoff to compare it with
  */
 #ifndef FOGATISE_H
 #define FOGATISE_H
