@@ -17,7 +17,7 @@ use Rattle.fitter.specs.declared.settling.Settled.{Settled}
 use Rattle.fitter.specs.declared.settling.Setup.{Setup}
 use Rattle.fitter.specs.declared.surveys.Survey.{Survey}
 use Rattle.fitter.proofs.Attempted.{answered}
-use Rattle.fitter.proofs.Settlement.{finished-number, unsettled-is, stands}
+use Rattle.fitter.proofs.Settlement.{finished-number, unsettled-is}
 
 module _ (bins : List ℕ) (setup : Setup) (lists : List Float) (room : ℕ) (at : ℕ → Run) (n : ℕ) where
   abbrev answer : AttemptAnswer
@@ -47,10 +47,10 @@ module _ (bins : List ℕ) (setup : Setup) (lists : List Float) (room : ℕ) (at
         ∙ answered bins setup lists room at n
       where
         stays : s .unsettled ≡ false → again bins setup lists room at n s ≡ s
-        stays h = ap (λ (b : Bool). cond b (withHeld s (retriedOf bins (s .frame) lists room at n (s .held))) s) h
+        stays h = ap (λ (b : Bool). cond b (withHeld s (retriedOf bins setup lists room at n (s .held))) s) h
 
     -- ---- two
-    pub two-passes : (held : Held) → s .unsettled ≡ true → held ≡ retriedOf bins (s .frame) lists room at n (s .held)
+    pub two-passes : (held : Held) → s .unsettled ≡ true → held ≡ retriedOf bins setup lists room at n (s .held)
         → finishOf survey (withHeld s held) ≡ answer
     unfolding answeredOf
     two-passes held u h =
@@ -59,8 +59,8 @@ module _ (bins : List ℕ) (setup : Setup) (lists : List Float) (room : ℕ) (at
         ∙ answered bins setup lists room at n
       where
         goes : s .unsettled ≡ true
-            → again bins setup lists room at n s ≡ withHeld s (retriedOf bins (s .frame) lists room at n (s .held))
-        goes h = ap (λ (b : Bool). cond b (withHeld s (retriedOf bins (s .frame) lists room at n (s .held))) s) h
+            → again bins setup lists room at n s ≡ withHeld s (retriedOf bins setup lists room at n (s .held))
+        goes h = ap (λ (b : Bool). cond b (withHeld s (retriedOf bins setup lists room at n (s .held))) s) h
 
     -- ---- the shelf's table
     module _ (before middle : List Float)
@@ -73,14 +73,14 @@ module _ (bins : List ℕ) (setup : Setup) (lists : List Float) (room : ℕ) (at
 
       pub two-stand : (after : List Float) (held : Held) (r : AttemptAnswer)
           → r ≡ finishOf survey (withHeld s held) → s .unsettled ≡ true
-          → drop (tableFrom (s .frame)) after ≡ drop (tableFrom (s .frame)) middle
+          → drop (tableFrom setup) after ≡ drop (tableFrom setup) middle
           → drop (standsFrom setup (r .number)) after ≡ drop (standsFrom setup (r .number)) before
       two-stand after held r g u second =
           let is = unsettled-is bins setup n (surveyed bins setup lists room at n) lists room
           (sym (ap (λ (x : Settled). x .unsettled) f) ∙ u) in
-          let zero : s .number ≡ 0 = ap (λ (x : Settled). x .number) f ∙ is .0 in
+          let zero : s .number ≡ 0 = ap (λ (x : Settled). x .number) f ∙ is in
           let number : r .number ≡ 0 =
           ap (λ (x : AttemptAnswer). x .number) g ∙ finished-number survey (withHeld s held) ∙ zero in
           subst (λ (k : ℕ). drop (standsFrom setup k) after ≡ drop (standsFrom setup k) before) (sym number)
-          (stands bins setup (s .frame) middle after (ap (λ (x : Settled). x .frame) f ∙ is .1) second
+          (second
           ∙ subst (λ (k : ℕ). drop (standsFrom setup k) middle ≡ drop (standsFrom setup k) before) zero first)

@@ -12,25 +12,24 @@ use Rattle.meaning.specs.Reply.{Reply, refuse, give, Test, test, chain, firstOf
 use Rattle.meaning.specs.Rows.{inOrder, few, many}
 use Rattle.meaning.proofs.Replies.{same-number, answer-not-refused}
 use Rattle.models.specs.Families.{listLengthOf}
-use Rattle.models.specs.Refusals.{tableDemand, spectrumTests}
-use Rattle.models.specs.Unpacking.{emptyFit}
-use Rattle.fitter.specs.Attempting.{wrongRuns, badRuns, setupTests, frameOf, attemptTests, candidateOf, attemptFrom}
+use Rattle.models.specs.Refusals.{tableDemand, wrongList, spectrumTests, fitTests}
+use Rattle.models.specs.Unpacking.{emptyFit, fitAnswerOf, unpackOf}
+use Rattle.fitter.specs.Attempting.{wrongRuns, badRuns, setupTests, attemptTests, candidateOf, attemptFrom}
 use Rattle.fitter.specs.Attempts.{attemptOf, unrejected}
 use Rattle.fitter.specs.Candidates.{LongEnough}
 use Rattle.fitter.specs.Judging.{rejectionOf, fitOfRun, judgedOf, validRun, keptOf}
-use Rattle.fitter.specs.Runs.{wrongRun, badRun, anyOf, iterationsOf, cappedOf}
+use Rattle.fitter.specs.Runs.{listAt, wrongRun, badRun, anyOf, iterationsOf, cappedOf}
 use Rattle.fitter.specs.Surveys.{leastOf}
 use Rattle.fitter.specs.Validation.{outsideLimit, verdictOf}
 use Rattle.fitter.specs.declared.attempts.FitAttempt.{FitAttempt}
 use Rattle.fitter.specs.declared.attempts.RejectionPart.the-variants.{Present}
-use Rattle.fitter.specs.declared.judging.Frame.{Frame}
 use Rattle.fitter.specs.declared.judging.Judged.{Judged}
 use Rattle.fitter.specs.declared.rejections.FitRejection.the-variants as reason
 use Rattle.fitter.specs.declared.runs.Run.{Run}
 use Rattle.fitter.specs.declared.settling.Setup.{Setup}
 use Rattle.fitter.specs.declared.surveys.Best.{Best}
 use Rattle.fitter.proofs.Cleared.{clear}
-use Rattle.fitter.proofs.RunFits.{fit-whole}
+use Rattle.fitter.proofs.RunFits.{whole}
 
 -- ---- chains whose last test is that of 10
 abbrev ten : Bool → List Test
@@ -66,9 +65,6 @@ module _ {A : Type 0} (x : A) where
       rest false q = absurd (false≢true q)
 
 module _ (bins : List ℕ) (setup : Setup) (lists : List Float) (at : ℕ → Run) (n : ℕ) where
-  abbrev frame : Frame
-  frame = frameOf bins setup
-
   abbrev wanted : ℕ
   wanted = listLengthOf (setup .error) (setup .genome)
 
@@ -87,8 +83,18 @@ module _ (bins : List ℕ) (setup : Setup) (lists : List Float) (at : ℕ → Ru
       ∷ outsideLimit (setup .«mass_limit»)
       ∷ [])
 
+  -- likewise of `unpack`, for a list of this length
+  abbrev unpack-others : ℕ → List Test
+  unpack-others listed =
+      inOrder
+      (few (setup .peak ∷ length bins ∷ [])
+      ∷ many (length bins ∷ setup .peak ∷ setup .«window_end» ∷ [])
+      ∷ spectrumTests bins (setup .scale) (setup .«window_end»)
+      ∷ wrongList listed (setup .error) (setup .genome)
+      ∷ [])
+
   abbrev candidate : ℕ → FitAttempt
-  candidate room = candidateOf bins setup lists room at n (keptOf bins frame lists room at n)
+  candidate room = candidateOf bins setup lists room at n (keptOf bins setup lists room at n)
 
   -- ---- the candidate, by what each run is judged as
   abbrev kept-by : (Run → Judged) → Best
@@ -107,16 +113,27 @@ module _ (bins : List ℕ) (setup : Setup) (lists : List Float) (at : ℕ → Ru
 
   module _ (room other : ℕ) (z : 0 ≡ firstOf (attemptTests bins setup lists room at n))
       (w : 0 ≡ firstOf (attemptTests bins setup lists other at n)) where
-    same-fit : (run : Run) → fitOfRun bins frame lists room run ≡ fitOfRun bins frame lists other run
-    same-fit run =
-        fit-whole bins setup n _ _ room (clear bins setup n _ _ room z) lists run
-        ∙ sym (fit-whole bins setup n _ _ other (clear bins setup n _ _ other w) lists run)
+    same-short : short-of room ≡ short-of other
+    same-short =
+        let demand = tableDemand (setup .genome) (setup .«window_end») in
+        le-ltb room demand (clear bins setup n _ _ room z .roomed)
+        ∙ sym (le-ltb other demand (clear bins setup n _ _ other w .roomed))
 
-    same-judged : judgedOf bins frame lists room ≡ judgedOf bins frame lists other
+    -- whatever the run's list
+    same-fit : (run : Run) → fitOfRun bins setup lists room run ≡ fitOfRun bins setup lists other run
+    unfolding fitOfRun unpackOf fitTests spectrumTests
+    same-fit run =
+        let list = listAt lists (run .place) (run .length) in
+        ap (λ (b : Bool).
+        fitAnswerOf
+        (chain (unpack-others (length list) ++ ten b) (give (whole bins setup list (run .cost) (run .iterations))))
+        .fit) same-short
+
+    same-judged : judgedOf bins setup lists room ≡ judgedOf bins setup lists other
     unfolding judgedOf
     same-judged j run = record {
       fit = same-fit run j;
-      rejection = rejectionOf (verdictOf (same-fit run j) (frame .valley) (frame .peak) (frame .«mass_limit»));
+      rejection = rejectionOf (verdictOf (same-fit run j) (setup .valley) (setup .peak) (setup .«mass_limit»));
     }
 
     same-candidate : candidate room ≡ candidate other

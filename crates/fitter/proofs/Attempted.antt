@@ -17,15 +17,14 @@ use Rattle.meaning.proofs.Folds.{fold-more, fold-split, fold-keeps}
 use Rattle.models.specs.Refusals.{spectrumTests, shortTable}
 use Rattle.fitter.specs.Attempts.{unrejected}
 use Rattle.fitter.specs.Validation.{outsideLimit}
-use Rattle.fitter.specs.Attempting.{wrongRuns, badRuns, setupTests, surveyTests, frameOf, wanted, attemptTests}
+use Rattle.fitter.specs.Attempting.{wrongRuns, badRuns, setupTests, surveyTests, wanted, attemptTests}
 use Rattle.fitter.specs.Attempting.{candidateOf, attemptFrom, attemptAnswerOf, refusedOf}
 use Rattle.fitter.specs.Judging.{judgedOf, heldOf, keptOf, retriedOf}
 use Rattle.fitter.specs.Runs.{badCost, badRun, anyOf, top32, iterationsOf, cappedOf}
-use Rattle.fitter.specs.Settling.{noFrame, noHeld, closedBy, heldBy, settleOf, withHeld}
+use Rattle.fitter.specs.Settling.{noHeld, closedBy, heldBy, settleOf, withHeld}
 use Rattle.fitter.specs.Settling.{failedOf, keptAnswer, finishOf}
 use Rattle.fitter.specs.Settling.{surveyed, settled, again, answeredOf}
 use Rattle.fitter.specs.Surveys.{leastOf}
-use Rattle.fitter.specs.declared.judging.Frame.{Frame}
 use Rattle.fitter.specs.declared.judging.Held.{Held}
 use Rattle.fitter.specs.declared.runs.Run.{Run}
 use Rattle.fitter.specs.declared.settling.AttemptAnswer.{AttemptAnswer}
@@ -112,9 +111,6 @@ unfolding badRun
 good-cost run h e = sym (ap (λ (b : Bool). b && badCost (run .cost)) e) ∙ h
 
 module _ (bins : List ℕ) (setup : Setup) (lists : List Float) (room : ℕ) (at : ℕ → Run) (n : ℕ) where
-  abbrev frame : Frame
-  frame = frameOf bins setup
-
   abbrev survey : Survey
   survey = surveyed bins setup lists room at n
 
@@ -122,7 +118,7 @@ module _ (bins : List ℕ) (setup : Setup) (lists : List Float) (room : ℕ) (at
   all = attemptTests bins setup lists room at n
 
   abbrev kept : Best
-  kept = keptOf bins frame lists room at n
+  kept = keptOf bins setup lists room at n
 
   abbrev least : Best
   least = leastOf at (λ (run : Run). run .converged) n
@@ -156,18 +152,18 @@ module _ (bins : List ℕ) (setup : Setup) (lists : List Float) (room : ℕ) (at
       none : (k : ℕ) → suc k ≡ 0 → ⊥
       none k z = omega arith
 
-  first-refused : (k : ℕ) → firstOf all ≡ suc k → first ≡ closedBy (suc k) noFrame
+  first-refused : (k : ℕ) → firstOf all ≡ suc k → first ≡ closedBy (suc k) setup
   unfolding settleOf
   first-refused k e = rw (number-is ∙ e, some-number k)
 
-  refused-answer : (k : ℕ) → finishOf survey (closedBy (suc k) noFrame) ≡ refusedOf (suc k)
+  refused-answer : (k : ℕ) → finishOf survey (closedBy (suc k) setup) ≡ refusedOf (suc k)
   unfolding finishOf
   refused-answer k = rw (some-number k)
 
   refused-same : (k : ℕ) → firstOf all ≡ suc k → answeredOf bins setup lists room at n ≡ answer
   unfolding attemptFrom
   refused-same k e =
-      finished (closedBy (suc k) noFrame) (first-refused k e)
+      finished (closedBy (suc k) setup) (first-refused k e)
       ∙ refused-answer k
       ∙ sym
       (ap attemptAnswerOf
@@ -202,57 +198,55 @@ module _ (bins : List ℕ) (setup : Setup) (lists : List Float) (room : ℕ) (at
     zero-number = number-is ∙ sym z
 
     failed-same : least .run .converged ≡ false
-        → failedOf frame survey ≡ record { number = 0; attempt = candidateOf bins setup lists room at n kept }
-    unfolding frameOf
-    failed-same e = rw (kept-none bins frame lists room at n good e, e, iterations-are, capped-are)
+        → failedOf setup survey ≡ record { number = 0; attempt = candidateOf bins setup lists room at n kept }
+    failed-same e = rw (kept-none bins setup lists room at n good e, e, iterations-are, capped-are)
 
     kept-same : least .run .converged ≡ true
-        → keptAnswer frame survey (heldOf bins frame lists room kept)
+        → keptAnswer setup survey (heldOf bins setup lists room kept)
         ≡ record { number = 0; attempt = candidateOf bins setup lists room at n kept }
-    unfolding frameOf
-    kept-same e = rw (kept-converged bins frame lists room at n good e, iterations-are, capped-are)
+    kept-same e = rw (kept-converged bins setup lists room at n good e, iterations-are, capped-are)
 
-    first-none : least .run .converged ≡ false → first ≡ closedBy 0 frame
+    first-none : least .run .converged ≡ false → first ≡ closedBy 0 setup
     unfolding settleOf
     first-none e = rw (zero-number, least-is, e)
 
-    first-some : least .run .converged ≡ true → first ≡ heldBy frame (heldOf bins frame lists room least)
+    first-some : least .run .converged ≡ true → first ≡ heldBy setup (heldOf bins setup lists room least)
     unfolding settleOf
     first-some e = rw (zero-number, least-is, e)
 
     none-same : least .run .converged ≡ false → answeredOf bins setup lists room at n ≡ answer
-    none-same e = finished (closedBy 0 frame) (first-none e) ∙ unfold finishOf noHeld in (failed-same e ∙ sym passed)
+    none-same e = finished (closedBy 0 setup) (first-none e) ∙ unfold finishOf noHeld in (failed-same e ∙ sym passed)
 
     abbrev lowest : Settled
-    lowest = heldBy frame (heldOf bins frame lists room least)
+    lowest = heldBy setup (heldOf bins setup lists room least)
 
     abbrev retried : Held
-    retried = retriedOf bins frame lists room at n (heldOf bins frame lists room least)
+    retried = retriedOf bins setup lists room at n (heldOf bins setup lists room least)
 
-    again-is : (b : Bool) → unrejected (judgedOf bins frame lists room (least .run) .rejection) ≡ b
+    again-is : (b : Bool) → unrejected (judgedOf bins setup lists room (least .run) .rejection) ≡ b
         → again bins setup lists room at n lowest ≡ cond (not b) (withHeld lowest retried) lowest
     again-is b f = ap (λ (c : Bool). cond (not c) (withHeld lowest retried) lowest) f
 
     by-judgement : (b : Bool) → least .run .converged ≡ true
-        → unrejected (judgedOf bins frame lists room (least .run) .rejection) ≡ b
+        → unrejected (judgedOf bins setup lists room (least .run) .rejection) ≡ b
         → finishOf survey (again bins setup lists room at n lowest)
-        ≡ keptAnswer frame survey (heldOf bins frame lists room kept)
+        ≡ keptAnswer setup survey (heldOf bins setup lists room kept)
     by-judgement true e f =
         ap (finishOf survey) (again-is true f)
         ∙ sym (finished-kept survey lowest refl e)
-        ∙ ap (λ (b : Best). keptAnswer frame survey (heldOf bins frame lists room b))
-        (sym (kept-least bins frame lists room at n good e f))
+        ∙ ap (λ (b : Best). keptAnswer setup survey (heldOf bins setup lists room b))
+        (sym (kept-least bins setup lists room at n good e f))
     by-judgement false e f =
-        let h = kept-retried bins frame lists room at n good f in
+        let h = kept-retried bins setup lists room at n good f in
         ap (finishOf survey) (again-is false f ∙ ap (withHeld lowest) h)
         ∙ sym
-        (finished-kept survey (withHeld lowest (heldOf bins frame lists room kept)) refl
-        (kept-converged bins frame lists room at n good e))
+        (finished-kept survey (withHeld lowest (heldOf bins setup lists room kept)) refl
+        (kept-converged bins setup lists room at n good e))
 
     some-same : least .run .converged ≡ true → answeredOf bins setup lists room at n ≡ answer
     some-same e =
-        finished (heldBy frame (heldOf bins frame lists room least)) (first-some e)
-        ∙ by-judgement (unrejected (judgedOf bins frame lists room (least .run) .rejection)) e refl
+        finished (heldBy setup (heldOf bins setup lists room least)) (first-some e)
+        ∙ by-judgement (unrejected (judgedOf bins setup lists room (least .run) .rejection)) e refl
         ∙ kept-same e ∙ sym passed
 
     passed-same : (b : Bool) → least .run .converged ≡ b → answeredOf bins setup lists room at n ≡ answer

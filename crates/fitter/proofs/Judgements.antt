@@ -6,8 +6,9 @@ use mathlib.Core.List.{List}
 use lib.Ieee.{Float}
 use Rattle.meaning.specs.Reply.{give}
 use Rattle.meaning.proofs.Replies.{same-answer, answer-not-refused}
-use Rattle.models.specs.Unpacking.{unpackAt}
+use Rattle.models.specs.Unpacking.{fitAnswerOf, unpackOf}
 use Rattle.models.specs.declared.fit.SpectrumFit.{SpectrumFit}
+use Rattle.models.specs.declared.unpacking.FitAnswer.{FitAnswer}
 use Rattle.fitter.specs.Attempts.{unrejected}
 use Rattle.fitter.specs.Validation.{Judgement, verdictOf, verdictSays}
 use Rattle.fitter.specs.declared.attempts.RejectionPart.{RejectionPart}
@@ -18,7 +19,7 @@ use Rattle.fitter.proofs.Verdicts.{there-and-back}
 use Rattle.fitter.specs.Judging.{rejectionOf, rejectionSaid, fitOfRun, judgedOf, heldOf, couldWin, retryStep}
 use Rattle.fitter.specs.Runs.{listAt, pointOf}
 use Rattle.fitter.specs.Surveys.{bestOf}
-use Rattle.fitter.specs.declared.judging.Frame.{Frame}
+use Rattle.fitter.specs.declared.settling.Setup.{Setup}
 use Rattle.fitter.specs.declared.judging.Held.{Held}
 use Rattle.fitter.specs.declared.runs.Run.{Run}
 use Rattle.fitter.specs.declared.runs.RunPoint.{RunPoint}
@@ -29,38 +30,39 @@ said-is Valid j e = ap rejectionOf (same-answer e)
 said-is (Rejected why) j e = ap Present (sym (there-and-back why)) ∙ ap rejectionOf (same-answer e)
 said-is (Refused n) j e = absurd (answer-not-refused (sym e))
 
-module _ (bins : List ℕ) (frame : Frame) (lists : List Float) (room : ℕ) (run : Run) where
-  pub judged-is : (list : List Float) (fit : SpectrumFit) (v : Verdict) (r : RejectionPart)
-      → list ≡ listAt lists (run .place) (run .length)
-      → fit
-      ≡ unpackAt bins (frame .window) (frame .peak) (frame .error) (frame .genome) list (run .cost) (run .iterations) room
-      → verdictSays v ≡ give (verdictOf fit (frame .valley) (frame .peak) (frame .«mass_limit»))
+module _ (bins : List ℕ) (setup : Setup) (lists : List Float) (room : ℕ) (run : Run) where
+  abbrev unpacked : List Float → FitAnswer
+  unpacked list =
+      fitAnswerOf
+      (unpackOf bins (setup .scale) (setup .«window_end») (setup .peak) (setup .error) (setup .genome) list (run .cost)
+      (run .iterations) room)
+
+  pub judged-is : (list : List Float) (answer : FitAnswer) (v : Verdict) (r : RejectionPart)
+      → list ≡ listAt lists (run .place) (run .length) → answer ≡ unpacked list
+      → verdictSays v ≡ give (verdictOf (answer .fit) (setup .valley) (setup .peak) (setup .«mass_limit»))
       → r ≡ rejectionSaid v
-      → record { fit = fit; rejection = r } ≡ judgedOf bins frame lists room run
+      → record { fit = answer .fit; rejection = r } ≡ judgedOf bins setup lists room run
   unfolding judgedOf fitOfRun
-  judged-is list fit v r el ef ev er =
-      let f : fit ≡ fitOfRun bins frame lists room run =
-      ef
-      ∙ ap (λ (l : List Float).
-      unpackAt bins (frame .window) (frame .peak) (frame .error) (frame .genome) l (run .cost) (run .iterations)
-      room) el in
+  judged-is list answer v r el ef ev er =
+      let f : answer .fit ≡ fitOfRun bins setup lists room run =
+      ap (λ (x : FitAnswer). x .fit) (ef ∙ ap unpacked el) in
       let s : r
       ≡ rejectionOf
-      (verdictOf (fitOfRun bins frame lists room run) (frame .valley) (frame .peak) (frame .«mass_limit»)) =
+      (verdictOf (fitOfRun bins setup lists room run) (setup .valley) (setup .peak) (setup .«mass_limit»)) =
       er ∙ said-is v _ ev
-      ∙ ap (λ (x : SpectrumFit). rejectionOf (verdictOf x (frame .valley) (frame .peak) (frame .«mass_limit»))) f in
+      ∙ ap (λ (x : SpectrumFit). rejectionOf (verdictOf x (setup .valley) (setup .peak) (setup .«mass_limit»))) f in
       λ i. record { fit = f i; rejection = s i }
 
 -- ---- a run looked at again, by its answer
-module _ (bins : List ℕ) (frame : Frame) (lists : List Float) (room i : ℕ) (run : Run) (held : Held) where
+module _ (bins : List ℕ) (setup : Setup) (lists : List Float) (room i : ℕ) (run : Run) (held : Held) where
   abbrev new : Held
-  new = heldOf bins frame lists room (bestOf i run)
+  new = heldOf bins setup lists room (bestOf i run)
 
   abbrev fine : Bool
-  fine = unrejected (judgedOf bins frame lists room run .rejection)
+  fine = unrejected (judgedOf bins setup lists room run .rejection)
 
   abbrev next : Held
-  next = retryStep bins frame lists room i run held
+  next = retryStep bins setup lists room i run held
 
   abbrev pointed : RunPoint → Held
   pointed Missing = held

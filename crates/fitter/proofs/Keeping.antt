@@ -10,7 +10,7 @@ use Rattle.fitter.specs.Attempts.{unrejected}
 use Rattle.fitter.specs.Runs.{badCost}
 use Rattle.fitter.specs.Surveys.{bestOf, beats, lesser, leastStep, leastOf}
 use Rattle.fitter.specs.Judging.{couldWin, judgedOf, validRun, heldOf, keptOf, retryStep, retriedOf}
-use Rattle.fitter.specs.declared.judging.Frame.{Frame}
+use Rattle.fitter.specs.declared.settling.Setup.{Setup}
 use Rattle.fitter.specs.declared.judging.Held.{Held}
 use Rattle.fitter.specs.declared.runs.Run.{Run}
 use Rattle.fitter.specs.declared.surveys.Best.{Best}
@@ -20,15 +20,15 @@ and-first : (a b : Bool) → (a && b) ≡ true → a ≡ true
 and-first true b h = refl
 and-first false b h = absurd (false≢true h)
 
-module _ (bins : List ℕ) (frame : Frame) (lists : List Float) (room : ℕ) where
+module _ (bins : List ℕ) (setup : Setup) (lists : List Float) (room : ℕ) where
   abbrev valid : Run → Bool
-  valid = validRun bins frame lists room
+  valid = validRun bins setup lists room
 
   abbrev fine : Run → Bool
-  fine run = unrejected (judgedOf bins frame lists room run .rejection)
+  fine run = unrejected (judgedOf bins setup lists room run .rejection)
 
   abbrev held : Best → Held
-  held = heldOf bins frame lists room
+  held = heldOf bins setup lists room
 
   abbrev all : Run → Bool
   all run = run .converged
@@ -52,7 +52,7 @@ module _ (bins : List ℕ) (frame : Frame) (lists : List Float) (room : ℕ) whe
     both = agree at all valid valid-converged (λ (r : Run) (e : r .converged ≡ true). e) n good
 
     -- ---- where none converged, none is valid
-    pub kept-none : least .run .converged ≡ false → keptOf bins frame lists room at n ≡ least
+    pub kept-none : least .run .converged ≡ false → keptOf bins setup lists room at n ≡ least
     unfolding keptOf
     kept-none e = go (best .run .converged) refl
       where
@@ -61,7 +61,7 @@ module _ (bins : List ℕ) (frame : Frame) (lists : List Float) (room : ℕ) whe
         go false f = refl
 
     -- ---- where the least is valid it is kept
-    pub kept-least : least .run .converged ≡ true → fine (least .run) ≡ true → keptOf bins frame lists room at n ≡ least
+    pub kept-least : least .run .converged ≡ true → fine (least .run) ≡ true → keptOf bins setup lists room at n ≡ least
     unfolding keptOf
     kept-least e f =
         let s : best ≡ least = both .same e (valid-by (least .run) true true e f) in
@@ -71,7 +71,7 @@ module _ (bins : List ℕ) (frame : Frame) (lists : List Float) (room : ℕ) whe
         go true s = s
         go false s = refl
 
-    pub kept-converged : least .run .converged ≡ true → keptOf bins frame lists room at n .run .converged ≡ true
+    pub kept-converged : least .run .converged ≡ true → keptOf bins setup lists room at n .run .converged ≡ true
     unfolding keptOf
     kept-converged e = go (best .run .converged) refl
       where
@@ -97,10 +97,10 @@ module _ (bins : List ℕ) (frame : Frame) (lists : List Float) (room : ℕ) whe
         next = leastStep at valid k v
 
         abbrev retried : Held
-        retried = retryStep bins frame lists room k x (so-far v)
+        retried = retryStep bins setup lists room k x (so-far v)
 
         retry-is : (h : Held) (a w u : Bool) → x .converged ≡ a → couldWin h (x .cost) ≡ w → fine x ≡ u
-            → retryStep bins frame lists room k x h ≡ cond (a && w && u) (held (bestOf k x)) h
+            → retryStep bins setup lists room k x h ≡ cond (a && w && u) (held (bestOf k x)) h
         unfolding retryStep
         retry-is h a w u e f g =
             ap (λ (b : Bool). cond b (held (bestOf k x)) h)
@@ -192,14 +192,14 @@ module _ (bins : List ℕ) (frame : Frame) (lists : List Float) (room : ℕ) whe
         step true true true true ea eb ew el = let s = against true ea eb ew el in takes ea eb (s .0) (s .1)
         step true true true false ea eb ew el = let s = against false ea eb ew el in stays (s .0) (s .1)
 
-      past-next : (k : ℕ) (h : Held) → Past k h → Past (suc k) (retryStep bins frame lists room k (at k) h)
+      past-next : (k : ℕ) (h : Held) → Past k h → Past (suc k) (retryStep bins setup lists room k (at k) h)
       past-next k h p =
           let v = leastOf at valid k in
           let s = step k v (p .sound) (at k .converged) (fine (at k)) (v .run .converged)
           (lt (at k .cost) (v .run .cost)) refl refl refl refl in
           record {
             is =
-                ap (retryStep bins frame lists room k (at k)) (p .is)
+                ap (retryStep bins setup lists room k (at k)) (p .is)
                 ∙ s .1 ∙ ap so-far (sym (least-next at valid k));
             sound =
                 subst (λ (u : Best). u .run .converged ≡ true → fine (u .run) ≡ true) (sym (least-next at valid k))
@@ -214,11 +214,11 @@ module _ (bins : List ℕ) (frame : Frame) (lists : List Float) (room : ℕ) whe
             (λ (z : false ≡ true). absurd (false≢true z));
       }
 
-      pub kept-retried : retriedOf bins frame lists room at n (held least) ≡ held (keptOf bins frame lists room at n)
+      pub kept-retried : retriedOf bins setup lists room at n (held least) ≡ held (keptOf bins setup lists room at n)
       unfolding retriedOf keptOf
       kept-retried =
           let p =
-          fold-keeps (λ (k : ℕ) (h : Held). retryStep bins frame lists room k (at k) h) Past 0 n (held least)
+          fold-keeps (λ (k : ℕ) (h : Held). retryStep bins setup lists room k (at k) h) Past 0 n (held least)
           zero-le
           (λ (k : ℕ) (h : Held) (l : 0 ≤ k) (m : k < n) (p : Past k h). past-next k h p) past-none in
           p .is ∙ out (best .run .converged)

@@ -12,7 +12,7 @@ use Rattle.meaning.proofs.Chains.{gave-passed}
 use Rattle.meaning.proofs.Replies.{gave-answer}
 use Rattle.models.specs.Families.{listLengthOf}
 use Rattle.models.specs.Unpacking.{emptyFit}
-use Rattle.fitter.specs.Attempting.{frameOf, attemptTests, candidateOf, attemptFrom, attemptAnswerOf}
+use Rattle.fitter.specs.Attempting.{attemptTests, candidateOf, attemptFrom, attemptAnswerOf}
 use Rattle.fitter.specs.Attempts.{attemptOf}
 use Rattle.fitter.specs.Candidates.{RunFit, FromRun}
 use Rattle.fitter.specs.Judging.{judgedOf, validRun, keptOf}
@@ -20,7 +20,6 @@ use Rattle.fitter.specs.Kept.{KeptRun, is-valid, is-rejected, is-missing
 use Rattle.fitter.specs.Runs.{wrongRun, badRun, anyOf, iterationsOf, cappedOf}
 use Rattle.fitter.specs.declared.attempts.FitAttempt.{FitAttempt}
 use Rattle.fitter.specs.declared.attempts.RejectionPart.the-variants.{Present}
-use Rattle.fitter.specs.declared.judging.Frame.{Frame}
 use Rattle.fitter.specs.declared.judging.Judged.{Judged}
 use Rattle.fitter.specs.declared.rejections.FitRejection.the-variants as reason
 use Rattle.fitter.specs.declared.runs.Run.{Run}
@@ -40,9 +39,6 @@ which false b x y p q e = sym q ∙ e
 
 module _ (bins : List ℕ) (setup : Setup) (lists : List Float) (room : ℕ) (at : ℕ → Run) (n : ℕ) (attempt : FitAttempt)
     (gave : attemptFrom bins setup lists room at n ≡ give attempt) where
-  abbrev frame : Frame
-  frame = frameOf bins setup
-
   abbrev wanted : ℕ
   wanted = listLengthOf (setup .error) (setup .genome)
 
@@ -50,10 +46,10 @@ module _ (bins : List ℕ) (setup : Setup) (lists : List Float) (room : ℕ) (at
   tests = attemptTests bins setup lists room at n
 
   abbrev kept : Best
-  kept = keptOf bins frame lists room at n
+  kept = keptOf bins setup lists room at n
 
   abbrev judged : Run → Judged
-  judged = judgedOf bins frame lists room
+  judged = judgedOf bins setup lists room
 
   attempt-is : candidateOf bins setup lists room at n kept ≡ attempt
   unfolding attemptFrom
@@ -71,8 +67,8 @@ module _ (bins : List ℕ) (setup : Setup) (lists : List Float) (room : ℕ) (at
   right = any-none (λ (i : ℕ). wrongRun (length lists) wanted (at i)) n (all-clear .right)
 
   -- which run is kept
-  pub which-kept : KeptRun at (validRun bins frame lists room) n kept
-  which-kept = kept-run bins frame lists room at n (good bins setup lists room at n none-holds)
+  pub which-kept : KeptRun at (validRun bins setup lists room) n kept
+  which-kept = kept-run bins setup lists room at n (good bins setup lists room at n none-holds)
 
   -- what each converged run is judged by
   pub each-judged : (i : ℕ) → i < n → at i .converged ≡ true
@@ -113,7 +109,7 @@ module _ (bins : List ℕ) (setup : Setup) (lists : List Float) (room : ℕ) (at
             (subst (λ (r : Run). wrongRun (length lists) wanted r ≡ false) (sym there) (right (kept .position) below)));
       }
     where
-      place : kept .run .converged ≡ true → KeptRun at (validRun bins frame lists room) n kept
+      place : kept .run .converged ≡ true → KeptRun at (validRun bins setup lists room) n kept
           → (kept .position < n) × (kept .run ≡ at (kept .position))
       place c (is-valid f) = (f .below, f .there)
       place c (is-rejected none f) = (f .below, f .there)
@@ -126,9 +122,9 @@ module _ (bins : List ℕ) (setup : Setup) (lists : List Float) (room : ℕ) (at
       let c = converged-is false h in
       (none c which-kept, ap (λ (a : FitAttempt). a .rejection) (sym (by-converged false c)))
     where
-      none : kept .run .converged ≡ false → KeptRun at (validRun bins frame lists room) n kept
+      none : kept .run .converged ≡ false → KeptRun at (validRun bins setup lists room) n kept
           → (i : ℕ) → i < n → at i .converged ≡ false
-      none c (is-valid f) = absurd (true≢false (sym (valid-converged bins frame lists room (kept .run) (f .holds)) ∙ c))
+      none c (is-valid f) = absurd (true≢false (sym (valid-converged bins setup lists room (kept .run) (f .holds)) ∙ c))
       none c (is-rejected other f) = absurd (true≢false (sym (f .holds) ∙ c))
       none c (is-missing other e) = other
 
@@ -138,12 +134,12 @@ module _ (bins : List ℕ) (setup : Setup) (lists : List Float) (room : ℕ) (at
   answer = attemptAnswerOf (attemptFrom bins setup lists room at n) .attempt
 
   pub answer-fit : answer .«has_candidate» ≡ true
-      → FromRun bins setup lists at n (keptOf bins (frameOf bins setup) lists room at n) answer
+      → FromRun bins setup lists at n (keptOf bins setup lists room at n) answer
   answer-fit = go (attemptFrom bins setup lists room at n) refl
     where
       go : (r : Reply FitAttempt) → attemptFrom bins setup lists room at n ≡ r
           → attemptAnswerOf r .attempt .«has_candidate» ≡ true
-          → FromRun bins setup lists at n (keptOf bins (frameOf bins setup) lists room at n) (attemptAnswerOf r .attempt)
+          → FromRun bins setup lists at n (keptOf bins setup lists room at n) (attemptAnswerOf r .attempt)
       go (refuse k) e h = absurd (false≢true h)
       go (broken k) e h = absurd (false≢true h)
       go (give a) e h = kept-fit bins setup lists room at n a e h

@@ -12,7 +12,7 @@ use Rattle.fitter.specs.Judging.{validRun, keptOf}
 use Rattle.fitter.specs.Kept.{Lowest, Found, none, one, KeptRun, is-valid, is-rejected, is-missing}
 use Rattle.fitter.specs.Runs.{badCost}
 use Rattle.fitter.specs.Surveys.{noBest, bestOf, beats, lesser, leastStep, leastOf}
-use Rattle.fitter.specs.declared.judging.Frame.{Frame}
+use Rattle.fitter.specs.declared.settling.Setup.{Setup}
 use Rattle.fitter.specs.declared.runs.Run.{Run}
 use Rattle.fitter.specs.declared.surveys.Best.{Best}
 use Rattle.fitter.proofs.Keeping.{valid-converged}
@@ -127,20 +127,20 @@ module _ (at : ℕ → Run) (p : Run → Bool) (converged : (r : Run) → p r �
       (none refl (λ (j : ℕ) (l : j < 0). absurd (not-suc-le-zero l)))
 
 -- ---- THE THEOREM
-module _ (bins : List ℕ) (frame : Frame) (lists : List Float) (room : ℕ) (at : ℕ → Run) (n : ℕ)
+module _ (bins : List ℕ) (setup : Setup) (lists : List Float) (room : ℕ) (at : ℕ → Run) (n : ℕ)
     (good : (i : ℕ) → i < n → at i .converged ≡ true → badCost (at i .cost) ≡ false) where
   abbrev valid : Run → Bool
-  valid = validRun bins frame lists room
+  valid = validRun bins setup lists room
 
   abbrev all : Run → Bool
   all run = run .converged
 
-  pub kept-run : KeptRun at valid n (keptOf bins frame lists room at n)
+  pub kept-run : KeptRun at valid n (keptOf bins setup lists room at n)
   unfolding keptOf
   kept-run =
       go (leastOf at valid n) (leastOf at all n)
-      (found at valid (valid-converged bins frame lists room) n
-      (λ (i : ℕ) (l : i < n) (h : valid (at i) ≡ true). good i l (valid-converged bins frame lists room (at i) h)))
+      (found at valid (valid-converged bins setup lists room) n
+      (λ (i : ℕ) (l : i < n) (h : valid (at i) ≡ true). good i l (valid-converged bins setup lists room (at i) h)))
       (found at all (λ (r : Run) (e : r .converged ≡ true). e) n good)
     where
       where-some : (best other : Best) → best .run .converged ≡ true → cond (best .run .converged) best other ≡ best
@@ -153,7 +153,7 @@ module _ (bins : List ℕ) (frame : Frame) (lists : List Float) (room : ℕ) (at
           → KeptRun at valid n (cond (best .run .converged) best other)
       go best other (one f) g =
           subst (KeptRun at valid n)
-          (sym (where-some best other (valid-converged bins frame lists room (best .run) (f .holds)))) (is-valid f)
+          (sym (where-some best other (valid-converged bins setup lists room (best .run) (f .holds)))) (is-valid f)
       go best other (none z none-valid) (one g) =
           subst (KeptRun at valid n) (sym (else-so best other z)) (is-rejected none-valid g)
       go best other (none z none-valid) (none y none-there) =

@@ -9,7 +9,7 @@ use borrow.Author.Tests.{ltb-false, eqb-true, eq-eqb, ne-eqb, le-ltb, not-false}
 use lib.Dec.{ltb, eqb}
 use lib.ListN.{length, length-take, length-drop}
 use lib.Ieee.{Float}
-use Rattle.meaning.specs.Reply.{give, firstOf}
+use Rattle.meaning.specs.Reply.{Reply, give, firstOf}
 use Rattle.meaning.specs.Rows.{most, inOrder, few, many, noWindow}
 use Rattle.meaning.proofs.Chains.{goes-on, chain-passed}
 use Rattle.meaning.proofs.Rows.{many-clear}
@@ -19,12 +19,10 @@ use Rattle.models.specs.Masses.{entriesOf}
 use Rattle.models.specs.Params.{paramsOf}
 use Rattle.models.specs.Refusals.{tableDemand, wrongList, shortTable, spectrumTests, fitTests}
 use Rattle.models.specs.Spectra.{windowOf}
-use Rattle.models.specs.Unpacking.{fitWith, fitOf, fitAt, unpackOf, unpackAt}
+use Rattle.models.specs.Unpacking.{fitWith, fitOf, fitAt, fitAnswerOf, unpackOf}
 use Rattle.models.specs.declared.fit.SpectrumFit.{SpectrumFit}
 use Rattle.models.specs.declared.params.Params.{Params}
-use Rattle.models.proofs.Filled.{entries-fit}
 use Rattle.models.proofs.Passed.{spectrum-passed}
-use Rattle.fitter.specs.Attempting.{frameOf}
 use Rattle.fitter.specs.Candidates.{LongEnough, listOf, unpackRun, RunFit}
 use Rattle.fitter.specs.Judging.{fitOfRun, judgedOf}
 use Rattle.fitter.specs.Runs.{wrongPlace, wrongRun, listAt}
@@ -69,7 +67,7 @@ module _ (bins : List ℕ) (setup : Setup) where
   p list = paramsOf (setup .error) (setup .genome) (ofCount (setup .peak)) list
 
   -- the fit of a list, with all of the shelf's entries
-  abbrev whole : List Float → Float → ℕ → SpectrumFit
+  abbrev pub whole : List Float → Float → ℕ → SpectrumFit
   whole list cost iterations =
       fitAt bins (windowOf bins (setup .scale) end) (setup .error) (setup .genome) (p list)
       (entriesOf (p list .shelf) (p list .mean) end) cost iterations
@@ -114,25 +112,49 @@ module _ (bins : List ℕ) (setup : Setup) where
         (goes-on (noWindow end) (inOrder limit) refl (rw (ne-eqb end 0 (λ (e : end ≡ 0). omega arith))) 0
         (all .limited))))
 
-    module _ (lists : List Float) (run : Run) where
+    -- what `unpack` answers for a list of the right length, whatever the table's
+    unpacked : (list : List Float) (cost : Float) (iterations other : ℕ)
+        → length list ≡ listLengthOf (setup .error) (setup .genome) → LongEnough setup other
+        → unpackOf bins (setup .scale) end (setup .peak) (setup .error) (setup .genome) list cost iterations other
+        ≡ give (whole list cost iterations)
+    unfolding unpackOf
+    unpacked list cost iterations other e h =
+        chain-passed (give (whole list cost iterations))
+        (fitTests bins (setup .scale) end (setup .peak) (setup .error) (setup .genome) (length list) other)
+        (unfold fitTests spectrumTests in refl) (unpack-passes (length list) other e h)
+
+    module _ (lists : List Float) (run : Run) (converged : run .converged ≡ true)
+        (right : wrongRun (length lists) (listLengthOf (setup .error) (setup .genome)) run ≡ false) where
+      abbrev wanted : ℕ
+      wanted = listLengthOf (setup .error) (setup .genome)
+
       abbrev fit : SpectrumFit
-      fit = fitOfRun bins (frameOf bins setup) lists room run
+      fit = fitOfRun bins setup lists room run
 
       abbrev list : List Float
-      list = listAt lists (run .place) (run .length)
+      list = listOf lists run
 
-      -- the lent table's length has no part in the fit
-      pub fit-whole : fit ≡ whole list (run .cost) (run .iterations)
-      unfolding fitOfRun unpackAt frameOf
+      unpack-run : (other : ℕ) → LongEnough setup other
+          → unpackRun bins setup lists run other ≡ give (whole list (run .cost) (run .iterations))
+      unpack-run other = unpacked list (run .cost) (run .iterations) other (list-long lists wanted run converged right)
+
+      fit-whole : fit ≡ whole list (run .cost) (run .iterations)
+      unfolding fitOfRun
       fit-whole =
-          ap (λ (entries : List Float).
-          fitAt bins (windowOf bins (setup .scale) end) (setup .error) (setup .genome) (p list) entries (run .cost)
-          (run .iterations))
-          (entries-fit (setup .genome) end room end-some end-few (all .roomed) (setup .error) (ofCount (setup .peak)) list)
+          ap (λ (l : List Float).
+          fitAnswerOf
+          (unpackOf bins (setup .scale) end (setup .peak) (setup .error) (setup .genome) l (run .cost) (run .iterations)
+          room)
+          .fit)
+          (list-is lists wanted run converged right)
+          ∙ ap (λ (r : Reply SpectrumFit). fitAnswerOf r .fit) (unpack-run room (all .roomed))
+
+      unpack-is : (other : ℕ) → LongEnough setup other → unpackRun bins setup lists run other ≡ give fit
+      unpack-is other h = unpack-run other h ∙ ap give (sym fit-whole)
 
       fit-end : fit .«fit_window_end» ≡ end
-      unfolding fitOfRun unpackAt fitAt fitOf fitWith frameOf
-      fit-end = refl
+      unfolding fitAt fitOf fitWith
+      fit-end = ap (λ (f : SpectrumFit). f .«fit_window_end») fit-whole
 
       validate-is : validateOf fit (setup .valley) (setup .peak) (setup .«mass_limit»)
           ≡ give (verdictOf fit (setup .valley) (setup .peak) (setup .«mass_limit»))
@@ -145,29 +167,13 @@ module _ (bins : List ℕ) (setup : Setup) where
           (λ (top : ℕ). 0 ≡ firstOf (validateTests top (setup .valley) (setup .peak) (setup .«mass_limit»)))
           (sym fit-end) validate-passes)
 
-      module _ (converged : run .converged ≡ true)
-          (right : wrongRun (length lists) (listLengthOf (setup .error) (setup .genome)) run ≡ false) where
-        abbrev wanted : ℕ
-        wanted = listLengthOf (setup .error) (setup .genome)
-
-        unpack-is : (other : ℕ) → LongEnough setup other → unpackRun bins setup lists run other ≡ give fit
-        unfolding unpackOf
-        unpack-is other h =
-            chain-passed (give (whole (listOf lists run) (run .cost) (run .iterations)))
-            (fitTests bins (setup .scale) end (setup .peak) (setup .error) (setup .genome) (length (listOf lists run)) other)
-            (unfold fitTests spectrumTests in refl)
-            (unpack-passes (length (listOf lists run)) other (list-long lists wanted run converged right) h)
-            ∙ ap (λ (l : List Float). give (whole l (run .cost) (run .iterations)))
-            (sym (list-is lists wanted run converged right))
-            ∙ ap give (sym fit-whole)
-
-        pub run-fit : let judged = judgedOf bins (frameOf bins setup) lists room run in
-            RunFit bins setup lists run (judged .fit) (judged .rejection)
-        unfolding judgedOf frameOf
-        run-fit = record {
-          inside = in-lists lists wanted run converged right;
-          unpacked = unpack-is;
-          verdict = verdictOf fit (setup .valley) (setup .peak) (setup .«mass_limit»);
-          validated = validate-is;
-          said = refl;
-        }
+      pub run-fit : let judged = judgedOf bins setup lists room run in
+          RunFit bins setup lists run (judged .fit) (judged .rejection)
+      unfolding judgedOf
+      run-fit = record {
+        inside = in-lists lists wanted run converged right;
+        unpacked = unpack-is;
+        verdict = verdictOf fit (setup .valley) (setup .peak) (setup .«mass_limit»);
+        validated = validate-is;
+        said = refl;
+      }

@@ -12,9 +12,9 @@ use lib.Ieee.{Float}
 use Rattle.meaning.specs.Reply.{firstOf}
 use Rattle.meaning.proofs.Folds.{fold-none, fold-more}
 use Rattle.models.specs.Families.{listLengthOf}
-use Rattle.fitter.specs.Attempting.{surveyTests, frameOf, attemptAnswerOf, attemptFrom, standsFrom}
+use Rattle.fitter.specs.Attempting.{surveyTests, attemptAnswerOf, attemptFrom, standsFrom}
 use Rattle.fitter.specs.Judging.{tableFrom, retryStep, retriedOf}
-use Rattle.fitter.specs.Settling.{noFrame, closedBy, settleOf, withHeld, finishOf, surveyed, settled}
+use Rattle.fitter.specs.Settling.{closedBy, settleOf, withHeld, finishOf, surveyed, settled}
 use Rattle.fitter.specs.Surveys.{noSurvey, surveyStep, surveyOf}
 use Rattle.fitter.specs.Turns.{emptySettled, beginOf, secondFrom, goneOn, settledTo, firstStands}
 use Rattle.fitter.specs.Turns.{firstTurn, secondTurn, turnOf, turnStands}
@@ -26,7 +26,7 @@ use Rattle.fitter.specs.declared.settling.Setup.{Setup}
 use Rattle.fitter.specs.declared.surveys.Survey.{Survey}
 use Rattle.fitter.specs.declared.turns.Turns.{Turns}
 use Rattle.fitter.proofs.Answered.{one-pass, two-passes, one-stands, two-stand}
-use Rattle.fitter.proofs.Settlement.{unsettled-is, stands}
+use Rattle.fitter.proofs.Settlement.{unsettled-is}
 
 -- ---- a turn of the first pass, by the answers of its calls
 module _ (bins : List ℕ) (setup : Setup) (lists : List Float) (room : ℕ) (run : Run) (t : Turns) where
@@ -60,12 +60,12 @@ module _ (bins : List ℕ) (setup : Setup) (lists : List Float) (room : ℕ) (ru
   pub turn-first : t .surveyed ≡ false → firstTurn bins setup lists room run t ≡ turnOf bins setup lists room run t
   unfolding turnOf
   turn-first h =
-      sym (ap (λ (b : Bool). cond b (secondTurn bins lists room run t) (firstTurn bins setup lists room run t)) h)
+      sym (ap (λ (b : Bool). cond b (secondTurn bins setup lists room run t) (firstTurn bins setup lists room run t)) h)
 
-  pub turn-second : t .surveyed ≡ true → secondTurn bins lists room run t ≡ turnOf bins setup lists room run t
+  pub turn-second : t .surveyed ≡ true → secondTurn bins setup lists room run t ≡ turnOf bins setup lists room run t
   unfolding turnOf
   turn-second h =
-      sym (ap (λ (b : Bool). cond b (secondTurn bins lists room run t) (firstTurn bins setup lists room run t)) h)
+      sym (ap (λ (b : Bool). cond b (secondTurn bins setup lists room run t) (firstTurn bins setup lists room run t)) h)
 
 -- ---- the turns that are left
 nearer : (n i : ℕ) → i < n → n - (i + 1) + (n + 1) < n - i + (n + 1)
@@ -96,7 +96,7 @@ module _ (bins : List ℕ) (setup : Setup) (lists : List Float) (room : ℕ) (at
   kept table = drop (standsFrom setup (so .number)) table ≡ drop (standsFrom setup (so .number)) old
 
   abbrev retried : ℕ → Held
-  retried i = retriedOf bins (so .frame) lists room at i (so .held)
+  retried i = retriedOf bins setup lists room at i (so .held)
 
   -- the first pass writes nothing; behind it one run settled the attempt, or a second pass goes on
   pub data Stage (t : Turns) (table : List Float) : Type 0 where
@@ -167,9 +167,9 @@ module _ (bins : List ℕ) (setup : Setup) (lists : List Float) (room : ℕ) (at
 
     -- what the turn leaves of the table, by its pass
     stands-by : (b : Bool) → t .surveyed ≡ b
-        → Same-from (cond b (tableFrom (t .settled .frame)) (firstStands setup r)) after table
+        → Same-from (cond b (tableFrom setup) (firstStands setup r)) after table
     stands-by b p =
-        subst (λ (c : Bool). Same-from (cond c (tableFrom (t .settled .frame)) (firstStands setup r)) after table) p h
+        subst (λ (c : Bool). Same-from (cond c (tableFrom setup) (firstStands setup r)) after table) p h
 
     -- the survey is that of one run more
     survey-more : t .survey ≡ surveyed-to i
@@ -179,16 +179,16 @@ module _ (bins : List ℕ) (setup : Setup) (lists : List Float) (room : ℕ) (at
         ap (surveyStep (length lists) wanted i (at i)) e
         ∙ sym (fold-more (λ (k : ℕ) (s : Survey). surveyStep (length lists) wanted k (at k) s) 0 i noSurvey zero-le)
 
-    retried-more : retryStep bins (so .frame) lists room i (at i) (retried i) ≡ retried (i + 1)
+    retried-more : retryStep bins setup lists room i (at i) (retried i) ≡ retried (i + 1)
     unfolding retriedOf
     retried-more =
         sym
-        (fold-more (λ (k : ℕ) (x : Held). retryStep bins (so .frame) lists room k (at k) x) 0 i (so .held) zero-le)
+        (fold-more (λ (k : ℕ) (x : Held). retryStep bins setup lists room k (at k) x) 0 i (so .held) zero-le)
 
     retried-none : retried 0 ≡ so .held
     unfolding retriedOf
     retried-none =
-        fold-none (λ (k : ℕ) (x : Held). retryStep bins (so .frame) lists room k (at k) x) 0 0 (so .held) zero-le
+        fold-none (λ (k : ℕ) (x : Held). retryStep bins setup lists room k (at k) x) 0 0 (so .held) zero-le
 
     less-by : (k : ℕ) (b c : Bool) → r .next ≡ k → r .surveyed ≡ b → t .surveyed ≡ c
         → n - k + cond b 0 (n + 1) < n - i + cond c 0 (n + 1) → left r < left t
@@ -280,23 +280,22 @@ module _ (bins : List ℕ) (setup : Setup) (lists : List Float) (room : ℕ) (at
     goes-second : t .surveyed ≡ true → t .survey ≡ surveyed bins setup lists room at n → so .unsettled ≡ true
         → t .settled ≡ withHeld so (retried i) → kept table → Further
     goes-second p e u f k =
-        let d : r ≡ secondTurn bins lists room (at i) t = g ∙ sym (turn-second bins setup lists room (at i) t p) in
+        let d : r ≡ secondTurn bins setup lists room (at i) t = g ∙ sym (turn-second bins setup lists room (at i) t p) in
         let next : r .next ≡ i + 1 = ap (λ (x : Turns). x .next) d in
         let is = unsettled-is bins setup n (surveyed bins setup lists room at n) lists room u in
         let written : drop (standsFrom setup 0) after ≡ drop (standsFrom setup 0) table =
-        stands bins setup (t .settled .frame) table after (ap (λ (x : Settled). x .frame) f ∙ is .1)
-        (stands-by true p) in (
+        stands-by true p in (
           record {
             runs = ap (λ (x : Turns). x .runs) d ∙ w .runs;
             within = omega arith;
             stage =
                 retrying (ap (λ (x : Turns). x .surveyed) d) (ap (λ (x : Turns). x .survey) d ∙ e) u
                 (ap (λ (x : Turns). x .settled) d
-                ∙ ap (λ (s : Settled). withHeld s (retryStep bins (s .frame) lists room i (at i) (s .held))) f
+                ∙ ap (λ (s : Settled). withHeld s (retryStep bins setup lists room i (at i) (s .held))) f
                 ∙ ap (withHeld so) retried-more
                 ∙ ap (λ (m : ℕ). withHeld so (retried m)) (sym next))
-                (subst (λ (m : ℕ). Same-from (standsFrom setup m) after old) (sym (is .0))
-                (written ∙ subst (λ (m : ℕ). Same-from (standsFrom setup m) table old) (is .0) k));
+                (subst (λ (m : ℕ). Same-from (standsFrom setup m) after old) (sym is)
+                (written ∙ subst (λ (m : ℕ). Same-from (standsFrom setup m) table old) is k));
           },
           less-by (i + 1) true true next (ap (λ (x : Turns). x .surveyed) d) p (nearer-second n i l),
         )
@@ -328,8 +327,8 @@ module _ (bins : List ℕ) (setup : Setup) (lists : List Float) (room : ℕ) (at
   empty-through = go (eqb (firstOf (surveyTests bins setup 0 noSurvey room)) 0)
     where
       go : (b : Bool)
-          → cond b (closedBy 0 (frameOf bins setup))
-          (closedBy (firstOf (surveyTests bins setup 0 noSurvey room)) noFrame) .unsettled
+          → cond b (closedBy 0 setup)
+          (closedBy (firstOf (surveyTests bins setup 0 noSurvey room)) setup) .unsettled
           ≡ false
       go true = refl
       go false = refl

@@ -10,7 +10,6 @@ use Rattle.meaning.specs.Reply.{Reply, refuse, broken, give, Test, test, chain}
 use Rattle.meaning.specs.Rows.{inOrder, few, many}
 use Rattle.models.specs.Families.{listLengthOf}
 use Rattle.models.specs.Refusals.{spectrumTests, tableDemand, shortTable}
-use Rattle.models.specs.Spectra.{windowOf}
 use Rattle.models.specs.Unpacking.{emptyFit}
 use Rattle.models.specs.declared.families.ErrorModel.the-variants.{FreeSingletonWeibull}
 use Rattle.models.specs.declared.families.GenomeModel.the-variants.{NegativeBinomial}
@@ -21,7 +20,6 @@ use Rattle.fitter.specs.declared.attempts.RejectionPart.the-variants.{Ab
 use Rattle.fitter.specs.declared.rejections.FitRejection.the-variants as reason
 use Rattle.fitter.specs.Judging.{judgedOf, keptOf}
 use Rattle.fitter.specs.Runs.{wrongRun, badRun, anyOf, iterationsOf, cappedOf}
-use Rattle.fitter.specs.declared.judging.Frame.{Frame}
 use Rattle.fitter.specs.declared.runs.Run.{Run}
 use Rattle.fitter.specs.declared.settling.AttemptAnswer.{AttemptAnswer}
 use Rattle.fitter.specs.declared.settling.Setup.{Setup}
@@ -54,16 +52,6 @@ abbrev pub surveyTests : List ℕ → Setup → ℕ → Survey → ℕ → List 
 surveyTests bins setup runs survey room = setupTests bins setup runs (survey .wrong) (survey .bad) room
 
 -- ---- the attempt
-unfoldable pub frameOf : List ℕ → Setup → Frame
-frameOf bins setup = record {
-  window = windowOf bins (setup .scale) (setup .«window_end»);
-  peak = setup .peak;
-  valley = setup .valley;
-  error = setup .error;
-  genome = setup .genome;
-  «mass_limit» = setup .«mass_limit»;
-}
-
 module _ (bins : List ℕ) (setup : Setup) (lists : List Float) (room : ℕ) (at : ℕ → Run) (n : ℕ) where
   abbrev pub wanted : ℕ
   wanted = listLengthOf (setup .error) (setup .genome)
@@ -77,7 +65,7 @@ module _ (bins : List ℕ) (setup : Setup) (lists : List Float) (room : ℕ) (at
   -- the run that is kept is the candidate; a run that did not converge stands for none
   abbrev pub candidateOf : Best → FitAttempt
   candidateOf best =
-      let judged = judgedOf bins (frameOf bins setup) lists room (best .run) in
+      let judged = judgedOf bins setup lists room (best .run) in
       cond (best .run .converged)
       (attemptOf (setup .error) (setup .genome) true (judged .fit) (judged .rejection) (iterationsOf at n)
       (cappedOf at n))
@@ -85,7 +73,7 @@ module _ (bins : List ℕ) (setup : Setup) (lists : List Float) (room : ℕ) (at
       (cappedOf at n))
 
   unfoldable pub attemptFrom : Reply FitAttempt
-  attemptFrom = chain attemptTests (give (candidateOf (keptOf bins (frameOf bins setup) lists room at n)))
+  attemptFrom = chain attemptTests (give (candidateOf (keptOf bins setup lists room at n)))
 
 -- the attempt beside a number
 abbrev pub emptyAttempt : FitAttempt

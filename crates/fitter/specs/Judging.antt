@@ -6,7 +6,7 @@ use mathlib.Core.List.{List}
 use lib.Ieee.{Float, lt}
 use Rattle.meaning.specs.Fold.{fold}
 use Rattle.models.specs.Refusals.{tableDemand}
-use Rattle.models.specs.Unpacking.{unpackAt}
+use Rattle.models.specs.Unpacking.{fitAnswerOf, unpackOf}
 use Rattle.models.specs.declared.fit.SpectrumFit.{SpectrumFit}
 use Rattle.fitter.specs.Attempts.{unrejected}
 use Rattle.fitter.specs.Validation.{Judgement, valid, rejected, verdictOf, reasonAt}
@@ -17,10 +17,10 @@ use Rattle.fitter.specs.declared.validation.Verdict.{Verdict}
 use Rattle.fitter.specs.declared.validation.Verdict.the-variants.{Valid, Rejected, Refused}
 use Rattle.fitter.specs.Runs.{listAt}
 use Rattle.fitter.specs.Surveys.{bestOf, leastOf}
-use Rattle.fitter.specs.declared.judging.Frame.{Frame}
 use Rattle.fitter.specs.declared.judging.Held.{Held}
 use Rattle.fitter.specs.declared.judging.Judged.{Judged}
 use Rattle.fitter.specs.declared.runs.Run.{Run}
+use Rattle.fitter.specs.declared.settling.Setup.{Setup}
 use Rattle.fitter.specs.declared.surveys.Best.{Best}
 
 abbrev pub rejectionOf : Judgement → RejectionPart
@@ -34,24 +34,28 @@ rejectionSaid (Rejected why) = Present why
 rejectionSaid (Refused n) = Present reason.OptimisationFailed
 
 -- from where on the shelf's table stands as found
-abbrev pub tableFrom : Frame → ℕ
-tableFrom frame = tableDemand (frame .genome) (frame .window .end)
+abbrev pub tableFrom : Setup → ℕ
+tableFrom setup = tableDemand (setup .genome) (setup .«window_end»)
 
 -- whether a run of this cost is kept instead, should it be valid
 unfoldable pub couldWin : Held → Float → Bool
 couldWin held cost = cond (unrejected (held .judged .rejection)) (lt cost (held .best .run .cost)) true
 
 -- ---- a run, judged: `lists` holds all lists, `room` is the length of the shelf's table
-module _ (bins : List ℕ) (frame : Frame) (lists : List Float) (room : ℕ) where
+module _ (bins : List ℕ) (setup : Setup) (lists : List Float) (room : ℕ) where
+  -- the fit that `unpack` answers; where it refuses, which it does for no run of an attempt that passed (`unpack-is`,
+  -- proofs/RunFits.antt), the empty fit, which no rule lets pass
   unfoldable pub fitOfRun : Run → SpectrumFit
   fitOfRun run =
-      unpackAt bins (frame .window) (frame .peak) (frame .error) (frame .genome)
-      (listAt lists (run .place) (run .length)) (run .cost) (run .iterations) room
+      fitAnswerOf
+      (unpackOf bins (setup .scale) (setup .«window_end») (setup .peak) (setup .error) (setup .genome)
+      (listAt lists (run .place) (run .length)) (run .cost) (run .iterations) room)
+      .fit
 
   unfoldable pub judgedOf : Run → Judged
   judgedOf run =
       let fit = fitOfRun run in
-      record { fit = fit; rejection = rejectionOf (verdictOf fit (frame .valley) (frame .peak) (frame .«mass_limit»)) }
+      record { fit = fit; rejection = rejectionOf (verdictOf fit (setup .valley) (setup .peak) (setup .«mass_limit»)) }
 
   -- a run that converged to a valid fit
   unfoldable pub validRun : Run → Bool

@@ -7,18 +7,14 @@ use lib.Dec.{eqb}
 use lib.ListN.{length}
 use lib.Ieee.{Float}
 use Rattle.meaning.specs.Reply.{firstOf}
-use Rattle.routines.specs.Constants as float
 use Rattle.models.specs.Families.{listLengthOf}
 use Rattle.models.specs.Unpacking.{emptyFit}
-use Rattle.models.specs.declared.families.ErrorModel.the-variants.{FreeSingletonWeibull}
-use Rattle.models.specs.declared.families.GenomeModel.the-variants.{NegativeBinomial}
 use Rattle.fitter.specs.Attempts.{attemptOf, unrejected}
 use Rattle.fitter.specs.declared.attempts.RejectionPart.the-variants.{Absent, Present}
 use Rattle.fitter.specs.declared.rejections.FitRejection.the-variants as reason
-use Rattle.fitter.specs.Attempting.{surveyTests, frameOf, refusedOf}
+use Rattle.fitter.specs.Attempting.{surveyTests, refusedOf}
 use Rattle.fitter.specs.Judging.{heldOf, retriedOf}
 use Rattle.fitter.specs.Surveys.{noBest, surveyOf}
-use Rattle.fitter.specs.declared.judging.Frame.{Frame}
 use Rattle.fitter.specs.declared.judging.Held.{Held}
 use Rattle.fitter.specs.declared.runs.Run.{Run}
 use Rattle.fitter.specs.declared.settling.AttemptAnswer.{AttemptAnswer}
@@ -26,59 +22,48 @@ use Rattle.fitter.specs.declared.settling.Settled.{Settled}
 use Rattle.fitter.specs.declared.settling.Setup.{Setup}
 use Rattle.fitter.specs.declared.surveys.Survey.{Survey}
 
-unfoldable pub noFrame : Frame
-noFrame = record {
-  window = record { scale = float.zero; end = 0; observed = float.zero; full = float.zero };
-  peak = 0;
-  valley = 0;
-  error = FreeSingletonWeibull;
-  genome = NegativeBinomial;
-  «mass_limit» = float.zero;
-}
-
 unfoldable pub noHeld : Held
 noHeld = record { best = noBest; judged = record { fit = emptyFit; rejection = Absent } }
 
-abbrev pub closedBy : ℕ → Frame → Settled
-closedBy number frame = record { number = number; unsettled = false; frame = frame; held = noHeld }
+abbrev pub closedBy : ℕ → Setup → Settled
+closedBy number setup = record { number = number; unsettled = false; setup = setup; held = noHeld }
 
 -- unsettled where it is rejected
-abbrev pub heldBy : Frame → Held → Settled
-heldBy frame held =
-    record { number = 0; unsettled = not (unrejected (held .judged .rejection)); frame = frame; held = held }
+abbrev pub heldBy : Setup → Held → Settled
+heldBy setup held =
+    record { number = 0; unsettled = not (unrejected (held .judged .rejection)); setup = setup; held = held }
 
 unfoldable pub settleOf : List ℕ → Setup → ℕ → Survey → List Float → ℕ → Settled
 settleOf bins setup runs survey lists room =
     let number = firstOf (surveyTests bins setup runs survey room) in
-    let frame = frameOf bins setup in
     cond (eqb number 0)
-    (cond (survey .least .run .converged) (heldBy frame (heldOf bins frame lists room (survey .least)))
-    (closedBy 0 frame))
-    (closedBy number noFrame)
+    (cond (survey .least .run .converged) (heldBy setup (heldOf bins setup lists room (survey .least)))
+    (closedBy 0 setup))
+    (closedBy number setup)
 
 abbrev pub withHeld : Settled → Held → Settled
-withHeld s held = record { number = s .number; unsettled = s .unsettled; frame = s .frame; held = held }
+withHeld s held = record { number = s .number; unsettled = s .unsettled; setup = s .setup; held = held }
 
-abbrev pub failedOf : Frame → Survey → AttemptAnswer
-failedOf frame survey = record {
+abbrev pub failedOf : Setup → Survey → AttemptAnswer
+failedOf setup survey = record {
   number = 0;
   attempt =
-      attemptOf (frame .error) (frame .genome) false emptyFit (Present reason.OptimisationFailed) (survey .iterations)
+      attemptOf (setup .error) (setup .genome) false emptyFit (Present reason.OptimisationFailed) (survey .iterations)
       (survey .capped);
 }
 
-abbrev pub keptAnswer : Frame → Survey → Held → AttemptAnswer
-keptAnswer frame survey held = record {
+abbrev pub keptAnswer : Setup → Survey → Held → AttemptAnswer
+keptAnswer setup survey held = record {
   number = 0;
   attempt =
-      attemptOf (frame .error) (frame .genome) true (held .judged .fit) (held .judged .rejection) (survey .iterations)
+      attemptOf (setup .error) (setup .genome) true (held .judged .fit) (held .judged .rejection) (survey .iterations)
       (survey .capped);
 }
 
 unfoldable pub finishOf : Survey → Settled → AttemptAnswer
 finishOf survey s =
     cond (eqb (s .number) 0)
-    (cond (s .held .best .run .converged) (keptAnswer (s .frame) survey (s .held)) (failedOf (s .frame) survey))
+    (cond (s .held .best .run .converged) (keptAnswer (s .setup) survey (s .held)) (failedOf (s .setup) survey))
     (refusedOf (s .number))
 
 -- ---- the whole
@@ -91,7 +76,7 @@ module _ (bins : List ℕ) (setup : Setup) (lists : List Float) (room : ℕ) (at
 
   -- the second pass, where the first left it unsettled
   abbrev pub again : Settled → Settled
-  again s = cond (s .unsettled) (withHeld s (retriedOf bins (s .frame) lists room at n (s .held))) s
+  again s = cond (s .unsettled) (withHeld s (retriedOf bins setup lists room at n (s .held))) s
 
   unfoldable pub answeredOf : AttemptAnswer
   answeredOf = finishOf surveyed (again settled)

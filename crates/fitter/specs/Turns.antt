@@ -65,20 +65,19 @@ abbrev pub firstStands : Setup → Turns → ℕ
 firstStands setup r = cond (r .surveyed) (standsFrom setup (r .settled .number)) 0
 
 -- ---- the second pass
-abbrev pub secondTurn : List ℕ → List Float → ℕ → Run → Turns → Turns
-secondTurn bins lists room run t = record {
+abbrev pub secondTurn : List ℕ → Setup → List Float → ℕ → Run → Turns → Turns
+secondTurn bins setup lists room run t = record {
   next = t .next + 1;
   runs = t .runs;
   surveyed = true;
   survey = t .survey;
-  settled =
-      withHeld (t .settled) (retryStep bins (t .settled .frame) lists room (t .next) run (t .settled .held));
+  settled = withHeld (t .settled) (retryStep bins setup lists room (t .next) run (t .settled .held));
 }
 
 -- ---- a turn of either
 unfoldable pub turnOf : List ℕ → Setup → List Float → ℕ → Run → Turns → Turns
 turnOf bins setup lists room run t =
-    cond (t .surveyed) (secondTurn bins lists room run t) (firstTurn bins setup lists room run t)
+    cond (t .surveyed) (secondTurn bins setup lists room run t) (firstTurn bins setup lists room run t)
 
 abbrev pub turnStands : Setup → Turns → Turns → ℕ
-turnStands setup t r = cond (t .surveyed) (tableFrom (t .settled .frame)) (firstStands setup r)
+turnStands setup t r = cond (t .surveyed) (tableFrom setup) (firstStands setup r)

@@ -58,7 +58,7 @@ pub fn attempt_from_numbers(
             iterations,
             caps,
             bins,
-            first.frame,
+            setup,
             lists,
             table,
         );

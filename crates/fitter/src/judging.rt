@@ -1,6 +1,6 @@
 // A converged run as a fit, with what speaks against it, and the run that is kept.
 // Ported from src/preprocessing/spectrum_fitter.rs of bacpop/sparrowhawk-asm, f1f8af1232, Apache-2.0; ported and
-// changed: the window is worked out once, and a search for the least stands for the stable sort.
+// changed: a search for the least stands for the stable sort.
 ghost use mathlib.Core.Path.{_≡_};
 ghost use lib.ListN.{length, drop};
 ghost use Rattle.fitter.specs.Attempts.{unrejected};
@@ -11,24 +11,12 @@ use crate::runs::Run;
 use crate::runs::RunPoint;
 use crate::runs::list_at;
 use crate::runs::run_point;
+use crate::settling::Setup;
 use crate::surveys::Best;
 use crate::validation::Verdict;
 use crate::validation::judge;
-use models::families::ErrorModel;
-use models::families::GenomeModel;
 use models::fit::SpectrumFit;
-use models::spectra::Window;
-use models::unpacking::unpack_at;
-
-// What all runs of an attempt are judged by, once nothing is refused.
-pub struct Frame {
-    pub window: Window,
-    pub peak: u16,
-    pub valley: usize,
-    pub error: ErrorModel,
-    pub genome: GenomeModel,
-    pub mass_limit: f64,
-}
+use models::unpacking::unpack;
 
 // A fit, and why it is not used; absent where it is valid.
 pub struct Judged {
@@ -65,22 +53,22 @@ pub(crate) fn is_unrejected(rejection: RejectionPart) -> bool
 // A run's list as a fit, judged. The shelf's table is written where there is a shelf.
 pub(crate) fn judge_run(
     bins: &[u32],
-    frame: Frame,
+    setup: Setup,
     run: Run,
     lists: &[f64],
     table: &mut [f64],
 ) -> Judged
-    ensures { λ r. ⌜ r ≡ judgedOf (now (bins .entry)) frame (now (lists .entry)) (length (now (table .entry))) run ⌝ }
-    ensures { λ _. ⌜ drop (tableFrom frame) (now (table .exit)) ≡ drop (tableFrom frame) (now (table .entry)) ⌝ }
+    ensures { λ r. ⌜ r ≡ judgedOf (now (bins .entry)) setup (now (lists .entry)) (length (now (table .entry))) run ⌝ }
+    ensures { λ _. ⌜ drop (tableFrom setup) (now (table .exit)) ≡ drop (tableFrom setup) (now (table .entry)) ⌝ }
 {
-    let window = frame.window;
-    let error = frame.error;
-    let genome = frame.genome;
+    let error = setup.error;
+    let genome = setup.genome;
     let list = list_at(lists, run.place, run.length);
-    let fit = unpack_at(
+    let answer = unpack(
         bins,
-        window,
-        frame.peak,
+        setup.scale,
+        setup.window_end,
+        setup.peak,
         error,
         genome,
         list,
@@ -88,7 +76,8 @@ pub(crate) fn judge_run(
         run.iterations,
         table,
     );
-    let verdict = judge(fit, frame.valley, frame.peak as usize, frame.mass_limit);
+    let fit = answer.fit;
+    let verdict = judge(fit, setup.valley, setup.peak, setup.mass_limit);
     let rejection = rejection_of(verdict);
     Judged {
         fit: fit,
@@ -116,12 +105,12 @@ pub(crate) fn retry_run(
     position: usize,
     run: Run,
     bins: &[u32],
-    frame: Frame,
+    setup: Setup,
     lists: &[f64],
     table: &mut [f64],
 ) -> Held
-    ensures { λ r. ⌜ r ≡ retryStep (now (bins .entry)) frame (now (lists .entry)) (length (now (table .entry))) position run held ⌝ }
-    ensures { λ _. ⌜ drop (tableFrom frame) (now (table .exit)) ≡ drop (tableFrom frame) (now (table .entry)) ⌝ }
+    ensures { λ r. ⌜ r ≡ retryStep (now (bins .entry)) setup (now (lists .entry)) (length (now (table .entry))) position run held ⌝ }
+    ensures { λ _. ⌜ drop (tableFrom setup) (now (table .exit)) ≡ drop (tableFrom setup) (now (table .entry)) ⌝ }
 {
     let point = run_point(run);
     let RunPoint::Converged(cost, _) = point else {
@@ -130,7 +119,7 @@ pub(crate) fn retry_run(
     if !could_win(held, cost) {
         return held;
     }
-    let judged = judge_run(bins, frame, run, lists, table);
+    let judged = judge_run(bins, setup, run, lists, table);
     let rejection = judged.rejection;
     if !is_unrejected(rejection) {
         return held;

@@ -7,12 +7,12 @@ ghost use lib.ListN.{length, drop};
 ghost use Rattle.fitter.specs.Columns.{shorter, countOfRuns, runOf};
 ghost use Rattle.fitter.specs.Surveys.{surveyOf};
 ghost use Rattle.fitter.specs.Judging.{tableFrom, retriedOf};
-use crate::judging::Frame;
 use crate::judging::Held;
 use crate::judging::retry_run;
 use crate::runs::Run;
 use crate::runs::RunPoint;
 use crate::runs::run_point;
+use crate::settling::Setup;
 use crate::surveys::Survey;
 use crate::surveys::count_run;
 use crate::surveys::no_survey;
@@ -103,19 +103,19 @@ pub(crate) fn retry_columns(
     iterations: &[u64],
     caps: &[bool],
     bins: &[u32],
-    frame: Frame,
+    setup: Setup,
     lists: &[f64],
     table: &mut [f64],
 ) -> Held
-    ensures { λ r. ⌜ r ≡ retriedOf (now (bins .entry)) frame (now (lists .entry)) (length (now (table .entry))) (runOf (now (converged .entry)) (now (costs .entry)) (now (places .entry)) (now (lengths .entry)) (now (iterations .entry)) (now (caps .entry))) (countOfRuns (now (converged .entry)) (now (costs .entry)) (now (places .entry)) (now (lengths .entry)) (now (iterations .entry)) (now (caps .entry))) held ⌝ }
-    ensures { λ _. ⌜ drop (tableFrom frame) (now (table .exit)) ≡ drop (tableFrom frame) (now (table .entry)) ⌝ }
+    ensures { λ r. ⌜ r ≡ retriedOf (now (bins .entry)) setup (now (lists .entry)) (length (now (table .entry))) (runOf (now (converged .entry)) (now (costs .entry)) (now (places .entry)) (now (lengths .entry)) (now (iterations .entry)) (now (caps .entry))) (countOfRuns (now (converged .entry)) (now (costs .entry)) (now (places .entry)) (now (lengths .entry)) (now (iterations .entry)) (now (caps .entry))) held ⌝ }
+    ensures { λ _. ⌜ drop (tableFrom setup) (now (table .exit)) ≡ drop (tableFrom setup) (now (table .entry)) ⌝ }
 {
     let n = run_count(converged, costs, places, lengths, iterations, caps);
     let mut kept = held;
     let mut i: usize = 0;
     while i < n {
         let run = run_at(converged, costs, places, lengths, iterations, caps, i);
-        kept = retry_run(kept, i, run, bins, frame, lists, table);
+        kept = retry_run(kept, i, run, bins, setup, lists, table);
         i += 1;
     }
     kept

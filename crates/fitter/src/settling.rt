@@ -3,17 +3,14 @@
 // Ported from src/preprocessing/spectrum_fitter.rs of bacpop/sparrowhawk-asm, f1f8af1232, Apache-2.0; ported and
 // changed: what can't be used is refused by number.
 ghost use mathlib.Core.Path.{_≡_};
-ghost use Prim.Native.Nat.{_≤_};
 ghost use lib.ListN.{length, drop};
 ghost use mathlib.Core.List.{[], _∷_};
 ghost use Rattle.meaning.specs.Reply.{test, firstOf};
-ghost use Rattle.meaning.specs.Rows.{most};
-ghost use Rattle.fitter.specs.Attempting.{surveyTests, frameOf, standsFrom, refusedOf};
-ghost use Rattle.fitter.specs.Settling.{noFrame, noHeld, failedOf, keptAnswer, withHeld, settleOf, finishOf};
+ghost use Rattle.fitter.specs.Attempting.{surveyTests, standsFrom, refusedOf};
+ghost use Rattle.fitter.specs.Settling.{noHeld, failedOf, keptAnswer, withHeld, settleOf, finishOf};
 use crate::attempts::FitAttempt;
 use crate::attempts::RejectionPart;
 use crate::attempts::make_attempt;
-use crate::judging::Frame;
 use crate::judging::Held;
 use crate::judging::Judged;
 use crate::judging::is_unrejected;
@@ -28,8 +25,6 @@ use models::families::ErrorModel;
 use models::families::GenomeModel;
 use models::refusals::spectrum_refusal;
 use models::refusals::table_refusal;
-use models::spectra::Window;
-use models::spectra::window_of;
 use models::unpacking::empty_fit;
 
 // The numbers of an attempt: the spectrum's scale and window, what the validator asks, and the families.
@@ -98,24 +93,6 @@ pub(crate) fn attempt_refusal(
     table_refusal(genome, end, room)
 }
 
-// What the runs are judged by, once nothing is refused.
-pub(crate) fn frame_of(bins: &[u32], setup: Setup) -> Frame
-    requires { ⌜ setup .«window_end» ≤ most ⌝ }
-    requires { ⌜ setup .peak ≤ most ⌝ }
-    ensures { λ r. ⌜ r ≡ frameOf (now (bins .entry)) setup ⌝ }
-{
-    let error = setup.error;
-    let genome = setup.genome;
-    Frame {
-        window: window_of(bins, setup.scale, setup.window_end as u16),
-        peak: setup.peak as u16,
-        valley: setup.valley,
-        error: error,
-        genome: genome,
-        mass_limit: setup.mass_limit,
-    }
-}
-
 // A number, beside the empty attempt.
 pub(crate) fn refused(number: u8) -> AttemptAnswer
     ensures { λ r. ⌜ r ≡ refusedOf number ⌝ }
@@ -135,11 +112,11 @@ pub(crate) fn refused(number: u8) -> AttemptAnswer
 }
 
 // No run converged.
-pub(crate) fn failed(frame: Frame, survey: Survey) -> AttemptAnswer
-    ensures { λ r. ⌜ r ≡ failedOf frame survey ⌝ }
+pub(crate) fn failed(setup: Setup, survey: Survey) -> AttemptAnswer
+    ensures { λ r. ⌜ r ≡ failedOf setup survey ⌝ }
 {
-    let error = frame.error;
-    let genome = frame.genome;
+    let error = setup.error;
+    let genome = setup.genome;
     AttemptAnswer {
         number: 0,
         attempt: make_attempt(
@@ -155,11 +132,11 @@ pub(crate) fn failed(frame: Frame, survey: Survey) -> AttemptAnswer
 }
 
 // The run that is kept.
-pub(crate) fn kept(frame: Frame, survey: Survey, held: Held) -> AttemptAnswer
-    ensures { λ r. ⌜ r ≡ keptAnswer frame survey held ⌝ }
+pub(crate) fn kept(setup: Setup, survey: Survey, held: Held) -> AttemptAnswer
+    ensures { λ r. ⌜ r ≡ keptAnswer setup survey held ⌝ }
 {
-    let error = frame.error;
-    let genome = frame.genome;
+    let error = setup.error;
+    let genome = setup.genome;
     let judged = held.judged;
     let fit = judged.fit;
     let rejection = judged.rejection;
@@ -181,26 +158,8 @@ pub(crate) fn kept(frame: Frame, survey: Survey, held: Held) -> AttemptAnswer
 pub struct Settled {
     pub number: u8,
     pub unsettled: bool,
-    pub frame: Frame,
+    pub setup: Setup,
     pub held: Held,
-}
-
-pub(crate) fn no_frame() -> Frame
-    ensures { λ r. ⌜ r ≡ noFrame ⌝ }
-{
-    Frame {
-        window: Window {
-            scale: 0.0,
-            end: 0,
-            observed: 0.0,
-            full: 0.0,
-        },
-        peak: 0,
-        valley: 0,
-        error: ErrorModel::FreeSingletonWeibull,
-        genome: GenomeModel::NegativeBinomial,
-        mass_limit: 0.0,
-    }
 }
 
 pub(crate) fn no_held() -> Held
@@ -235,28 +194,27 @@ pub(crate) fn settle(
         return Settled {
             number,
             unsettled: false,
-            frame: no_frame(),
+            setup: setup,
             held: no_held(),
         };
     }
-    let frame = frame_of(bins, setup);
     let least = survey.least;
     let run = least.run;
     if !run.converged {
         return Settled {
             number: 0,
             unsettled: false,
-            frame: frame,
+            setup: setup,
             held: no_held(),
         };
     }
-    let judged = judge_run(bins, frame, run, lists, table);
+    let judged = judge_run(bins, setup, run, lists, table);
     let rejection = judged.rejection;
     let valid = is_unrejected(rejection);
     Settled {
         number: 0,
         unsettled: !valid,
-        frame: frame,
+        setup: setup,
         held: Held {
             best: least,
             judged: judged,
@@ -268,11 +226,11 @@ pub(crate) fn settle(
 pub(crate) fn with_held(s: Settled, held: Held) -> Settled
     ensures { λ r. ⌜ r ≡ withHeld s held ⌝ }
 {
-    let frame = s.frame;
+    let setup = s.setup;
     Settled {
         number: s.number,
         unsettled: s.unsettled,
-        frame: frame,
+        setup: setup,
         held: held,
     }
 }
@@ -281,14 +239,14 @@ pub(crate) fn finish(s: Settled, survey: Survey) -> AttemptAnswer
     ensures { λ r. ⌜ r ≡ finishOf survey s ⌝ }
 {
     let held = s.held;
-    let frame = s.frame;
+    let setup = s.setup;
     let best = held.best;
     let run = best.run;
     if s.number != 0 {
         return refused(s.number);
     }
     if run.converged {
-        return kept(frame, survey, held);
+        return kept(setup, survey, held);
     }
-    failed(frame, survey)
+    failed(setup, survey)
 }

@@ -16,8 +16,6 @@ use crate::settling::Settled;
 use crate::settling::Setup;
 use crate::settling::attempt_refusal;
 use crate::settling::finish;
-use crate::settling::frame_of;
-use crate::settling::no_frame;
 use crate::settling::no_held;
 use crate::settling::settle;
 use crate::settling::with_held;
@@ -46,14 +44,14 @@ pub(crate) fn settle_empty(bins: &[u32], setup: Setup, room: usize) -> Settled
         return Settled {
             number,
             unsettled: false,
-            frame: no_frame(),
+            setup: setup,
             held: no_held(),
         };
     }
     Settled {
         number: 0,
         unsettled: false,
-        frame: frame_of(bins, setup),
+        setup: setup,
         held: no_held(),
     }
 }
@@ -125,16 +123,17 @@ pub(crate) fn retry_turn(
     t: Turns,
     run: Run,
     bins: &[u32],
+    setup: Setup,
     lists: &[f64],
     table: &mut [f64],
 ) -> Turns
     requires { ⌜ t .next < t .runs ⌝ }
-    ensures { λ r. ⌜ r ≡ secondTurn (now (bins .entry)) (now (lists .entry)) (length (now (table .entry))) run t ⌝ }
-    ensures { λ _. ⌜ drop (tableFrom (t .settled .frame)) (now (table .exit)) ≡ drop (tableFrom (t .settled .frame)) (now (table .entry)) ⌝ }
+    ensures { λ r. ⌜ r ≡ secondTurn (now (bins .entry)) setup (now (lists .entry)) (length (now (table .entry))) run t ⌝ }
+    ensures { λ _. ⌜ drop (tableFrom setup) (now (table .exit)) ≡ drop (tableFrom setup) (now (table .entry)) ⌝ }
 {
     let survey = t.survey;
     let settled = t.settled;
-    let held = retry_run(settled.held, t.next, run, bins, settled.frame, lists, table);
+    let held = retry_run(settled.held, t.next, run, bins, setup, lists, table);
     Turns {
         next: t.next + 1,
         runs: t.runs,
@@ -158,7 +157,7 @@ pub(crate) fn turn(
     ensures { λ r. ⌜ drop (turnStands setup t r) (now (table .exit)) ≡ drop (turnStands setup t r) (now (table .entry)) ⌝ }
 {
     if t.surveyed {
-        return retry_turn(t, run, bins, lists, table);
+        return retry_turn(t, run, bins, setup, lists, table);
     }
     survey_turn(t, run, bins, setup, lists, table)
 }

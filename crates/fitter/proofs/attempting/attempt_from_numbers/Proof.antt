@@ -83,9 +83,9 @@ returns c =
     let a = start t .args in
     let s = t .settle .result in
     let held : r .retry-columns .result
-    ≡ retriedOf (a .bins .now) (s .frame) (a .lists .now) (room t) (at t) (n t) (s .held) =
+    ≡ retriedOf (a .bins .now) (a .setup) (a .lists .now) (room t) (at t) (n t) (s .held) =
     r .retry-columns .ensures .0
-    ∙ ap (λ (m : ℕ). retriedOf (a .bins .now) (s .frame) (a .lists .now) m (at t) (n t) (s .held))
+    ∙ ap (λ (m : ℕ). retriedOf (a .bins .now) (a .setup) (a .lists .now) m (at t) (n t) (s .held))
     (t .settle .kept .1 .1 .1 .1 .1 .0) in
     let done : c .finish .result ≡ finishOf (first t .survey-columns .result) (withHeld s (r .retry-columns .result)) =
     c .finish .ensures ∙ ap (finishOf (first t .survey-columns .result)) (w .with-held .ensures) in (

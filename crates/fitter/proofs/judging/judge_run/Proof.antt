@@ -1,18 +1,15 @@
 -- `fitter::judging::judge_run` meets its contract. Assumes nothing.
 use borrow.Author.Needs.{needs}
 use Rattle.fitter.proofs.Judgements.{judged-is}
-use Rattle.fitter.proofs.Standing.{entries-stand}
+use Rattle.fitter.proofs.Standing.{unpacked-stands}
 use Rattle.fitter.proofs.judging.judge_run.Statement.{statement}
 use Rattle.fitter.proofs.judging.judge_run.Tie as tie
 
 list-at-requires : tie.Need-list-at-requires
 list-at-requires c κs = search needs
 
-unpack-at-requires : tie.Need-unpack-at-requires
-unpack-at-requires c κs = search needs
-
-cast-judge : tie.Need-cast-judge
-cast-judge c = search needs
+unpack-requires : tie.Need-unpack-requires
+unpack-requires c κs = search needs
 
 judge-requires : tie.Need-judge-requires
 judge-requires c κs = search needs
@@ -28,12 +25,12 @@ returns c =
     let judged = c .before in
     let unpacked = judged .before .before .before .before in
     let listed = unpacked .before .before in
-    let a = listed .before .before .before .before .before .args in
-    let f = a .frame in (
-      judged-is (a .bins .now) f (a .lists .now) _ (a .run) _ _ (judged .judge .result) _ (listed .list-at .ensures)
-          (unpacked .unpack-at .ensures .0) (judged .judge .ensures) (c .rejection-of .ensures),
-      entries-stand (f .window) (f .peak) (f .error) (f .genome) _ _ (a .table .now) _
-          (unpacked .unpack-at .ensures .1),
+    let a = listed .before .before .before .before .args in
+    let u = a .setup in (
+      judged-is (a .bins .now) u (a .lists .now) _ (a .run) _ _ (judged .judge .result) _ (listed .list-at .ensures)
+          (unpacked .unpack .ensures .0) (judged .judge .ensures) (c .rejection-of .ensures),
+      unpacked-stands (a .bins .now) (u .scale) (u .«window_end») (u .peak) (u .error) (u .genome) _ (a .run .cost)
+          (a .run .iterations) (a .table .now) _ (unpacked .unpack .ensures .1),
     )
 
 pub judge-run-spec : {M : Type 1} → statement M
@@ -41,8 +38,7 @@ judge-run-spec =
     tie.close
     (tie.spec
     list-at-requires
-    unpack-at-requires
-    cast-judge
+    unpack-requires
     judge-requires
     rejection-of-requires
     same-length

@@ -27,7 +27,7 @@ returns : tie.Need-returns
 returns c =
     let p = c .before .before in
     let a = start p .args in (
-      passed-by (a .bins .now) (a .frame) (a .lists .now) _ (a .position) (a .run) (a .held)
+      passed-by (a .bins .now) (a .setup) (a .lists .now) _ (a .position) (a .run) (a .held)
           (sym (c .enum-told .given .1) ∙ p .run-point .ensures),
       refl,
     )
@@ -42,7 +42,7 @@ returns-2 c =
     let g = k .point .given in
     let p = k .before .before in
     let a = start p .args in (
-      looked-at (a .bins .now) (a .frame) (a .lists .now) _ (a .position) (a .run) (a .held) (g .0 .0) (g .0 .1 .0)
+      looked-at (a .bins .now) (a .setup) (a .lists .now) _ (a .position) (a .run) (a .held) (g .0 .0) (g .0 .1 .0)
           false _ (sym (g .1) ∙ p .run-point .ensures) (sym (w .could-win .ensures) ∙ from-not (c .if1 .taken)) refl,
       refl,
     )
@@ -71,7 +71,7 @@ module _ (u : tie.After-is-unrejected) where
   from = start (point .before .before)
 
   verdict : (b : Bool) → u .is-unrejected .result ≡ b
-      → unrejected (judgedOf (from .args .bins .now) (from .args .frame) (from .args .lists .now)
+      → unrejected (judgedOf (from .args .bins .now) (from .args .setup) (from .args .lists .now)
       (length (from .args .table .now)) (from .args .run) .rejection) ≡ b
   verdict b e =
       sym (ap (λ (j : Judged). unrejected (j .rejection)) (judged .judge-run .ensures .0))
@@ -83,7 +83,7 @@ returns-3 c =
     let g = point u .point .given in
     let p = point u .before .before in
     let a = from u .args in (
-      looked-at (a .bins .now) (a .frame) (a .lists .now) _ (a .position) (a .run) (a .held) (g .0 .0) (g .0 .1 .0)
+      looked-at (a .bins .now) (a .setup) (a .lists .now) _ (a .position) (a .run) (a .held) (g .0 .0) (g .0 .1 .0)
           true false (sym (g .1) ∙ p .run-point .ensures)
           (sym (win u .could-win .ensures) ∙ from-not-not (judged u .before .before .if1 .left))
           (verdict u false (from-not (c .if2 .taken))),
@@ -100,7 +100,7 @@ returns-4 c =
     let p = point u .before .before in
     let a = from u .args in (
       ap (λ (j : Judged). record { best = bestOf (a .position) (a .run); judged = j }) (judged u .judge-run .ensures .0)
-          ∙ looked-at (a .bins .now) (a .frame) (a .lists .now) _ (a .position) (a .run) (a .held) (g .0 .0) (g .0 .1 .0)
+          ∙ looked-at (a .bins .now) (a .setup) (a .lists .now) _ (a .position) (a .run) (a .held) (g .0 .0) (g .0 .1 .0)
           true true (sym (g .1) ∙ p .run-point .ensures)
           (sym (win u .could-win .ensures) ∙ from-not-not (judged u .before .before .if1 .left))
           (verdict u true (from-not-not (c .if2 .left))),

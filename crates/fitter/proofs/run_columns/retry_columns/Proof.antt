@@ -13,16 +13,16 @@ use Rattle.fitter.proofs.run_columns.retry_columns.Statement.{statement
 use Rattle.fitter.proofs.run_columns.retry_columns.Tie as tie
 
 abbrev Inv-loop : tie.InvT-loop
-Inv-loop converged costs places lengths iterations caps bins frame lists table₀ n kept₀ i₀ table kept i =
+Inv-loop converged costs places lengths iterations caps bins setup lists table₀ n kept₀ i₀ table kept i =
     Folded
     (λ (j : ℕ) (h : Held).
-    retryStep bins frame lists (length table₀) j (runOf converged costs places lengths iterations caps j) h)
+    retryStep bins setup lists (length table₀) j (runOf converged costs places lengths iterations caps j) h)
     kept₀ 0 n kept i
     × (length table ≡ length table₀)
-    × (drop (tableFrom frame) table ≡ drop (tableFrom frame) table₀)
+    × (drop (tableFrom setup) table ≡ drop (tableFrom setup) table₀)
 
 abbrev μ-loop : tie.MeasureT-loop
-μ-loop converged costs places lengths iterations caps bins frame lists table₀ n kept₀ i₀ table kept i = n - i
+μ-loop converged costs places lengths iterations caps bins setup lists table₀ n kept₀ i₀ table kept i = n - i
 
 run-count-requires : tie.Need-run-count-requires Inv-loop μ-loop
 run-count-requires c κs = search needs
@@ -57,17 +57,17 @@ module _ (r : tie.After-retry-run Inv-loop μ-loop) where
   -- the room is that of the beginning
   next : let a = start .args in
       r .retry-run .result
-      ≡ retryStep (a .bins .now) (a .frame) (a .lists .now) (length (a .table .now)) (loop .loop .i) ran
+      ≡ retryStep (a .bins .now) (a .setup) (a .lists .now) (length (a .table .now)) (loop .loop .i) ran
       (loop .loop .kept)
   next =
       let a = start .args in
       r .retry-run .ensures .0
       ∙ ap (λ (m : ℕ).
-      retryStep (a .bins .now) (a .frame) (a .lists .now) m (loop .loop .i) (r .before .before .run-at .result)
+      retryStep (a .bins .now) (a .setup) (a .lists .now) m (loop .loop .i) (r .before .before .run-at .result)
       (loop .loop .kept))
       (loop .loop .inv .1)
       ∙ ap (λ (x : Run).
-      retryStep (a .bins .now) (a .frame) (a .lists .now) (length (a .table .now)) (loop .loop .i) x (loop .loop .kept))
+      retryStep (a .bins .now) (a .setup) (a .lists .now) (length (a .table .now)) (loop .loop .i) x (loop .loop .kept))
       (r .before .before .run-at .ensures)
 
 add-i : tie.Need-add-i Inv-loop μ-loop
@@ -98,7 +98,7 @@ returns c =
     let at =
     runOf (a .converged .now) (a .costs .now) (a .places .now) (a .lengths .now) (a .iterations .now) (a .caps .now) in (
       ends _ _ _ _ (l .loop .inv .0) (c .loop-test .left)
-          ∙ ap (λ (m : ℕ). retriedOf (a .bins .now) (a .frame) (a .lists .now) (length (a .table .now)) at m (a .held))
+          ∙ ap (λ (m : ℕ). retriedOf (a .bins .now) (a .setup) (a .lists .now) (length (a .table .now)) at m (a .held))
           (l .before .run-count .ensures),
       l .loop .inv .2,
     )

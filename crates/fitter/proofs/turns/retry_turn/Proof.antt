@@ -6,8 +6,8 @@ use Rattle.fitter.proofs.turns.retry_turn.Tie as tie
 retry-run-requires : tie.Need-retry-run-requires
 retry-run-requires c κs = search needs
 
-add-t11 : tie.Need-add-t11
-add-t11 c = search needs
+add-t12 : tie.Need-add-t12
+add-t12 c = search needs
 
 with-held-requires : tie.Need-with-held-requires
 with-held-requires c κs = search needs
@@ -22,4 +22,4 @@ returns c =
 
 pub retry-turn-spec : {M : Type 1} → statement M
 retry-turn-spec =
-    tie.close (tie.spec retry-run-requires add-t11 with-held-requires same-length returns)
+    tie.close (tie.spec retry-run-requires add-t12 with-held-requires same-length returns)

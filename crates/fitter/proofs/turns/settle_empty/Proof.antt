@@ -8,7 +8,6 @@ use Rattle.fitter.specs.Attempting.{surveyTests}
 use Rattle.fitter.specs.Surveys.{noSurvey}
 use Rattle.fitter.specs.Turns.{emptySettled}
 use Rattle.fitter.specs.declared.surveys.Survey.{Survey}
-use Rattle.fitter.proofs.Attempted.{in-limits}
 use Rattle.fitter.proofs.Settlement.{settled-refused, settled-none}
 use Rattle.fitter.proofs.turns.settle_empty.Statement.{statement}
 use Rattle.fitter.proofs.turns.settle_empty.Tie as tie
@@ -18,9 +17,6 @@ no-survey-requires c κs = search needs
 
 attempt-refusal-requires : tie.Need-attempt-refusal-requires
 attempt-refusal-requires c κs = search needs
-
-no-frame-requires : tie.Need-no-frame-requires
-no-frame-requires c κs = search needs
 
 no-held-requires : tie.Need-no-held-requires
 no-held-requires c κs = search needs
@@ -39,20 +35,11 @@ number-is r =
 returns : tie.Need-returns
 unfolding emptySettled
 returns c =
-    let f = c .before in
-    let t = f .before in
+    let t = c .before in
     let r = t .before in
     let a = start r .args in
-    rw (f .no-frame .ensures, c .no-held .ensures)
+    rw (c .no-held .ensures)
     (settled-refused (a .bins .now) (a .setup) 0 noSurvey [] (a .room) _ (number-is r) (t .if1 .taken))
-
-frame-of-requires : tie.Need-frame-of-requires
-frame-of-requires c κs =
-    let r = c .before in
-    let a = start r .args in
-    let l = in-limits (a .bins .now) (a .setup) 0 (noSurvey .wrong) (noSurvey .bad) (a .room)
-    (sym (c .if1 .left) ∙ number-is r) in
-    (l .1, l .0)
 
 no-held-requires-2 : tie.Need-no-held-requires-2
 no-held-requires-2 c κs = search needs
@@ -60,11 +47,10 @@ no-held-requires-2 c κs = search needs
 returns-2 : tie.Need-returns-2
 unfolding emptySettled
 returns-2 c =
-    let f = c .before in
-    let t = f .before in
+    let t = c .before in
     let r = t .before in
     let a = start r .args in
-    rw (f .frame-of .ensures, c .no-held2 .ensures)
+    rw (c .no-held2 .ensures)
     (settled-none (a .bins .now) (a .setup) 0 noSurvey [] (a .room) _ (number-is r) (t .if1 .left) refl)
 
 pub settle-empty-spec : {M : Type 1} → statement M
@@ -73,9 +59,7 @@ settle-empty-spec =
     (tie.spec
     no-survey-requires
     attempt-refusal-requires
-    no-frame-requires
     no-held-requires
     returns
-    frame-of-requires
     no-held-requires-2
     returns-2)
