@@ -196,7 +196,6 @@ calls! {
     density = fog_density(lobe: Lobe, x: f64) -> f64;
     discrete_nb_mode = fog_discrete_nb_mode(mean: f64, dispersion: f64) -> u64;
     log_nb_mass = fog_log_nb_mass(mean: f64, dispersion: f64, top: usize) -> Number;
-    log_nb_mass_to = fog_log_nb_mass_to(mean: f64, dispersion: f64, top: u16) -> f64;
     shelf_trials = fog_shelf_trials(mean: f64) -> f64;
     ln_dbetabinom = fog_ln_dbetabinom(x: f64, trials: f64, alpha: f64, beta: f64) -> f64;
     ln_single_copy = fog_ln_single_copy(count: f64, mean: f64, dispersion: f64, present: u8, shelf: Shelf) -> f64;
@@ -236,15 +235,6 @@ extern "C" {
         length: usize,
         top: usize,
     ) -> Number;
-    fn fog_single_copy_log_mass_to(
-        mean: f64,
-        dispersion: f64,
-        present: u8,
-        shelf: Shelf,
-        table: *const f64,
-        length: usize,
-        top: u16,
-    ) -> f64;
     fn fog_shelf_log_table(mean: f64, shelf: Shelf, top: usize, table: *mut f64, length: usize) -> Written;
 }
 
@@ -259,10 +249,6 @@ pub fn mix_entry(lobe: f64, count: f64, present: u8, shelf: Shelf, logs: Pair, t
 
 pub fn single_copy_log_mass(mean: f64, dispersion: f64, present: u8, shelf: Shelf, table: &[f64], top: usize) -> Number {
     unsafe { fog_single_copy_log_mass(mean, dispersion, present, shelf, table.as_ptr(), table.len(), top) }
-}
-
-pub fn single_copy_log_mass_to(mean: f64, dispersion: f64, present: u8, shelf: Shelf, table: &[f64], top: u16) -> f64 {
-    unsafe { fog_single_copy_log_mass_to(mean, dispersion, present, shelf, table.as_ptr(), table.len(), top) }
 }
 
 pub fn shelf_log_table(mean: f64, shelf: Shelf, top: usize, table: &mut [f64]) -> Written {

@@ -9,3 +9,4 @@ pub mod Weights
 pub mod Says
 pub mod Ready
 pub mod Growths
+pub mod WindowEnds

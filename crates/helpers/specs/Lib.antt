@@ -9,3 +9,4 @@ pub mod Prepared
 pub mod Kept
 pub mod Pairs
 pub mod Mixtures
+pub mod WindowEnds

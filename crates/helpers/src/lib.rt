@@ -10,3 +10,4 @@ pub mod pairs;
 pub mod prepared;
 pub mod shelves;
 pub mod single_copies;
+pub mod window_ends;

@@ -48,7 +48,7 @@ fn log_binomial_mass(mean: f64, dispersion: f64, top: u16) -> f64
 }
 
 // ln of the negative binomial's mass on 1 to `top`, for any top that a u16 holds.
-pub fn log_nb_mass_to(mean: f64, dispersion: f64, top: u16) -> f64
+fn log_nb_mass_to(mean: f64, dispersion: f64, top: u16) -> f64
     ensures { λ r. ⌜ r ≡ logNbMassTo mean dispersion top ⌝ }
 {
     if dispersion <= NEARLY_POISSON {
@@ -91,7 +91,7 @@ pub(crate) fn log_shelf_mass(table: &[f64], top: u16) -> f64
 }
 
 // ln of the single-copy component's mass on 1 to `top`, for any top that a u16 holds.
-pub fn single_copy_log_mass_to(
+fn single_copy_log_mass_to(
     mean: f64,
     dispersion: f64,
     shelf: ShelfPart,

@@ -10,6 +10,7 @@ use crate::hoists::ShelfLogs;
 use crate::log_sums::lse2;
 use crate::masses::log_shelf_mass;
 use crate::shelves::ShelfPart;
+use crate::window_ends::WindowEnd;
 
 // The table's entry n, and -inf behind its end.
 fn entry_of(n: usize, table: &[f64]) -> f64
@@ -23,7 +24,7 @@ fn entry_of(n: usize, table: &[f64]) -> f64
 }
 
 // The single-copy log density at count n, from its lobe's.
-pub fn mix_at(lobe: f64, n: u32, shelf: ShelfPart, logs: ShelfLogs, table: &[f64]) -> f64
+pub fn mix_at(lobe: f64, n: u16, shelf: ShelfPart, logs: ShelfLogs, table: &[f64]) -> f64
     ensures { λ r. ⌜ r ≡ mixAtOf lobe n shelf logs (now (table .entry)) ⌝ }
 {
     match shelf {
@@ -35,14 +36,14 @@ pub fn mix_at(lobe: f64, n: u32, shelf: ShelfPart, logs: ShelfLogs, table: &[f64
     }
 }
 
-// ln of the single-copy component's mass on 1 to `top`, from its lobe's.
-pub fn mix_mass(lobe: f64, shelf: ShelfPart, logs: ShelfLogs, table: &[f64], top: u16) -> f64
-    ensures { λ r. ⌜ r ≡ mixMassOf lobe shelf logs (now (table .entry)) top ⌝ }
+// ln of the single-copy component's mass on 1 to the window end, from its lobe's.
+pub fn mix_mass(lobe: f64, shelf: ShelfPart, logs: ShelfLogs, table: &[f64], end: WindowEnd) -> f64
+    ensures { λ r. ⌜ r ≡ mixMassOf lobe shelf logs (now (table .entry)) (end .count) ⌝ }
 {
     match shelf {
         ShelfPart::Absent => lobe,
         ShelfPart::Present(_) => {
-            let mass = log_shelf_mass(table, top);
+            let mass = log_shelf_mass(table, end.count);
             lse2(logs.rest + lobe, logs.share + mass)
         }
     }

@@ -12,7 +12,8 @@ use crate::kept::growth_of;
 use crate::kept::keep;
 use crate::lobes::NEARLY_POISSON;
 use crate::log_sums::lse2;
-use crate::prepared::ln_at;
+use crate::prepared::log_at;
+use crate::window_ends::WindowEnd;
 use routines::ln::ln;
 
 pub struct Lobes {
@@ -54,7 +55,7 @@ pub struct LobeMasses {
 }
 
 // ln of each lobe's mass on 1 to `top`. The growths on the way are left in `kept`.
-pub fn lobe_masses(
+fn lobe_masses_to(
     first: Lobe,
     second: Lobe,
     ready: &[f64],
@@ -70,7 +71,7 @@ pub fn lobe_masses(
     let mut other_term = density(second, 1.0);
     let mut count: u32 = 1;
     while count <= (top as u32) {
-        let log = ln_at(ready, count + 1);
+        let log = log_at(ready, count + 1);
         let growth = growth_of(first, count as f64);
         let other_growth = growth_of(second, count as f64);
         keep(kept, 2 * (count as usize), growth);
@@ -85,4 +86,18 @@ pub fn lobe_masses(
         first: total,
         second: other_total,
     }
+}
+
+// ln of each lobe's mass on 1 to the window end. The growths on the way are left in `kept`.
+pub fn lobe_masses(
+    first: Lobe,
+    second: Lobe,
+    ready: &[f64],
+    kept: &mut [f64],
+    end: WindowEnd,
+) -> LobeMasses
+    ensures { λ r. ⌜ r ≡ lobeMassesOf first second (now (ready .entry)) (end .count) ⌝ }
+    ensures { λ _. ⌜ now (kept .exit) ≡ keptAfter first second (end .count) (now (kept .entry)) ⌝ }
+{
+    lobe_masses_to(first, second, ready, kept, end.count)
 }

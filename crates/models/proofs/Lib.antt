@@ -17,6 +17,7 @@ pub mod Zeros
 pub mod Ranks
 pub mod Beyond
 pub mod Highest
+pub mod Asked
 pub mod Corners
 pub mod Says
 pub mod Outdone

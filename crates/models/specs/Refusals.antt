@@ -8,7 +8,7 @@ use lib.Dec.{eqb}
 use lib.ListN.{length}
 use lib.Ieee.{Float}
 use Rattle.meaning.specs.Reply.{Test, test}
-use Rattle.meaning.specs.Rows.{inOrder, few, many, outside, short}
+use Rattle.meaning.specs.Rows.{inOrder, few, many, outside, short, windowTests}
 use Rattle.models.specs.Families.{listLengthOf}
 use Rattle.models.specs.Recovery.{usedScaleOf}
 use Rattle.models.specs.Spectra.{allZeroOf, noneRecoveredOf}
@@ -40,6 +40,15 @@ shortTable genome end room = short room (tableDemand genome end)
 unfoldable pub spectrumTests : List ℕ → Float → ℕ → List Test
 spectrumTests bins scale end = inOrder (allZero bins ∷ outside end (length bins) ∷ noneRecovered bins scale end ∷ [])
 
+-- ---- what the layers above ask on their own: of bins and a window end, and of a lent table
+unfoldable pub binsTests : List ℕ → Float → ℕ → List Test
+binsTests bins scale end =
+    inOrder (few (length bins ∷ []) ∷ many (length bins ∷ end ∷ []) ∷ spectrumTests bins scale end ∷ [])
+
+abbrev pub tableTests : GenomeModel → ℕ → ℕ → List Test
+tableTests genome end room = inOrder (windowTests end ∷ shortTable genome end room ∷ [])
+
+-- ---- cost and unpack
 -- `listed` is the list's length, `room` the lent table's
 unfoldable pub fitTests : List ℕ → Float → ℕ → ℕ → ErrorModel → GenomeModel → ℕ → ℕ → List Test
 fitTests bins scale end peak error genome listed room =

@@ -1,6 +1,7 @@
 // The cost of a parameter list. The shelf's table lies in a lent slice, and what can't be used is refused by number.
 // Ported from src/preprocessing/models.rs of bacpop/sparrowhawk-asm, f1f8af1232, Apache-2.0; ported and changed.
 ghost use mathlib.Core.Path.{_≡_};
+ghost use Prim.Native.Nat.{_≤_};
 ghost use lib.ListN.{length};
 ghost use Rattle.helpers.specs.Answers.{numberSays};
 ghost use Rattle.models.specs.Costs.{modeHeld, tableWith, costOf, costTable};
@@ -47,6 +48,7 @@ fn evaluate_in(
     kept: &mut [f64],
     table: &[f64],
 ) -> f64
+    requires { ⌜ 1 ≤ top ⌝ }
     ensures { λ r. ⌜ r ≡ evaluatedAt (now (bins .entry)) scale top p (now (ready .entry)) (now (table .entry)) ⌝ }
 {
     let steady = steady_of(p);
@@ -63,6 +65,7 @@ fn evaluate_in(
 
 // The same, with places of its own: few for a short window, since many take long to clear.
 fn evaluate(bins: &[u32], scale: f64, top: u16, p: Params, ready: &[f64], table: &[f64]) -> f64
+    requires { ⌜ 1 ≤ top ⌝ }
     ensures { λ r. ⌜ r ≡ evaluatedAt (now (bins .entry)) scale top p (now (ready .entry)) (now (table .entry)) ⌝ }
 {
     if 2 * (top as usize) < FEW_KEPT {
@@ -75,6 +78,7 @@ fn evaluate(bins: &[u32], scale: f64, top: u16, p: Params, ready: &[f64], table:
 
 // The table stays as it is where the parameters are turned away.
 fn cost_at(bins: &[u32], scale: f64, top: u16, p: Params, ready: &[f64], table: &mut [f64]) -> f64
+    requires { ⌜ 1 ≤ top ⌝ }
     ensures { λ r. ⌜ r ≡ costReady (now (bins .entry)) scale top p (now (ready .entry)) (entriesIn (p .shelf) (p .mean) top (length (now (table .entry)))) ⌝ }
     ensures { λ _. ⌜ now (table .exit) ≡ tableWith p (entriesIn (p .shelf) (p .mean) top (length (now (table .entry)))) (now (table .entry)) ⌝ }
 {

@@ -1,7 +1,8 @@
 // The log-likelihood of the window.
 // Ported from src/preprocessing/models.rs of bacpop/sparrowhawk-asm, f1f8af1232, Apache-2.0; ported and changed.
 ghost use mathlib.Core.Path.{_≡_};
-ghost use Prim.Native.Nat.{_+_, _≤_};
+ghost use Prim.Native.Nat.{_+_, _≤_, _<_};
+ghost use Rattle.meaning.specs.Rows.{most};
 ghost use Rattle.helpers.specs.Kept.{Kept};
 ghost use Rattle.models.specs.Hoists.{aheadOf, afterOf, pointFrom, pointAt, likelihoodAt};
 ghost use Rattle.models.specs.Spectra.{seenTerm};
@@ -16,6 +17,7 @@ use helpers::log_sums::lse3;
 use helpers::mixtures::mix_at;
 use helpers::prepared::gamma_at;
 use helpers::prepared::ln_at;
+use helpers::prepared::ln_next;
 
 // What stands ready for a bin: the log of its count, and the error tail's survival from that count.
 struct Ahead {
@@ -34,10 +36,10 @@ fn ahead_of(error: ErrorParams, ready: &[f64], i: u16) -> Ahead
     ensures { λ r. ⌜ r ≡ aheadOf error (now (ready .entry)) i ⌝ }
 {
     let bin = i as u32;
-    let before = ln_at(ready, bin);
+    let before = ln_at(ready, i);
     Ahead {
         bin,
-        log: ln_at(ready, bin + 1),
+        log: ln_next(ready, i),
         survival: error.survival_with(before),
     }
 }
@@ -55,10 +57,11 @@ fn ahead_at(ahead: Ahead, error: ErrorParams, ready: &[f64], i: u16) -> Ahead
 
 // What stands ready for the bin after i, from the log of bin i's count.
 fn ahead_after(log: f64, error: ErrorParams, ready: &[f64], i: u16) -> Ahead
+    requires { ⌜ i < most ⌝ }
     ensures { λ r. ⌜ r ≡ afterOf log error (now (ready .entry)) i ⌝ }
 {
     let bin = (i as u32) + 1;
-    let next = ln_at(ready, bin + 1);
+    let next = ln_next(ready, i + 1);
     Ahead {
         bin,
         log: next,
@@ -71,7 +74,7 @@ fn point(
     p: Params,
     m: WindowMasses,
     steady: Steady,
-    count: u32,
+    count: u16,
     high: f64,
     low: f64,
     gamma: f64,
@@ -109,6 +112,7 @@ fn add_point(
     kept: &[f64],
     table: &[f64],
 ) -> Reached
+    requires { ⌜ i < most ⌝ }
     requires { ⌜ Kept (steady .lobe) (steady .second) (now kept) (i + 2) ⌝ }
     requires { ⌜ reached .ahead ≡ aheadOf (p .«error_params») (now ready) (reached .ahead .bin) ⌝ }
     ensures { λ r. ⌜ r .total ≡ seenTerm n (reached .total) (ofCount n ⊗ pointAt p m steady (now (ready .entry)) (now (table .entry)) i) ⌝ }
@@ -120,7 +124,7 @@ fn add_point(
     let error = p.error_params;
     let here = ahead_at(reached.ahead, error, ready, i);
     let next = ahead_after(here.log, error, ready, i);
-    let count = (i as u32) + 1;
+    let count = i + 1;
     let gamma = gamma_at(ready, count, next.log);
     let term = point(
         p,

@@ -1,7 +1,7 @@
 // What a fit's calls refuse, lowest number first, before anything is worked out.
 ghost use mathlib.Core.Path.{_≡_};
 ghost use Rattle.meaning.specs.Reply.{firstOf};
-ghost use Rattle.models.specs.Refusals.{spectrumTests, shortTable, fitTests};
+ghost use Rattle.models.specs.Refusals.{spectrumTests, binsTests, shortTable, tableTests, fitTests};
 use crate::families::ErrorModel;
 use crate::families::GenomeModel;
 use crate::families::list_length;
@@ -11,7 +11,7 @@ use crate::spectra::none_recovered;
 use meaning::limits::MOST;
 
 // 4, 5 or 6 for the spectrum in a window, and 0 for none.
-pub fn spectrum_refusal(bins: &[u32], scale: f64, window_end: usize) -> u8
+fn window_refusal(bins: &[u32], scale: f64, window_end: usize) -> u8
     ensures { λ r. ⌜ r ≡ firstOf (spectrumTests (now (bins .entry)) scale «window_end») ⌝ }
 {
     if all_zero(bins) {
@@ -26,14 +26,40 @@ pub fn spectrum_refusal(bins: &[u32], scale: f64, window_end: usize) -> u8
     0
 }
 
+// The first number of 1, 2, 4, 5, 6 that applies to bins and a window end, and 0 for none.
+pub fn spectrum_refusal(bins: &[u32], scale: f64, window_end: usize) -> u8
+    ensures { λ r. ⌜ r ≡ firstOf (binsTests (now (bins .entry)) scale «window_end») ⌝ }
+{
+    if bins.len() < 2 {
+        return 1;
+    }
+    if bins.len() > MOST || window_end > MOST {
+        return 2;
+    }
+    window_refusal(bins, scale, window_end)
+}
+
 // 10 for a lent table of fewer than window end + 1 entries with a shelf family, and 0 for none.
-pub fn table_refusal(genome: GenomeModel, window_end: usize, room: usize) -> u8
+fn short_refusal(genome: GenomeModel, window_end: usize, room: usize) -> u8
     ensures { λ r. ⌜ r ≡ firstOf (shortTable genome «window_end» room) ⌝ }
 {
     match genome {
         GenomeModel::NegativeBinomial => 0,
         GenomeModel::ShelfNegativeBinomial => if room <= window_end { 10 } else { 0 },
     }
+}
+
+// 2 or 5 for the window end, 10 for a lent table that is too short for it, and 0 for none.
+pub fn table_refusal(genome: GenomeModel, window_end: usize, room: usize) -> u8
+    ensures { λ r. ⌜ r ≡ firstOf (tableTests genome «window_end» room) ⌝ }
+{
+    if window_end > MOST {
+        return 2;
+    }
+    if window_end == 0 {
+        return 5;
+    }
+    short_refusal(genome, window_end, room)
 }
 
 // The first number of 1, 2, 4, 5, 6, 7, 10 that applies to cost and unpack, and 0 for none.
@@ -55,12 +81,12 @@ pub(crate) fn fit_refusal(
     if bins.len() > MOST || peak > MOST || window_end > MOST {
         return 2;
     }
-    let spectrum = spectrum_refusal(bins, scale, window_end);
+    let spectrum = window_refusal(bins, scale, window_end);
     if spectrum != 0 {
         return spectrum;
     }
     if listed != list_length(error, genome) {
         return 7;
     }
-    table_refusal(genome, window_end, room)
+    short_refusal(genome, window_end, room)
 }

@@ -8,8 +8,8 @@ ghost use Rattle.models.specs.Spectra.{recoveredAt, seenTerm, observedTo
 use crate::recovery::rounded_quotient;
 use crate::recovery::used_scale;
 
-// A window of a spectrum, worked out once for many lists: the scale in use, the window end, and the totals.
-pub struct Window {
+// A window of a spectrum: the scale in use, the window end, and the totals.
+pub(crate) struct Window {
     pub scale: f64,
     pub end: u16,
     // The recovered k-mers at counts 1 to `end`.
@@ -69,7 +69,7 @@ fn full_total(bins: &[u32]) -> f64
 }
 
 // The window of any bins, whatever the scale.
-pub fn window_of(bins: &[u32], scale: f64, end: u16) -> Window
+pub(crate) fn window_of(bins: &[u32], scale: f64, end: u16) -> Window
     ensures { λ r. ⌜ r ≡ windowOf (now (bins .entry)) scale end ⌝ }
 {
     let used = used_scale(scale);

@@ -2,6 +2,7 @@
 // Ported from src/preprocessing/models.rs of bacpop/sparrowhawk-asm, f1f8af1232, Apache-2.0; ported and changed:
 // the shelf's table lies in a lent slice, and what can't be used is refused by number.
 ghost use mathlib.Core.Path.{_≡_};
+ghost use Prim.Native.Nat.{_≤_};
 ghost use lib.ListN.{length};
 ghost use Rattle.meaning.specs.Over.{over};
 ghost use Rattle.models.specs.Tables.{entriesIn};
@@ -100,6 +101,7 @@ fn fit_at(
     iterations: u64,
     table: &mut [f64],
 ) -> SpectrumFit
+    requires { ⌜ 1 ≤ window .end ⌝ }
     ensures { λ r. ⌜ r ≡ fitAt (now (bins .entry)) window error genome p (entriesIn (p .shelf) (p .mean) (window .end) (length (now (table .entry)))) cost iterations ⌝ }
     ensures { λ _. ⌜ now (table .exit) ≡ over (entriesIn (p .shelf) (p .mean) (window .end) (length (now (table .entry)))) (now (table .entry)) ⌝ }
 {
@@ -144,9 +146,8 @@ pub fn empty_fit() -> SpectrumFit
     }
 }
 
-// A converged list as a fit over a window that was worked out before. It refuses nothing: whoever has many lists
-// has gone through the refusals once. A table too short for the shelf's entries is left as it is.
-pub fn unpack_at(
+// A converged list as a fit over its window, once nothing is refused.
+fn unpack_at(
     bins: &[u32],
     window: Window,
     peak: u16,
@@ -157,6 +158,7 @@ pub fn unpack_at(
     iterations: u64,
     table: &mut [f64],
 ) -> SpectrumFit
+    requires { ⌜ 1 ≤ window .end ⌝ }
     ensures { λ r. ⌜ r ≡ unpackAt (now (bins .entry)) window peak error genome (now (theta .entry)) cost iterations (length (now (table .entry))) ⌝ }
     ensures { λ _. ⌜ now (table .exit) ≡ over (unpackEntries window peak error genome (now (theta .entry)) (length (now (table .entry)))) (now (table .entry)) ⌝ }
 {

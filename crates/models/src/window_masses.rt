@@ -1,7 +1,7 @@
 // Each component's log mass inside the window.
 // Ported from src/preprocessing/models.rs of bacpop/sparrowhawk-asm, f1f8af1232, Apache-2.0; ported and changed.
 ghost use mathlib.Core.Path.{_≡_};
-ghost use Prim.Native.Nat.{_+_};
+ghost use Prim.Native.Nat.{_+_, _≤_};
 ghost use Rattle.helpers.specs.Kept.{Kept};
 ghost use Rattle.models.specs.Hoists.{massesAt};
 ghost use Rattle.models.specs.Masses.{windowMassesOf, massUsable, massesUsable};
@@ -11,6 +11,7 @@ use crate::steady::steady_of;
 use helpers::mixtures::mix_mass;
 use helpers::pairs::lobe_masses;
 use helpers::prepared::ln_at;
+use helpers::window_ends::window_end;
 use routines::pick::is_finite;
 
 // A log mass may pass 0 by this much: rounding.
@@ -31,14 +32,17 @@ pub(crate) fn masses_at(
     kept: &mut [f64],
     top: u16,
 ) -> WindowMasses
+    requires { ⌜ 1 ≤ top ⌝ }
     ensures { λ r. ⌜ r ≡ massesAt p steady (now (ready .entry)) (now (table .entry)) top ⌝ }
     ensures { λ _. ⌜ Kept (steady .lobe) (steady .second) (now (kept .exit)) (top + 1) ⌝ }
 {
     let shelf = p.shelf;
-    let log = ln_at(ready, top as u32);
+    let log = ln_at(ready, top);
     let error = p.error_params.window_mass_with(steady.ln_tail, log);
-    let lobes = lobe_masses(steady.lobe, steady.second, ready, kept, top);
-    let single = mix_mass(lobes.first, shelf, steady.logs, table, top);
+    let made = window_end(top as usize);
+    let end = made.end;
+    let lobes = lobe_masses(steady.lobe, steady.second, ready, kept, end);
+    let single = mix_mass(lobes.first, shelf, steady.logs, table, end);
     WindowMasses {
         error,
         single,
@@ -48,6 +52,7 @@ pub(crate) fn masses_at(
 
 // `table` holds the shelf's entries and nothing else.
 pub(crate) fn masses_of(p: Params, table: &[f64], top: u16) -> WindowMasses
+    requires { ⌜ 1 ≤ top ⌝ }
     ensures { λ r. ⌜ r ≡ windowMassesOf p (now (table .entry)) top ⌝ }
 {
     let mut none = [0.0; 1];

@@ -22,7 +22,6 @@ use helpers::log_sums::lse2;
 use helpers::log_sums::lse3;
 use helpers::log_sums::sigmoid;
 use helpers::masses::log_nb_mass;
-use helpers::masses::log_nb_mass_to;
 use helpers::shelves::Shelf;
 use helpers::shelves::ShelfPart;
 use helpers::shelves::ln_dbetabinom;
@@ -51,8 +50,6 @@ const DENSITY: u64 = 40;
 const DISCRETE_NB_MODE: u64 = 41;
 
 const LOG_NB_MASS: u64 = 42;
-
-const LOG_NB_MASS_TO: u64 = 43;
 
 const SHELF_TRIALS: u64 = 44;
 
@@ -162,13 +159,6 @@ fn density_at(r: Row) -> f64 {
 
 // ---- masses and shelves
 
-fn mass_to(x: f64, y: f64, top: u64) -> Answer {
-    if top > 65535 {
-        return none();
-    }
-    float(4, log_nb_mass_to(x, y, top as u16))
-}
-
 fn single(r: Row) -> f64 {
     ln_single_copy(r.x1, r.x2, r.x3, part(r.w4, r.x5, r.x6, r.x7))
 }
@@ -192,7 +182,6 @@ pub(crate) fn answer(r: Row) -> Answer {
     match call {
         DENSITY => float(9, density_at(r)),
         LOG_NB_MASS => number(4, log_nb_mass(r.x1, r.x2, r.w3 as usize)),
-        LOG_NB_MASS_TO => mass_to(r.x1, r.x2, r.w3),
         LN_SINGLE_COPY => float(8, single(r)),
         MIX_SHELF => float(6, mixed(r)),
         SHELF_LOGS => logs(part(r.w1, r.x2, r.x3, r.x4)),

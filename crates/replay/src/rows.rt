@@ -56,7 +56,7 @@ fn holds(row: &[u64]) -> bool {
     let call = r.call;
     match call {
         lent::SHELF_LOG_TABLE | lent::COST | lent::UNPACK => lent::holds(r, row),
-        slices::MIX_SINGLE_COPY..=slices::SINGLE_COPY_LOG_MASS_TO
+        slices::MIX_SINGLE_COPY..=slices::SINGLE_COPY_LOG_MASS
         | slices::MIX_ENTRY
         | slices::PARAMS_FROM => agrees(slices::answer(r, row), row),
         fits::COMPONENT_TOTAL_RATIO..=fits::COMPONENT_HEIGHTS => {

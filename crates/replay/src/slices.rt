@@ -19,7 +19,6 @@ use crate::words::least;
 use helpers::hoists::ShelfLogs;
 use helpers::hoists::mix_entry;
 use helpers::masses::single_copy_log_mass;
-use helpers::masses::single_copy_log_mass_to;
 use helpers::shelves::ShelfPart;
 use helpers::shelves::mix_single_copy;
 use models::params::Params;
@@ -29,8 +28,6 @@ use models::params::params_from;
 pub(crate) const MIX_SINGLE_COPY: u64 = 49;
 
 pub(crate) const SINGLE_COPY_LOG_MASS: u64 = 50;
-
-pub(crate) const SINGLE_COPY_LOG_MASS_TO: u64 = 51;
 
 pub(crate) const MIX_ENTRY: u64 = 53;
 
@@ -114,17 +111,6 @@ fn params_answer(at: usize, answer: ParamsAnswer) -> Answer {
 
 // ---- the calls
 
-fn mass_to(r: Row, shelf: ShelfPart, entries: &[f64], at: usize) -> Answer {
-    let top = r.w7;
-    if top > 65535 {
-        return none();
-    }
-    float(
-        at,
-        single_copy_log_mass_to(r.x1, r.x2, shelf, entries, top as u16),
-    )
-}
-
 fn entry(r: Row, entries: &[f64], at: usize) -> Answer {
     let logs = ShelfLogs {
         rest: r.x1,
@@ -150,7 +136,6 @@ fn with(r: Row, entries: &[f64], at: usize) -> Answer {
                 single_copy_log_mass(r.x1, r.x2, shelf, entries, r.w7 as usize),
             )
         }
-        SINGLE_COPY_LOG_MASS_TO => mass_to(r, shelf, entries, at),
         MIX_ENTRY => entry(r, entries, at),
         _ => list(r, entries, at),
     }

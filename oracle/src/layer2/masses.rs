@@ -105,36 +105,19 @@ fn lobes() -> Vec<Call> {
         ),
         own("refusal 5", 20_000, |d| lobe_refused(d, 0), |w| rules::window(w[2]) == Some(5)),
     ];
-    vec![
-        Call {
-            own: [strata_of_lobes(), refused].into_iter().flatten().collect(),
-            unaltered: Some(|w| vec![0, bits(unaltered::log_nb_mass(float(w, 0), float(w, 1), w[2] as usize))]),
-            ..call(
-                42,
-                "log_nb_mass",
-                LOBE,
-                Answer::Number,
-                lobe,
-                |w| number(port::log_nb_mass(float(w, 0), float(w, 1), w[2] as usize)),
-                |w| in_window(w[2], || linked::log_nb_mass(float(w, 0), float(w, 1), w[2] as usize)),
-            )
-        },
-        Call {
-            own: [strata_of_lobes(), vec![own("window end 0", 10_000, |d| lobe_refused(d, 0), |w| w[2] == 0)]]
-                .into_iter()
-                .flatten()
-                .collect(),
-            ..call(
-                43,
-                "log_nb_mass_to",
-                LOBE,
-                Floats,
-                lobe,
-                |w| vec![bits(port::log_nb_mass_to(float(w, 0), float(w, 1), w[2] as u16))],
-                |w| vec![bits(linked::log_nb_mass(float(w, 0), float(w, 1), w[2] as usize))],
-            )
-        },
-    ]
+    vec![Call {
+        own: [strata_of_lobes(), refused].into_iter().flatten().collect(),
+        unaltered: Some(|w| vec![0, bits(unaltered::log_nb_mass(float(w, 0), float(w, 1), w[2] as usize))]),
+        ..call(
+            42,
+            "log_nb_mass",
+            LOBE,
+            Answer::Number,
+            lobe,
+            |w| number(port::log_nb_mass(float(w, 0), float(w, 1), w[2] as usize)),
+            |w| in_window(w[2], || linked::log_nb_mass(float(w, 0), float(w, 1), w[2] as usize)),
+        )
+    }]
 }
 
 // ---- the single-copy mass: mean, dispersion, presence, shelf, window end, table
@@ -294,36 +277,19 @@ fn singles() -> Vec<Call> {
         ),
         own("refusal 5", 20_000, |d| single_refused(d, 0), |w| rules::window(w[6]) == Some(5)),
     ];
-    vec![
-        Call {
-            own: [strata_of_singles(), refused].into_iter().flatten().collect(),
-            unaltered: Some(|w| vec![0, bits(unaltered_mass(w))]),
-            ..call(
-                50,
-                "single_copy_log_mass",
-                SINGLE,
-                Answer::Number,
-                single,
-                |w| number(port::single_copy_log_mass(float(w, 0), float(w, 1), w[2] as u8, shelf(w, 3), &slice(w, 7), w[6] as usize)),
-                |w| in_window(w[6], || linked_mass(w)),
-            )
-        },
-        Call {
-            own: [strata_of_singles(), vec![own("window end 0", 10_000, |d| single_refused(d, 0), |w| w[6] == 0)]]
-                .into_iter()
-                .flatten()
-                .collect(),
-            ..call(
-                51,
-                "single_copy_log_mass_to",
-                SINGLE,
-                Floats,
-                single,
-                |w| vec![bits(port::single_copy_log_mass_to(float(w, 0), float(w, 1), w[2] as u8, shelf(w, 3), &slice(w, 7), w[6] as u16))],
-                |w| vec![bits(linked_mass(w))],
-            )
-        },
-    ]
+    vec![Call {
+        own: [strata_of_singles(), refused].into_iter().flatten().collect(),
+        unaltered: Some(|w| vec![0, bits(unaltered_mass(w))]),
+        ..call(
+            50,
+            "single_copy_log_mass",
+            SINGLE,
+            Answer::Number,
+            single,
+            |w| number(port::single_copy_log_mass(float(w, 0), float(w, 1), w[2] as u8, shelf(w, 3), &slice(w, 7), w[6] as usize)),
+            |w| in_window(w[6], || linked_mass(w)),
+        )
+    }]
 }
 
 pub fn calls() -> Vec<Call> {

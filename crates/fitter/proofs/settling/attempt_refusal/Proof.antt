@@ -13,6 +13,8 @@ use Rattle.meaning.specs.Rows.{most, inOrder, few, many}
 use Rattle.meaning.proofs.Chains.{stops, goes-on}
 use Rattle.meaning.proofs.Rows.{Some, few-clear, few-found, many-clear, many-found}
 use Rattle.models.specs.Refusals.{spectrumTests, shortTable}
+use Rattle.models.proofs.Asked.{spectrum-number, table-number}
+use Rattle.models.proofs.Passed.{spectrum-passed}
 use Rattle.fitter.specs.Validation.{outsideLimit}
 use Rattle.fitter.specs.Attempting.{wrongRuns, badRuns, setupTests, surveyTests}
 use Rattle.fitter.proofs.settling.attempt_refusal.Statement.{statement}
@@ -114,20 +116,31 @@ past-high c n h =
 spectrum-refusal-requires : tie.Need-spectrum-refusal-requires
 spectrum-refusal-requires c κs = search needs
 
+-- behind 1 and 2 it says the number of these
+spectrum-says : (c : tie.After-spectrum-refusal)
+    → c .spectrum-refusal .result ≡ firstOf (spectrum (start-low (low (c .before))))
+spectrum-says c =
+    let e7 = c .before .before in
+    let e4 = e7 .before .before .before in
+    let a = start-low (low (c .before)) .args in
+    spectrum-number (a .bins .now) (a .setup .scale) (a .setup .«window_end»)
+    (ltb-false _ _ (low (c .before) .if3 .left)) (e4 .if4 .left) (ltb-false _ _ (e7 .if7 .left)) _
+    (c .spectrum-refusal .ensures)
+
 abbrev start-spectrum : tie.Else9 → tie.Start
 start-spectrum c = start-low (low (c .before .before))
 
 returns-3 : tie.Need-returns-3
 returns-3 c =
     let s = start-low (low (c .before .before)) in
-    let first = c .before .spectrum-refusal .ensures in
+    let first = spectrum-says (c .before) in
     past-high (c .before .before) _
     (stops (spectrum s) (inOrder (after-spectrum s)) _ first (omega (arith, c .if9 .taken)))
 
 past-spectrum : (c : tie.Else9) → Number (start-spectrum c) (after-spectrum (start-spectrum c))
 past-spectrum c n h =
     let s = start-spectrum c in
-    let none = sym (c .if9 .left) ∙ c .before .spectrum-refusal .ensures in
+    let none = sym (c .if9 .left) ∙ spectrum-says (c .before) in
     past-high (c .before .before) n
     (goes-on (spectrum s) (inOrder (after-spectrum s)) (unfold spectrumTests in refl) none n h)
 
@@ -159,11 +172,23 @@ returns-5 c = past-runs (c .before .before) 9 (rw (sym (c .before .bad-limit .en
 table-refusal-requires : tie.Need-table-refusal-requires
 table-refusal-requires c κs = search needs
 
+-- behind 2 and 5 it says the number of this
+table-says : (c : tie.After-table-refusal) → let a = start-spectrum (c .before .before .before .before .before) .args in
+    c .table-refusal .result ≡ firstOf (shortTable (a .setup .genome) (a .setup .«window_end») (a .room))
+table-says c =
+    let e9 = c .before .before .before .before .before in
+    let e7 = e9 .before .before .before in
+    let a = start-spectrum e9 .args in
+    let u = a .setup in
+    let inside = spectrum-passed (a .bins .now) (u .scale) (u .«window_end»)
+    (sym (e9 .if9 .left) ∙ spectrum-says (e9 .before)) in
+    table-number (u .genome) (u .«window_end») (a .room) (inside .end-some) (ltb-false _ _ (e7 .if7 .left)) _
+    (c .table-refusal .ensures)
+
 returns-6 : tie.Need-returns-6
 returns-6 c =
     let e = c .before in
-    past-runs (e .before .before) _
-    (rw (sym (e .before .bad-limit .ensures) ∙ e .if11 .left) (c .table-refusal .ensures))
+    past-runs (e .before .before) _ (rw (sym (e .before .bad-limit .ensures) ∙ e .if11 .left) (table-says c))
 
 pub attempt-refusal-spec : {M : Type 1} → statement M
 attempt-refusal-spec =

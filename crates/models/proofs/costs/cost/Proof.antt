@@ -59,7 +59,7 @@ part-cost-at-end : tie.Need-part-cost-at-end
 part-cost-at-end c = search needs
 
 cost-at-requires : tie.Need-cost-at-requires
-cost-at-requires c κs = search needs
+cost-at-requires c κs = passed (c .before .before .before .before .before) .spectrum .end-some
 
 same-length : tie.Need-same-length
 same-length c = search needs

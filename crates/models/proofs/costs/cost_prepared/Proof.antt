@@ -68,7 +68,7 @@ cast-cost-at : tie.Need-cast-cost-at
 cast-cost-at c = let all = passed (c .before .before .before .before) in omega (arith, all .end-few)
 
 cost-at-requires : tie.Need-cost-at-requires
-cost-at-requires c κs = search needs
+cost-at-requires c κs = passed (c .before .before .before .before .before) .spectrum .end-some
 
 same-length : tie.Need-same-length
 same-length c = search needs

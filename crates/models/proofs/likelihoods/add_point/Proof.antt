@@ -13,16 +13,18 @@ use Rattle.models.proofs.likelihoods.add_point.Tie as tie
 
 returns : tie.Need-returns
 unfolding seenTerm
-returns c = (simp (eq-eqb _ _ (c .if1 .taken)), c .before .before .before .before .pre .1)
+returns c = (simp (eq-eqb _ _ (c .if1 .taken)), c .before .before .before .before .pre .1 .1)
 
 ahead-at-requires : tie.Need-ahead-at-requires
-ahead-at-requires c κs = c .before .before .before .before .before .pre .1
+ahead-at-requires c κs = c .before .before .before .before .before .pre .1 .1
 
 ahead-after-requires : tie.Need-ahead-after-requires
-ahead-after-requires c κs = search needs
+ahead-after-requires c κs = c .before .before .before .before .before .before .pre .0
 
 add-count : tie.Need-add-count
-add-count c = search needs
+add-count c =
+    let start = c .before .before .before .before .before .before .before in
+    omega (arith, start .pre .0)
 
 gamma-at-requires : tie.Need-gamma-at-requires
 gamma-at-requires c κs = search needs
@@ -30,10 +32,10 @@ gamma-at-requires c κs = search needs
 point-requires : tie.Need-point-requires
 point-requires c κs =
     let start = c .before .before .before .before .before .before .before .before in
-    (omega arith, kept-fewer (start .pre .0) _ (omega arith))
+    (omega arith, kept-fewer (start .pre .1 .0) _ (omega arith))
 
-int-to-float-t18 : tie.Need-int-to-float-t18
-int-to-float-t18 c = search needs
+int-to-float-t17 : tie.Need-int-to-float-t17
+int-to-float-t17 c = search needs
 
 returns-2 : tie.Need-returns-2
 unfolding seenTerm
@@ -56,4 +58,4 @@ returns-2 c =
 
 pub add-point-spec : {M : Type 1} → statement M
 add-point-spec =
-    tie.close (tie.spec returns ahead-at-requires ahead-after-requires add-count gamma-at-requires point-requires int-to-float-t18 returns-2)
+    tie.close (tie.spec returns ahead-at-requires ahead-after-requires add-count gamma-at-requires point-requires int-to-float-t17 returns-2)

@@ -38,7 +38,7 @@ add-point-requires : tie.Need-add-point-requires Inv-loop μ-loop
 add-point-requires c κs =
     let turn = c .before .before in
     let start = turn .before .before .before .before .before .before .before in
-    (kept-fewer (start .pre) _ (omega arith), turn .loop .inv .0)
+    (omega (arith, start .fits .top), (kept-fewer (start .pre) _ (omega arith), turn .loop .inv .0))
 
 add-i : tie.Need-add-i Inv-loop μ-loop
 add-i c = omega arith

@@ -99,13 +99,13 @@ past-high c n h =
     past-low (c .before .before .before) n (goes-on (high s) (inOrder (after-high s)) refl none n h)
 
 -- ---- 4, 5 and 6
-spectrum-refusal-requires : tie.Need-spectrum-refusal-requires
-spectrum-refusal-requires c κs = search needs
+window-refusal-requires : tie.Need-window-refusal-requires
+window-refusal-requires c κs = search needs
 
 returns-3 : tie.Need-returns-3
 returns-3 c =
     let s = start-high (c .before .before) in
-    let first = c .before .spectrum-refusal .ensures in
+    let first = c .before .window-refusal .ensures in
     past-high (c .before .before) _
     (stops (spectrum s) (inOrder (after-spectrum s)) _ first (omega (arith, c .if6 .taken)))
 
@@ -115,7 +115,7 @@ start-spectrum c = start-high (c .before .before)
 past-spectrum : (c : tie.Else6) → Number (start-spectrum c) (after-spectrum (start-spectrum c))
 past-spectrum c n h =
     let s = start-spectrum c in
-    let none = sym (c .if6 .left) ∙ c .before .spectrum-refusal .ensures in
+    let none = sym (c .if6 .left) ∙ c .before .window-refusal .ensures in
     past-high (c .before .before) n
     (goes-on (spectrum s) (inOrder (after-spectrum s)) (unfold spectrumTests in refl) none n h)
 
@@ -134,11 +134,11 @@ past-list c n h =
     past-spectrum (c .before .before) n (simp (ap not right) h)
 
 -- ---- 10
-table-refusal-requires : tie.Need-table-refusal-requires
-table-refusal-requires c κs = search needs
+short-refusal-requires : tie.Need-short-refusal-requires
+short-refusal-requires c κs = search needs
 
 returns-5 : tie.Need-returns-5
-returns-5 c = past-list (c .before) _ (c .table-refusal .ensures)
+returns-5 c = past-list (c .before) _ (c .short-refusal .ensures)
 
 pub fit-refusal-spec : {M : Type 1} → statement M
 fit-refusal-spec =
@@ -146,9 +146,9 @@ fit-refusal-spec =
     (tie.spec
     returns
     returns-2
-    spectrum-refusal-requires
+    window-refusal-requires
     returns-3
     list-length-requires
     returns-4
-    table-refusal-requires
+    short-refusal-requires
     returns-5)

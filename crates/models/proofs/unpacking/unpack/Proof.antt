@@ -47,7 +47,7 @@ cast-unpack-at : tie.Need-cast-unpack-at
 cast-unpack-at c = let all = passed (c .before) in omega (arith, all .peak-few)
 
 unpack-at-requires : tie.Need-unpack-at-requires
-unpack-at-requires c κs = search needs
+unpack-at-requires c κs = rw (c .before .window-of .ensures) (passed (c .before .before) .spectrum .end-some)
 
 same-length : tie.Need-same-length
 same-length c = search needs

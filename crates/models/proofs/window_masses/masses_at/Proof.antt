@@ -1,5 +1,9 @@
 -- `models::window_masses::masses_at` meets its contract. Assumes nothing.
+use mathlib.Core.Path.{ap, _∙_}
+use native.Mathlib.Omega.{arith}
+use Rattle.helpers.specs.declared.window_ends.EndAnswer.{EndAnswer}
 use Rattle.helpers.proofs.Growths.{kept-after}
+use Rattle.helpers.proofs.WindowEnds.{window-end-is}
 use Rattle.models.specs.Hoists.{massesAt}
 use borrow.Author.Needs.{needs}
 use Rattle.models.proofs.window_masses.masses_at.Statement.{statement}
@@ -10,6 +14,9 @@ ln-at-requires c κs = search needs
 
 window-mass-with-requires : tie.Need-window-mass-with-requires
 window-mass-with-requires c κs = search needs
+
+window-end-requires : tie.Need-window-end-requires
+window-end-requires c κs = search needs
 
 lobe-masses-requires : tie.Need-lobe-masses-requires
 lobe-masses-requires c κs = search needs
@@ -24,9 +31,14 @@ returns : tie.Need-returns
 unfolding massesAt
 returns c =
     let lobes = c .before .before .before in
-    let error = lobes .before .before in (
-      rw (c .mix-mass .ensures, lobes .lobe-masses .ensures .0, error .window-mass-with .ensures, error .before .ln-at .ensures),
-      rw (lobes .lobe-masses .ensures .1) (kept-after _ _ _ _),
+    let made = lobes .before .before .before in
+    let error = made .before in
+    let start = error .before .before .before .before .before in
+    let end = ap (λ (a : EndAnswer). a .end .count) (made .window-end .ensures)
+    ∙ window-end-is (start .args .top) (start .pre) (omega (arith, start .fits .top)) in (
+      rw (c .mix-mass .ensures, lobes .lobe-masses .ensures .0, error .window-mass-with .ensures, error .before .ln-at .ensures)
+          (rw end),
+      rw (lobes .lobe-masses .ensures .1, end) (kept-after _ _ _ _),
     )
 
 pub masses-at-spec : {M : Type 1} → statement M
@@ -35,6 +47,7 @@ masses-at-spec =
     (tie.spec
     ln-at-requires
     window-mass-with-requires
+    window-end-requires
     lobe-masses-requires
     mix-mass-requires
     same-length

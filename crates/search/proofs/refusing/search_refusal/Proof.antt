@@ -15,6 +15,8 @@ use Rattle.meaning.proofs.Chains.{stops, goes-on}
 use Rattle.meaning.proofs.Rows.{Some, few-clear, few-found, many-clear, many-found}
 use Rattle.models.specs.Prepared.{readyDemand}
 use Rattle.models.specs.Refusals.{spectrumTests, shortTable}
+use Rattle.models.proofs.Asked.{spectrum-number, table-number}
+use Rattle.models.proofs.Passed.{spectrum-passed}
 use Rattle.search.specs.Refusing.{wrongStarts, shortRuns, searchTests}
 use Rattle.search.proofs.refusing.search_refusal.Statement.{statement}
 use Rattle.search.proofs.refusing.search_refusal.Tie as tie
@@ -112,10 +114,20 @@ past-high c n h =
 spectrum-refusal-requires : tie.Need-spectrum-refusal-requires
 spectrum-refusal-requires c κs = search needs
 
+-- behind 1 and 2 it says the number of these
+spectrum-says : (c : tie.After-spectrum-refusal) → c .spectrum-refusal .result ≡ firstOf (spectrum (start-high (c .before)))
+spectrum-says c =
+    let e5 = c .before .before in
+    let e3 = e5 .before .before .before .before in
+    let a = start-high (c .before) .args in
+    spectrum-number (a .bins .now) (a .problem .scale) (a .problem .«window_end»)
+    (ltb-false _ _ (low (c .before) .if2 .left)) (e3 .if3 .left) (ltb-false _ _ (e5 .if5 .left)) _
+    (c .spectrum-refusal .ensures)
+
 returns-3 : tie.Need-returns-3
 returns-3 c =
     let s = start-high (c .before .before) in
-    let first = c .before .spectrum-refusal .ensures in
+    let first = spectrum-says (c .before) in
     past-high (c .before .before) _
     (stops (spectrum s) (inOrder (after-spectrum s)) _ first (omega (arith, c .if7 .taken)))
 
@@ -125,7 +137,7 @@ start-spectrum c = start-high (c .before .before)
 past-spectrum : (c : tie.Else7) → Number (start-spectrum c) (after-spectrum (start-spectrum c))
 past-spectrum c n h =
     let s = start-spectrum c in
-    let none = sym (c .if7 .left) ∙ c .before .spectrum-refusal .ensures in
+    let none = sym (c .if7 .left) ∙ spectrum-says (c .before) in
     past-high (c .before .before) n
     (goes-on (spectrum s) (inOrder (after-spectrum s)) (unfold spectrumTests in refl) none n h)
 
@@ -155,17 +167,29 @@ table-refusal-requires c κs = search needs
 abbrev start-table : tie.Else9 → tie.Start
 start-table c = start-spectrum (c .before .before .before)
 
+-- behind 2 and 5 it says the number of this
+table-says : (c : tie.After-table-refusal) → c .table-refusal .result ≡ firstOf (table (start-spectrum (c .before .before)))
+table-says c =
+    let e7 = c .before .before in
+    let e5 = e7 .before .before .before in
+    let a = start-spectrum e7 .args in
+    let p = a .problem in
+    let inside = spectrum-passed (a .bins .now) (p .scale) (p .«window_end»)
+    (sym (e7 .if7 .left) ∙ spectrum-says (e7 .before)) in
+    table-number (p .genome) (p .«window_end») (a .lent .table) (inside .end-some) (ltb-false _ _ (e5 .if5 .left)) _
+    (c .table-refusal .ensures)
+
 returns-5 : tie.Need-returns-5
 returns-5 c =
     let s = start-spectrum (c .before .before .before) in
-    let first = c .before .table-refusal .ensures in
+    let first = table-says (c .before) in
     past-wrong (c .before .before) _
     (stops (table s) (inOrder (after-table s)) _ first (omega (arith, c .if9 .taken)))
 
 past-table : (c : tie.Else9) → Number (start-table c) (after-table (start-table c))
 past-table c n h =
     let s = start-table c in
-    let none = sym (c .if9 .left) ∙ c .before .table-refusal .ensures in
+    let none = sym (c .if9 .left) ∙ table-says (c .before) in
     past-wrong (c .before .before) n (goes-on (table s) (inOrder (after-table s)) refl none n h)
 
 -- the window end is within the limits

@@ -1,4 +1,4 @@
--- `helpers::pairs::lobe_masses` meets its contract: the terms of both lobes are added up side by side, and their
+-- `helpers::pairs::lobe_masses_to` meets its contract: the terms of both lobes are added up side by side, and their
 -- growths are kept. Assumes nothing.
 use borrow.Author.Needs.{needs}
 use mathlib.Core.Path.{_≡_, refl, _∙_}
@@ -12,8 +12,8 @@ use Rattle.helpers.specs.Hoists.{densityOf}
 use Rattle.helpers.specs.Kept.{keepStep, keptAfter}
 use Rattle.helpers.specs.Pairs.{lobeRatio, lobeMassOf}
 use Rattle.helpers.proofs.Recurrences.{Summed, sum-begins, sum-goes-on, sum-ends}
-use Rattle.helpers.proofs.pairs.lobe_masses.Statement.{statement}
-use Rattle.helpers.proofs.pairs.lobe_masses.Tie as tie
+use Rattle.helpers.proofs.pairs.lobe_masses_to.Statement.{statement}
+use Rattle.helpers.proofs.pairs.lobe_masses_to.Tie as tie
 
 abbrev Inv-loop : tie.InvT-loop
 Inv-loop first second ready kept₀ top total₀ term₀ other-total₀ other-term₀ count₀ kept total term other-total other-term count =
@@ -37,11 +37,11 @@ unfolding div neg ofBits
 loop-holds c =
     (sum-begins _ _ _ _ _ refl (c .before .density .ensures), sum-begins _ _ _ _ _ refl (c .density2 .ensures), begins _ _ 1 _ _ (omega arith) refl, refl)
 
-add-ln-at : tie.Need-add-ln-at Inv-loop μ-loop
-add-ln-at c = omega arith
+add-log-at : tie.Need-add-log-at Inv-loop μ-loop
+add-log-at c = omega arith
 
-ln-at-requires : tie.Need-ln-at-requires Inv-loop μ-loop
-ln-at-requires c κs = search needs
+log-at-requires : tie.Need-log-at-requires Inv-loop μ-loop
+log-at-requires c κs = search needs
 
 int-to-float-growth-of : tie.Need-int-to-float-growth-of Inv-loop μ-loop
 int-to-float-growth-of c = search needs
@@ -100,9 +100,9 @@ loop-again c =
     let turn = log .before .before .loop in
     let inv = turn .inv in (
       sum-goes-on _ _ _ (inv .0) _ _ (omega arith) (sums .before .lse2 .ensures)
-          (rw (first .ratio-with .ensures, growth1 .growth-of .ensures, log .ln-at .ensures)),
+          (rw (first .ratio-with .ensures, growth1 .growth-of .ensures, log .log-at .ensures)),
       sum-goes-on _ _ _ (inv .1) _ _ (omega arith) (sums .lse22 .ensures)
-          (rw (c .ratio-with2 .ensures, growth2 .growth-of2 .ensures, log .ln-at .ensures)),
+          (rw (c .ratio-with2 .ensures, growth2 .growth-of2 .ensures, log .log-at .ensures)),
       goes-on _ _ 1 _ (inv .2) _ (omega arith)
           (rw (kept2 .keep2 .ensures, kept1 .keep .ensures, growth1 .growth-of .ensures, growth2 .growth-of2 .ensures)),
       kept2 .keep2 .kept .0 ∙ kept1 .keep .kept .0 ∙ inv .3,
@@ -118,8 +118,8 @@ returns c =
     let inv = turn .loop .inv in
     (rw (sum-ends _ _ _ (inv .0) (omega arith), sum-ends _ _ _ (inv .1) (omega arith)), ends _ _ 1 _ (inv .2) (omega arith))
 
-pub lobe-masses-spec : {M : Type 1} → statement M
-lobe-masses-spec =
+pub lobe-masses-to-spec : {M : Type 1} → statement M
+lobe-masses-to-spec =
     tie.close
     (tie.spec
     Inv-loop
@@ -127,8 +127,8 @@ lobe-masses-spec =
     density-requires
     density-requires-2
     loop-holds
-    add-ln-at
-    ln-at-requires
+    add-log-at
+    log-at-requires
     int-to-float-growth-of
     growth-of-requires
     int-to-float-growth-of-2

@@ -1,4 +1,4 @@
--- `helpers::prepared::ln_at` meets its contract. Assumes nothing.
+-- `helpers::prepared::log_at` meets its contract. Assumes nothing.
 use mathlib.Core.Path.{sym, _∙_}
 use Prim.Native.Nat.{_*_}
 use lib.Ieee.{nan}
@@ -8,8 +8,8 @@ use lib.ListN.{List·getD-eq-default}
 use Rattle.meaning.proofs.Overs.{getD-any}
 use Rattle.helpers.specs.Prepared.{lnAt}
 use borrow.Author.Needs.{needs}
-use Rattle.helpers.proofs.prepared.ln_at.Statement.{statement}
-use Rattle.helpers.proofs.prepared.ln_at.Tie as tie
+use Rattle.helpers.proofs.prepared.log_at.Statement.{statement}
+use Rattle.helpers.proofs.prepared.log_at.Tie as tie
 
 mul-i : tie.Need-mul-i
 mul-i c = search needs
@@ -38,8 +38,8 @@ returns-2 c =
     let past = c .before .before in
     c .ln .ensures ∙ sym (List·getD-eq-default (past .before .before .args .ready .now) _ (past .if1 .left))
 
-pub ln-at-spec : {M : Type 1} → statement M
-ln-at-spec =
+pub log-at-spec : {M : Type 1} → statement M
+log-at-spec =
     tie.close
     (tie.spec
     mul-i
