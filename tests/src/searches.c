@@ -1,6 +1,6 @@
 /*
  * The search through the C interface, whose rows the oracle keeps elsewhere: two starts of an easy spectrum, begun, run in parts and at
- * once, reported, and handed on to an attempt; and a refusal of each call.
+ * once, reported, and handed on to an attempt; a stopped run by every byte that says so; and a refusal of each call.
  */
 #include "fogatise.h"
 #include <stdint.h>
@@ -15,7 +15,7 @@ static const uint32_t bins[BINS] = {21130, 1591, 624, 412, 392, 436, 494, 539, 5
 typedef struct {
     double simplexes[RUNS * SQUARE + 1];
     uint64_t iterations[RUNS + 1];
-    bool stopped[RUNS + 1];
+    uint8_t stopped[RUNS + 1];
 } state;
 
 static double ready[ROOM], table[1], starts[RUNS * LENGTH];
@@ -47,7 +47,18 @@ static int begins(const state *s) {
         if (cost.number != 0 || memcmp(&s->simplexes[row * WIDTH], &cost.value, sizeof cost.value) != 0) return 0;
         if (memcmp(&s->simplexes[row * WIDTH + 1], list, sizeof list) != 0) return 0;
     }
-    return s->iterations[0] == 0 && s->iterations[1] == 0 && !s->stopped[0] && !s->stopped[1];
+    return s->iterations[0] == 0 && s->iterations[1] == 0 && s->stopped[0] == 0 && s->stopped[1] == 0;
+}
+
+/* Every byte but 0 says that a run has stopped: the run stays as it is, and its byte becomes 1. */
+static int stays(const state *begun) {
+    for (int byte = 1; byte < 256; byte++) {
+        state s = *begun;
+        s.stopped[0] = (uint8_t)byte;
+        if (!is(run(&s, RUNS, 1), 0, RUNS) || s.stopped[0] != 1 || s.iterations[0] != 0 || s.iterations[1] != 1) return 0;
+        if (memcmp(s.simplexes, begun->simplexes, SQUARE * sizeof *s.simplexes) != 0) return 0;
+    }
+    return 1;
 }
 
 static int reports(const state *s, size_t length) {
@@ -81,7 +92,7 @@ int searches_differ(void) {
     memcpy(starts, made, sizeof starts);
     whole.simplexes[RUNS * SQUARE] = -1.0;
     whole.iterations[RUNS] = 9;
-    whole.stopped[RUNS] = true;
+    whole.stopped[RUNS] = 7;
     kept = whole;
 
     differences += !is(begun(&whole, LENGTH + 1), FOG_WRONG_LENGTH, 0) || !same(&whole, &kept);
@@ -89,9 +100,13 @@ int searches_differ(void) {
     parts = kept = whole;
     differences += !is(run(&whole, 65536, 1), FOG_TOO_LARGE, 0) || !is(run(&whole, RUNS + 1, 1), FOG_TOO_SHORT, 0) || !same(&whole, &kept);
     differences += !is(run(&whole, RUNS, 8), 0, RUNS) || same(&whole, &kept) || whole.iterations[0] != 8 || whole.iterations[1] != 8;
+    differences += !stays(&kept);
     differences += !is(run(&parts, RUNS, 3), 0, RUNS) || !is(run(&parts, RUNS, 5), 0, RUNS) || !same(&whole, &parts);
-    differences += !is(run(&whole, RUNS, 2000), 0, RUNS) || !whole.stopped[0] || !whole.stopped[1];
-    differences += whole.simplexes[RUNS * SQUARE] != -1.0 || whole.iterations[RUNS] != 9;
+    differences += !is(run(&whole, RUNS, 2000), 0, RUNS) || whole.stopped[0] != 1 || whole.stopped[1] != 1;
+    differences += whole.simplexes[RUNS * SQUARE] != -1.0 || whole.iterations[RUNS] != 9 || whole.stopped[RUNS] != 7;
     differences += !reports(&whole, RUNS) || !reports(&whole, RUNS - 1);
+    whole.stopped[0] = 2;
+    whole.stopped[1] = 255;
+    differences += !reports(&whole, RUNS);
     return differences;
 }

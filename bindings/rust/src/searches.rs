@@ -14,8 +14,8 @@ pub struct Searches<'a> {
     pub simplexes: &'a mut [f64],
     /// How many iterations each run has made.
     pub iterations: &'a mut [u64],
-    /// Whether the test has stopped it.
-    pub stopped: &'a mut [bool],
+    /// 0 where the test has not stopped it, and any other byte where it has; a call writes 0 or 1.
+    pub stopped: &'a mut [u8],
 }
 
 /// What a search works in. What it holds before a call does not matter, and after one it is of no use.

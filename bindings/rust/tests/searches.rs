@@ -16,7 +16,7 @@ fn attempt(spectrum: &Spectrum, configuration: Configuration, seeds: &Seeds) -> 
     let runs = starts.len() / length;
 
     // What is to be stored of runs that are to go on later, and what a call works in.
-    let (mut simplexes, mut iterations, mut stopped) = (vec![0.0; runs * width * width], vec![0; runs], vec![false; runs]);
+    let (mut simplexes, mut iterations, mut stopped) = (vec![0.0; runs * width * width], vec![0; runs], vec![0; runs]);
     let (mut ready, mut table) = (vec![0.0; 2 * (spectrum.window_end + 2)], vec![0.0; spectrum.window_end + 1]);
     let mut searches = Searches { simplexes: &mut simplexes, iterations: &mut iterations, stopped: &mut stopped };
     let mut scratch = Scratch { ready: &mut ready, table: &mut table };
@@ -35,7 +35,7 @@ fn attempt(spectrum: &Spectrum, configuration: Configuration, seeds: &Seeds) -> 
         caps: &mut vec![false; runs],
     };
     let columns = configuration.report_searches(runs, &searches, &mut room)?;
-    assert!((0..runs).all(|i| searches.stopped[i] || columns.caps[i]));
+    assert!((0..runs).all(|i| searches.stopped[i] == 1 || columns.caps[i]));
     let attempt = spectrum.attempt_from_numbers(configuration, 1.1, &columns, scratch.table)?;
     assert_eq!(attempt.total_iterations, searches.iterations.iter().sum());
     Ok(attempt)

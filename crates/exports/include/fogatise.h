@@ -503,9 +503,9 @@ fog_written fog_fit_starts_lent(uint8_t error, uint8_t genome, const double *par
  *
  *   simplexes   has its simplex, the w * w numbers from i * w * w on
  *   iterations  at i, how many iterations it has made
- *   stopped     at i, whether the test has stopped it
+ *   stopped     at i, a byte: 0 where the test has not stopped it, any other where it has; a call writes 0 or 1
  *
- * That is all that is to be stored of runs that are to go on later: the numbers bit for bit, and of `stopped` true or false, no other byte.
+ * That is all that is to be stored of runs that are to go on later: the numbers bit for bit, and of each byte of `stopped` whether it is 0.
  * `ready` and `table` are scratch: what they hold before a call does not matter.
  *
  * An iteration orders the rows by cost, the earlier first on ties. Then the worst gives way to its reflection in the centroid of the others,
@@ -530,20 +530,21 @@ fog_written fog_fit_starts_lent(uint8_t error, uint8_t genome, const double *par
  */
 fog_written fog_begin_searches(const uint32_t *bins, size_t bins_length, double scale, size_t window_end, size_t peak, uint8_t error,
                                uint8_t genome, const double *starts, size_t starts_length, double *simplexes, size_t simplexes_length,
-                               uint64_t *iterations, size_t iterations_length, bool *stopped, size_t stopped_length, double *ready,
+                               uint64_t *iterations, size_t iterations_length, uint8_t *stopped, size_t stopped_length, double *ready,
                                size_t ready_length, double *table, size_t table_length);
 
 /*
  * Each of the first `runs` runs goes on for at most `limit` turns. A turn is the test, and an iteration where it does not stop the run. A
- * run that has stopped or has come to its cap stays as it is, so a limit of 2,000 or more ends every run. A call with the limit n and then
- * one with m leave in `simplexes`, `iterations` and `stopped` what one call with n + m leaves, bit for bit.
+ * run that has stopped or has come to its cap stays as it is, its byte of `stopped` written as 0 or 1, so a limit of 2,000 or more ends every
+ * run. A call with the limit n and then one with m leave in `simplexes`, `iterations` and `stopped` what one call with n + m leaves, bit for
+ * bit.
  *
  * The bins, the scale, the window end, the peak and the families are those that the runs were begun with: no number tells of others. The
  * costs in `simplexes` are taken as they stand there. Refusals 1, 2 (also more than 65,535 runs), 4, 5, 6 and 10.
  */
 fog_written fog_run_searches(const uint32_t *bins, size_t bins_length, double scale, size_t window_end, size_t peak, uint8_t error,
                              uint8_t genome, size_t runs, uint64_t limit, double *simplexes, size_t simplexes_length, uint64_t *iterations,
-                             size_t iterations_length, bool *stopped, size_t stopped_length, double *ready, size_t ready_length,
+                             size_t iterations_length, uint8_t *stopped, size_t stopped_length, double *ready, size_t ready_length,
                              double *table, size_t table_length);
 
 /*
@@ -560,7 +561,7 @@ fog_written fog_run_searches(const uint32_t *bins, size_t bins_length, double sc
  * Refusals 2 (more than 65,535 runs) and 10 (`simplexes` is shorter than runs * w * w, or another array than `runs`).
  */
 fog_written fog_report_searches(uint8_t error, uint8_t genome, size_t runs, const double *simplexes, size_t simplexes_length,
-                                const uint64_t *iterations, size_t iterations_length, const bool *stopped, size_t stopped_length,
+                                const uint64_t *iterations, size_t iterations_length, const uint8_t *stopped, size_t stopped_length,
                                 bool *converged, size_t converged_length, double *costs, size_t costs_length, size_t *places,
                                 size_t places_length, size_t *lengths, size_t lengths_length, bool *caps, size_t caps_length);
 

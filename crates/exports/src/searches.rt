@@ -45,7 +45,7 @@ pub extern "C" fn fog_begin_searches(
     starts: &[f64],
     simplexes: &mut [f64],
     iterations: &mut [u64],
-    stopped: &mut [bool],
+    stopped: &mut [u8],
     ready: &mut [f64],
     table: &mut [f64],
 ) -> FlatWritten
@@ -82,7 +82,7 @@ pub extern "C" fn fog_run_searches(
     limit: u64,
     simplexes: &mut [f64],
     iterations: &mut [u64],
-    stopped: &mut [bool],
+    stopped: &mut [u8],
     ready: &mut [f64],
     table: &mut [f64],
 ) -> FlatWritten
@@ -115,7 +115,7 @@ pub extern "C" fn fog_report_searches(
     runs: usize,
     simplexes: &[f64],
     iterations: &[u64],
-    stopped: &[bool],
+    stopped: &[u8],
     converged: &mut [bool],
     costs: &mut [f64],
     places: &mut [usize],

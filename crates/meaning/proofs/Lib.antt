@@ -8,3 +8,4 @@ pub mod Overs
 pub mod Says
 pub mod Unique
 pub mod Loops
+pub mod Flagged

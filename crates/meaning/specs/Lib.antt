@@ -5,3 +5,4 @@ pub mod Table
 pub mod Over
 pub mod Lent
 pub mod Answers
+pub mod Flags

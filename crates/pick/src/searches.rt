@@ -9,6 +9,7 @@ use fitter::settling::Setup;
 use fitter::starts::fit_starts;
 use histogram::reader::MAX_FILE_BINS;
 use meaning::answers::Written;
+use meaning::flags::is_set;
 use models::families::ErrorModel;
 use models::families::GenomeModel;
 use record::heads::Asked;
@@ -83,6 +84,10 @@ pub(crate) fn refusal(bins: &[u32], setup: Setup) -> u8 {
     answer.number
 }
 
+fn first_bytes(x: &[u8], n: usize) -> &[u8] {
+    if n < x.len() { &x[..n] } else { x }
+}
+
 fn first_flags(x: &[bool], n: usize) -> &[bool] {
     if n < x.len() { &x[..n] } else { x }
 }
@@ -99,11 +104,11 @@ fn ended(stopped: bool, capped: bool) -> usize
 }
 
 // How many runs have ended.
-fn runs_done(stopped: &[bool], caps: &[bool]) -> usize {
+fn runs_done(stopped: &[u8], caps: &[bool]) -> usize {
     let mut done: usize = 0;
     let mut i: usize = 0;
     while i < stopped.len() {
-        done += ended(stopped[i], flag_at(caps, i));
+        done += ended(is_set(stopped[i]), flag_at(caps, i));
         i += 1;
     }
     done
@@ -128,7 +133,7 @@ fn go_on(
     runs: usize,
     rows: &mut [f64],
     iterations: &mut [u64],
-    stopped: &mut [bool],
+    stopped: &mut [u8],
     ready: &mut [f64],
     table: &mut [f64],
     converged: &mut [bool],
@@ -184,7 +189,7 @@ fn search_all(
     watch: Watch,
     rows: &mut [f64],
     iterations: &mut [u64],
-    stopped: &mut [bool],
+    stopped: &mut [u8],
     ready: &mut [f64],
     table: &mut [f64],
     converged: &mut [bool],
@@ -214,7 +219,7 @@ fn search_all(
         );
         whole = both(whole, fine);
         if done < runs {
-            done = runs_done(first_flags(stopped, runs), first_flags(caps, runs));
+            done = runs_done(first_bytes(stopped, runs), first_flags(caps, runs));
             let least = least_cost(first_floats(costs, runs));
             say(watch, k, done as u64, runs as u64, pattern(least));
         }
@@ -246,7 +251,7 @@ pub(crate) fn attempt(
     let mut starts = [0.0f64; STARTS];
     let mut rows = [0.0f64; ROWS];
     let mut iterations = [0u64; RUNS];
-    let mut stopped = [false; RUNS];
+    let mut stopped = [0u8; RUNS];
     let mut ready = [0.0f64; READY];
     let mut table = [0.0f64; TABLE];
     let mut converged = [false; RUNS];

@@ -2,7 +2,6 @@
 -- nothing.
 use Prim.Native.Nat.{ℕ, zero, suc, _+_, _-_, _*_, _≤_, _<_}
 use mathlib.Core.Path.{_≡_, sym, ap, _∙_}
-use mathlib.Core.Bool.{Bool}
 use mathlib.Core.List.{List, [], _∷_}
 use native.Mathlib.Omega.{arith}
 use lib.Ieee.{Float}
@@ -46,8 +45,8 @@ module _ (w runs : ℕ) (simplexes : List Float) (i k : ℕ) (h : i < runs) (l :
       place : i * (w * w) + (k * w + 1) ≡ i * (w * w) + k * w + 1
       place = omega arith
 
-module _ (error : ErrorModel) (genome : GenomeModel) (runs : ℕ) (simplexes : List Float) (iterations : List ℕ)
-    (stopped : List Bool) (i : ℕ) where
+module _ (error : ErrorModel) (genome : GenomeModel) (runs : ℕ) (simplexes : List Float)
+    (iterations stopped : List ℕ) (i : ℕ) where
   abbrev w : ℕ
   w = listLengthOf error genome + 1
 

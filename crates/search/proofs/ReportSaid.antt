@@ -2,7 +2,6 @@
 -- families ask for. Assumes nothing.
 use Prim.Native.Nat.{ℕ, _+_, _-_, _<_}
 use mathlib.Core.Path.{_≡_, refl, sym, ap, _∙_}
-use mathlib.Core.Bool.{Bool}
 use mathlib.Core.List.{List}
 use native.Mathlib.Omega.{arith}
 use lib.Ieee.{Float}
@@ -40,7 +39,7 @@ module _ (error : ErrorModel) (genome : GenomeModel) (runs : ℕ) (w : ℕ) (ew 
     given : {A : Type 0} (x held : List A) → n ≡ 0 → x ≡ onGive (reportOf error genome runs c) x held
     given x held z = rw (sym (report-given z))
 
-    module _ (cap : ℕ) (ec : cap ≡ capOf genome) (simplexes : List Float) (iterations : List ℕ) (stopped : List Bool) where
+    module _ (cap : ℕ) (ec : cap ≡ capOf genome) (simplexes : List Float) (iterations stopped : List ℕ) where
       pub column-left : {A : Type 0} (pick : Found → A) (held now : List A) → n ≡ 0
           → now ≡ over (listOf (λ (i : ℕ). pick (foundAt w cap runs simplexes iterations stopped i)) runs) held
           → now

@@ -2,7 +2,6 @@
 -- coordinates do. Assumes nothing.
 use Prim.Native.Nat.{ℕ, _+_, _-_, _*_, _≤_, _<_}
 use mathlib.Core.Path.{_≡_, sym, ap, _∙_}
-use mathlib.Core.Bool.{Bool}
 use mathlib.Core.List.{List}
 use native.Mathlib.Omega.{arith}
 use lib.Ieee.{Float}
@@ -19,7 +18,7 @@ use Rattle.search.proofs.BestLists.{row-point}
 use Rattle.search.proofs.Reported.{least-in}
 use Rattle.search.proofs.RowLaws.{rows-length}
 
-module _ (cost : List Float → Float) (runs : ℕ) (simplexes : List Float) (iterations : List ℕ) (stopped : List Bool) (i : ℕ)
+module _ (cost : List Float → Float) (runs : ℕ) (simplexes : List Float) (iterations stopped : List ℕ) (i : ℕ)
     (here : i < runs) where
   -- ---- w numbers a row
   module _ (w cap : ℕ) (some : 0 < w) (fits : runs * (w * w) ≤ length simplexes) where

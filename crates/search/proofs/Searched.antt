@@ -2,7 +2,7 @@
 -- nothing.
 use Prim.Native.Nat.{ℕ, _*_, _≤_, _<_}
 use mathlib.Core.Path.{_≡_, refl, sym, ap, _∙_}
-use mathlib.Core.Bool.{Bool, false}
+use mathlib.Core.Bool.{false}
 use mathlib.Core.List.{List}
 use native.Mathlib.Nat.{mul-le-mul}
 use native.Mathlib.Omega.{arith}
@@ -10,6 +10,7 @@ use lib.Dec.{lit≤}
 use lib.ListN.{length, take, getD}
 use lib.Seq.{take-all}
 use lib.Ieee.{Float}
+use Rattle.meaning.specs.Flags.{isSet}
 use Rattle.meaning.specs.Reply.{refuse, give, firstOf}
 use Rattle.meaning.proofs.Chains.{chain-refused, chain-passed}
 use Rattle.models.specs.Refusals.{spectrumTests}
@@ -35,13 +36,13 @@ pub block-is : (w : ℕ) (block : List Float) (vs : List Vertex) → length bloc
 block-is w block vs l e =
     sym (take-all (w * w) block (omega arith)) ∙ sym (rows-flat w w block (omega arith)) ∙ ap flat e
 
-module _ (w : ℕ) (simplexes : List Float) (iterations : List ℕ) (stopped : List Bool) (runs : ℕ)
+module _ (w : ℕ) (simplexes : List Float) (iterations stopped : List ℕ) (runs : ℕ)
     (cost : List Float → Float) (cap limit : ℕ) where
   abbrev after : ℕ → State
   after i = afterAt w simplexes iterations stopped runs cost cap limit i
 
   pub turned : (i : ℕ) (found left : List Float) (p q : Progress) → found ≡ vertexAt (rowsIn (w * w) runs simplexes) i
-      → p .iterations ≡ getD iterations i 0 → p .stopped ≡ getD stopped i false
+      → p .iterations ≡ getD iterations i 0 → p .stopped ≡ isSet (getD stopped i 0)
       → stateOf w left q ≡ turnsOf cost cap limit (stateOf w found p) → stateOf w left q ≡ after i
   unfolding afterAt stateAt
   turned i found left p q ef ei es e =

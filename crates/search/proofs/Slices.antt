@@ -2,14 +2,15 @@
 -- afterwards, leave what one call for n + m turns leaves, behind the last run too. Assumes nothing.
 use Prim.Native.Nat.{ℕ, zero, suc, _+_, _*_, _≤_, _<_, suc-le-suc}
 use mathlib.Core.Path.{_≡_, refl, sym, ap, _∙_, subst}
-use mathlib.Core.Bool.{Bool, false}
 use mathlib.Core.List.{List, [], _∷_, _++_}
 use native.Mathlib.Nat.{zero-lt-suc, zero-mul, suc-mul}
 use native.Mathlib.Omega.{arith}
 use lib.Ieee.{Float}
 use lib.ListN.{length, take, drop, getD, length-append, length-drop}
 use lib.Seq.{drop-at, take-append-le, drop-append-le}
+use Rattle.meaning.specs.Flags.{isSet, byteOf}
 use Rattle.meaning.specs.Over.{over}
+use Rattle.meaning.proofs.Flagged.{set-back}
 use Rattle.search.specs.Claims.{Sized}
 use Rattle.search.specs.Lists.{listOf}
 use Rattle.search.specs.Searches.{stateAt, afterAt, simplexesAfter, iterationsAfter, stoppedAfter}
@@ -79,7 +80,7 @@ module _ (s n : ℕ) (f : ℕ → List Float) (long : (i : ℕ) → i < n → le
       ∙ list-at f n i [] h
 
 -- ---- the slices: w numbers a row, and w rows a run
-module _ (w : ℕ) (wide : 1 < w) (runs : ℕ) (simplexes : List Float) (iterations : List ℕ) (stopped : List Bool)
+module _ (w : ℕ) (wide : 1 < w) (runs : ℕ) (simplexes : List Float) (iterations stopped : List ℕ)
     (fits : runs * (w * w) ≤ length simplexes) (cost : List Float → Float) (cap : ℕ) where
   abbrev start : ℕ → State
   start i = stateAt w simplexes iterations stopped runs i
@@ -130,7 +131,7 @@ module _ (w : ℕ) (wide : 1 < w) (runs : ℕ) (simplexes : List Float) (iterati
     abbrev iterationsThen : List ℕ
     iterationsThen = iterationsAfter w simplexes iterations stopped runs cost cap n
 
-    abbrev stoppedThen : List Bool
+    abbrev stoppedThen : List ℕ
     stoppedThen = stoppedAfter w simplexes iterations stopped runs cost cap n
 
     -- ---- what stands there for run i after the first call is the run after n turns
@@ -142,8 +143,8 @@ module _ (w : ℕ) (wide : 1 < w) (runs : ℕ) (simplexes : List Float) (iterati
         let ev : blockAt w simplexesThen runs i ≡ after n i .vertices = ap (rowsIn w w) block ∙ after-laid n i h in
         let ei : getD iterationsThen i 0 ≡ after n i .iterations =
         over-list (λ (j : ℕ). after n j .iterations) runs iterations 0 i h in
-        let es : getD stoppedThen i false ≡ after n i .stopped =
-        over-list (λ (j : ℕ). after n j .stopped) runs stopped false i h in
+        let es : isSet (getD stoppedThen i 0) ≡ after n i .stopped =
+        ap isSet (over-list (λ (j : ℕ). byteOf (after n j .stopped)) runs stopped 0 i h) ∙ set-back (after n i .stopped) in
         λ t. record { vertices = ev t; iterations = ei t; stopped = es t }
 
     module _ (m : ℕ) where
@@ -185,5 +186,5 @@ module _ (w : ℕ) (wide : 1 < w) (runs : ℕ) (simplexes : List Float) (iterati
       slices-in-parts = (
         rows-in-parts simplexes,
         column-in-parts (λ (s : State). s .iterations) iterations,
-        column-in-parts (λ (s : State). s .stopped) stopped,
+        column-in-parts (λ (s : State). byteOf (s .stopped)) stopped,
       )

@@ -1,7 +1,7 @@
 -- The runs of many starts, as they begin: each run's rows are the first simplex of its start, it has made no iteration
 -- and nothing has stopped it. Over any cost of a point. Definitions only. Assumes nothing.
 use Prim.Native.Nat.{ℕ, _/_, _%_}
-use mathlib.Core.Bool.{Bool, false, not}
+use mathlib.Core.Bool.{Bool, not}
 use mathlib.Core.List.{List}
 use lib.Dec.{eqb}
 use lib.ListN.{length}
@@ -28,8 +28,8 @@ simplexesBegun cost d starts runs simplexes =
 unfoldable pub iterationsBegun : ℕ → List ℕ → List ℕ
 iterationsBegun runs iterations = over (listOf (λ (i : ℕ). 0) runs) iterations
 
-unfoldable pub stoppedBegun : ℕ → List Bool → List Bool
-stoppedBegun runs stopped = over (listOf (λ (i : ℕ). false) runs) stopped
+unfoldable pub stoppedBegun : ℕ → List ℕ → List ℕ
+stoppedBegun runs stopped = over (listOf (λ (i : ℕ). 0) runs) stopped
 
 -- ---- at our cost
 abbrev pub sizeOf : Problem → ℕ

@@ -3,12 +3,13 @@
 -- simplexes. It has converged exactly where the test stopped it at a cost that is finite and above 0; it hit its cap
 -- where its iterations have come to the cap and the test has not stopped it. Definitions only. Assumes nothing.
 use Prim.Native.Nat.{ℕ, _+_, _*_}
-use mathlib.Core.Bool.{Bool, false, not, cond, _&&_}
+use mathlib.Core.Bool.{Bool, not, cond, _&&_}
 use mathlib.Core.List.{List, [], _∷_}
 use lib.Dec.{leb, ltb}
 use lib.ListN.{length, getD}
 use lib.Ieee.{Float, lt}
 use lib.Ieee.Scale.{finite}
+use Rattle.meaning.specs.Flags.{isSet}
 use Rattle.meaning.specs.Fold.{fold}
 use Rattle.meaning.specs.Reply.{Reply, give, Test, test, chain}
 use Rattle.meaning.specs.Rows.{inOrder, many, short}
@@ -45,11 +46,11 @@ foundOf w cap vs from iterations stopped = record {
 }
 
 -- ---- run i of those in the slices: w numbers a row, and w rows
-abbrev pub foundAt : ℕ → ℕ → ℕ → List Float → List ℕ → List Bool → ℕ → Found
+abbrev pub foundAt : ℕ → ℕ → ℕ → List Float → List ℕ → List ℕ → ℕ → Found
 foundAt w cap runs simplexes iterations stopped i =
-    foundOf w cap (blockAt w simplexes runs i) (i * (w * w)) (getD iterations i 0) (getD stopped i false)
+    foundOf w cap (blockAt w simplexes runs i) (i * (w * w)) (getD iterations i 0) (isSet (getD stopped i 0))
 
-abbrev pub reportedAt : ErrorModel → GenomeModel → ℕ → List Float → List ℕ → List Bool → ℕ → Found
+abbrev pub reportedAt : ErrorModel → GenomeModel → ℕ → List Float → List ℕ → List ℕ → ℕ → Found
 reportedAt error genome = foundAt (listLengthOf error genome + 1) (capOf genome)
 
 -- ---- what is refused: more than 65,535 runs as 2, and a slice that is too short as 10
@@ -67,7 +68,7 @@ reportTests w runs c =
     ∷ [])
 
 -- the lengths of the slices
-abbrev pub columnsOf : List Float → List ℕ → List Bool → List Bool → List Float → List ℕ → List ℕ → List Bool → Columns
+abbrev pub columnsOf : List Float → List ℕ → List ℕ → List Bool → List Float → List ℕ → List ℕ → List Bool → Columns
 columnsOf simplexes iterations stopped converged costs places lengths caps = record {
   simplexes = length simplexes;
   iterations = length iterations;

@@ -2,10 +2,11 @@
 -- What stands there once each has gone on for a number of turns, over any cost of a point. Definitions only. Assumes
 -- nothing.
 use Prim.Native.Nat.{ℕ, _+_, _*_}
-use mathlib.Core.Bool.{Bool, false}
+use mathlib.Core.Bool.{false}
 use mathlib.Core.List.{List, []}
 use lib.ListN.{length, getD}
 use lib.Ieee.{Float}
+use Rattle.meaning.specs.Flags.{isSet, byteOf}
 use Rattle.meaning.specs.Lent.{onGive, laid}
 use Rattle.meaning.specs.Over.{over}
 use Rattle.meaning.specs.Reply.{Reply, give, chain}
@@ -19,13 +20,13 @@ use Rattle.search.specs.declared.prices.Problem.{Problem}
 use Rattle.search.specs.declared.refusing.Lent.{Lent}
 
 -- `w` numbers a row and as many rows; `runs` runs
-module _ (w : ℕ) (simplexes : List Float) (iterations : List ℕ) (stopped : List Bool) (runs : ℕ) where
+module _ (w : ℕ) (simplexes : List Float) (iterations : List ℕ) (stopped : List ℕ) (runs : ℕ) where
   -- run i as it stands
   unfoldable pub stateAt : ℕ → State
   stateAt i = record {
     vertices = blockAt w simplexes runs i;
     iterations = getD iterations i 0;
-    stopped = getD stopped i false;
+    stopped = isSet (getD stopped i 0);
   }
 
   module _ (cost : List Float → Float) (cap limit : ℕ) where
@@ -39,11 +40,11 @@ module _ (w : ℕ) (simplexes : List Float) (iterations : List ℕ) (stopped : L
     unfoldable pub iterationsAfter : List ℕ
     iterationsAfter = over (listOf (λ (i : ℕ). afterAt i .iterations) runs) iterations
 
-    unfoldable pub stoppedAfter : List Bool
-    stoppedAfter = over (listOf (λ (i : ℕ). afterAt i .stopped) runs) stopped
+    unfoldable pub stoppedAfter : List ℕ
+    stoppedAfter = over (listOf (λ (i : ℕ). byteOf (afterAt i .stopped)) runs) stopped
 
 -- ---- at our cost
-abbrev pub lentOf : List Float → List ℕ → List Bool → List Float → List Float → Lent
+abbrev pub lentOf : List Float → List ℕ → List ℕ → List Float → List Float → Lent
 lentOf simplexes iterations stopped ready table = record {
   simplexes = length simplexes;
   iterations = length iterations;

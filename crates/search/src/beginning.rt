@@ -25,7 +25,7 @@ fn begin_all(
     starts: &[f64],
     simplexes: &mut [f64],
     iterations: &mut [u64],
-    stopped: &mut [bool],
+    stopped: &mut [u8],
     ready: &[f64],
     table: &mut [f64],
 )
@@ -53,7 +53,7 @@ fn begin_all(
             table,
         );
         iterations[i] = 0;
-        stopped[i] = false;
+        stopped[i] = 0;
         i += 1;
     }
 }
@@ -67,7 +67,7 @@ pub fn begin_searches(
     starts: &[f64],
     simplexes: &mut [f64],
     iterations: &mut [u64],
-    stopped: &mut [bool],
+    stopped: &mut [u8],
     ready: &mut [f64],
     table: &mut [f64],
 ) -> Written

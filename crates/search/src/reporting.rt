@@ -14,6 +14,7 @@ ghost use Rattle.search.specs.Reporting.{leastPlace, convergedAt, capped
 ghost use Rattle.search.specs.Vertices.{rowsIn};
 use crate::prices::iteration_cap;
 use meaning::answers::Written;
+use meaning::flags::is_set;
 use meaning::limits::MOST;
 use models::families::ErrorModel;
 use models::families::GenomeModel;
@@ -98,7 +99,7 @@ fn write_found(
     runs: usize,
     simplexes: &[f64],
     iterations: &[u64],
-    stopped: &[bool],
+    stopped: &[u8],
     converged: &mut [bool],
     costs: &mut [f64],
     places: &mut [usize],
@@ -126,7 +127,7 @@ fn write_found(
             &simplexes[from..to],
             from,
             iterations[i],
-            stopped[i],
+            is_set(stopped[i]),
         );
         converged[i] = found.converged;
         costs[i] = found.cost;
@@ -165,7 +166,7 @@ pub fn report_searches(
     runs: usize,
     simplexes: &[f64],
     iterations: &[u64],
-    stopped: &[bool],
+    stopped: &[u8],
     converged: &mut [bool],
     costs: &mut [f64],
     places: &mut [usize],

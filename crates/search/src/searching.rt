@@ -16,6 +16,8 @@ use crate::refusing::search_refusal;
 use crate::turns::Progress;
 use crate::turns::run;
 use meaning::answers::Written;
+use meaning::flags::byte_of;
+use meaning::flags::is_set;
 use models::prepared::prepare_window;
 
 // Each run goes on for at most `limit` turns.
@@ -28,7 +30,7 @@ fn run_all(
     limit: u64,
     simplexes: &mut [f64],
     iterations: &mut [u64],
-    stopped: &mut [bool],
+    stopped: &mut [u8],
     ready: &[f64],
     table: &mut [f64],
 )
@@ -45,7 +47,7 @@ fn run_all(
         let to = from + size;
         let before = Progress {
             iterations: iterations[i],
-            stopped: stopped[i],
+            stopped: is_set(stopped[i]),
         };
         let after = run(
             bins,
@@ -59,7 +61,7 @@ fn run_all(
             table,
         );
         iterations[i] = after.iterations;
-        stopped[i] = after.stopped;
+        stopped[i] = byte_of(after.stopped);
         i += 1;
     }
 }
@@ -74,7 +76,7 @@ pub fn run_searches(
     limit: u64,
     simplexes: &mut [f64],
     iterations: &mut [u64],
-    stopped: &mut [bool],
+    stopped: &mut [u8],
     ready: &mut [f64],
     table: &mut [f64],
 ) -> Written

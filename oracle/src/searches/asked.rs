@@ -144,7 +144,7 @@ impl Asked {
         let window = prepared::entries(a.problem.window_end.min(70_000)) + d.below(3);
         a.simplexes = (0..room).map(|_| d.any()).collect();
         a.iterations = (0..n).map(|_| d.word()).collect();
-        a.stopped = (0..n + d.below(2) as usize).map(|_| d.below(2) as u8).collect();
+        a.stopped = (0..n + d.below(2) as usize).map(|_| d.below(256) as u8).collect();
         a.ready = (0..window).map(|_| d.any()).collect();
         a
     }

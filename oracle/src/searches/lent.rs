@@ -33,7 +33,7 @@ impl Entry for u64 {
     }
 }
 
-/// A flag of C: 0 or 1.
+/// A flag of C: 0, or any other byte.
 impl Entry for u8 {
     const GUARD: u8 = 0xa5;
 

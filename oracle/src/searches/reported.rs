@@ -137,7 +137,7 @@ impl Reported {
         for _ in 0..n {
             let about = cap - 2 + d.below(4);
             r.iterations.push(if d.one_in(2) { about } else { d.below(cap) });
-            r.stopped.push(d.below(2) as u8);
+            r.stopped.push(if d.one_in(2) { 0 } else { d.below(256) as u8 });
         }
         let flags = |d: &mut Draw| (0..n).map(|_| d.below(2) as u8).collect::<Vec<u8>>();
         (r.converged, r.caps) = (flags(d), flags(d));

@@ -50,6 +50,16 @@ fn runs() -> Vec<Own> {
         costs("costs below 0", |d| -d.octaves(-3, 9)),
         costs("subnormal costs", |d| d.subnormal().abs()),
         costs("costs of any bits but a NaN", |d| Some(d.any()).filter(|x| !x.is_nan()).unwrap_or(1.0)),
+        of(
+            "stopped, by a byte of 2 to 255",
+            300,
+            |d| {
+                let mut r = drawn(d);
+                r.stopped.iter_mut().for_each(|byte| *byte = 2 + d.below(254) as u8);
+                r
+            },
+            |r| r.stopped.iter().all(|&byte| byte > 1),
+        ),
         iterations("one below the cap", |_, cap| cap - 1),
         iterations("at the cap", |_, cap| cap),
         iterations("at the other families' cap", |_, cap| 3_000 - cap),

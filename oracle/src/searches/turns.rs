@@ -282,6 +282,12 @@ fn ends() -> Vec<Own> {
         ),
         changed("at the other families' cap", 200, |_, a, state| state.iterations = 3_000 - a.cap(), |_| true),
         changed("stopped before", 200, |_, _, state| state.stopped = true, all(|_, state| state.stopped)),
+        of(
+            "stopped before, by a byte of 2 to 255",
+            200,
+            |d| ordinary(d).then(|a| a.stopped.iter_mut().for_each(|byte| *byte = 2 + d.below(254) as u8)),
+            |a| a.stopped.iter().all(|&byte| byte > 1),
+        ),
         of("a limit of 0", 200, limits(|_, _| 0), |a| a.limit() == 0),
         of(
             "a limit of 2^64-1, near the cap",

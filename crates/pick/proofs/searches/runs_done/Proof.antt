@@ -20,8 +20,12 @@ loop-holds : tie.Need-loop-holds Inv-loop μ-loop
 loop-holds c = omega arith
 
 -- src/searches.rt:97:23
-shared-slice-read-ended : tie.Need-shared-slice-read-ended Inv-loop μ-loop
-shared-slice-read-ended c = omega arith
+shared-slice-read-is-set : tie.Need-shared-slice-read-is-set Inv-loop μ-loop
+shared-slice-read-is-set c = omega arith
+
+-- src/searches.rt:97:23
+is-set-requires : tie.Need-is-set-requires Inv-loop μ-loop
+is-set-requires c κs = search needs
 
 -- src/searches.rt:97:35
 flag-at-requires : tie.Need-flag-at-requires Inv-loop μ-loop
@@ -58,7 +62,8 @@ runs-done-spec =
     Inv-loop
     μ-loop
     loop-holds
-    shared-slice-read-ended
+    shared-slice-read-is-set
+    is-set-requires
     flag-at-requires
     ended-requires
     add-done

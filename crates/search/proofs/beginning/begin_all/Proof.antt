@@ -2,7 +2,6 @@
 -- found. Assumes nothing.
 use Prim.Native.Nat.{ℕ, _+_, _-_, _*_, _≤_, _<_}
 use mathlib.Core.Path.{_≡_, refl, ap, _∙_}
-use mathlib.Core.Bool.{Bool, false}
 use mathlib.Core.List.{List}
 use native.Mathlib.Omega.{arith}
 use lib.ListN.{length, drop}
@@ -30,7 +29,7 @@ Inv-loop bins problem w runs starts simplexes₀ iterations₀ stopped₀ ready 
     × (drop (standsFrom problem) table ≡ drop (standsFrom problem) table₀)
     × Blocks (w * w) runs (λ (j : ℕ). flat (firstSimplex cost (startAt (w - 1) starts runs j))) simplexes₀ simplexes i
     × each.Passed (λ (j x : ℕ). 0) 0 iterations₀ iterations i
-    × each.Passed (λ (j : ℕ) (x : Bool). false) false stopped₀ stopped i
+    × each.Passed (λ (j x : ℕ). 0) 0 stopped₀ stopped i
 
 abbrev μ-loop : tie.MeasureT-loop
 μ-loop bins problem w runs starts simplexes₀ iterations₀ stopped₀ ready table₀ d size i₀ simplexes iterations stopped table i = runs - i
@@ -210,7 +209,7 @@ returns c =
       (
         done-front _ _ _ _ _ (inv .3) ∙ ap (λ (j : ℕ). over (listOf (λ (k : ℕ). 0) j) (a .iterations .now)) e,
         (
-          done-front _ _ _ _ _ (inv .4) ∙ ap (λ (j : ℕ). over (listOf (λ (k : ℕ). false) j) (a .stopped .now)) e,
+          done-front _ _ _ _ _ (inv .4) ∙ ap (λ (j : ℕ). over (listOf (λ (k : ℕ). 0) j) (a .stopped .now)) e,
           inv .1,
         ),
       ),

@@ -3,7 +3,7 @@
 use borrow.Author.Needs.{needs}
 use Prim.Native.Nat.{ℕ, _-_, _*_, _/_, _%_, _≤_, _<_}
 use mathlib.Core.Path.{_≡_, refl, sym, ap, subst, _∙_}
-use mathlib.Core.Bool.{Bool, not}
+use mathlib.Core.Bool.{not}
 use mathlib.Core.List.{List}
 use native.Mathlib.Nat.{div-mul-le-self}
 use native.Mathlib.Omega.{arith}
@@ -75,7 +75,7 @@ module _ (s : tie.Start) where
   abbrev countsBy : Reply ℕ → List ℕ
   countsBy x = let a = s .args in onGive x (iterationsBegun (runsIn (a .problem) (a .starts .now)) (a .iterations .now)) (a .iterations .now)
 
-  abbrev endsBy : Reply ℕ → List Bool
+  abbrev endsBy : Reply ℕ → List ℕ
   endsBy x = let a = s .args in onGive x (stoppedBegun (runsIn (a .problem) (a .starts .now)) (a .stopped .now)) (a .stopped .now)
 
   abbrev readyBy : Reply ℕ → List Float

@@ -6,6 +6,7 @@ use mathlib.Core.Bool.{Bool, false}
 use mathlib.Core.List.{List}
 use native.Mathlib.Nat.{mul-le-mul}
 use native.Mathlib.Omega.{arith}
+use borrow.Author.Needs.{needs}
 use lib.Ieee.{Float, nan}
 use lib.ListN.{length, getD}
 use Rattle.meaning.specs.Over.{over}
@@ -89,12 +90,15 @@ mul-find-2 c = let s = start (c .before .before) in omega (arith, below (c .befo
 shared-slice-read-find : tie.Need-shared-slice-read-find Inv-loop μ-loop
 shared-slice-read-find c = let t = c .before .before in omega (arith, below t, start (t .before) .pre)
 
-shared-slice-read-find-2 : tie.Need-shared-slice-read-find-2 Inv-loop μ-loop
-shared-slice-read-find-2 c = let t = c .before .before .before in omega (arith, below t, start (t .before) .pre)
+shared-slice-read-is-set : tie.Need-shared-slice-read-is-set Inv-loop μ-loop
+shared-slice-read-is-set c = let t = c .before .before .before in omega (arith, below t, start (t .before) .pre)
+
+is-set-requires : tie.Need-is-set-requires Inv-loop μ-loop
+is-set-requires c κs = search needs
 
 find-requires : tie.Need-find-requires Inv-loop μ-loop
 find-requires c κs =
-    let t = c .before .before .before in
+    let t = c .before .before .before .before in
     let i = t .before .loop .i in
     let s = start (t .before) in
     let a = s .args in
@@ -107,7 +111,7 @@ find-requires c κs =
     )
 
 abbrev turn : tie.After-find Inv-loop μ-loop → tie.In-loop Inv-loop μ-loop
-turn c = c .before .before .before .before
+turn c = c .before .before .before .before .before
 
 found : (c : tie.After-find Inv-loop μ-loop) → let l = turn c .before in let a = start l .args in
     c .find .result ≡ foundAt (a .w) (a .cap) (a .runs) (a .simplexes .now) (a .iterations .now) (a .stopped .now) (l .loop .i)
@@ -116,9 +120,10 @@ found c =
     let i = t .before .loop .i in
     let a = start (t .before) .args in
     let square = a .w * a .w in
+    let rows = row-lent square (a .runs) (a .simplexes .now) i (i * square) refl (below t) in
+    let stopped = c .before .is-set .ensures in
     c .find .ensures
-    ∙ ap (λ (rows : List Float). foundOf (a .w) (a .cap) (rowsIn (a .w) (a .w) rows) (i * square) (getD (a .iterations .now) i 0) (getD (a .stopped .now) i false))
-    (row-lent square (a .runs) (a .simplexes .now) i (i * square) refl (below t))
+    ∙ (λ j. foundOf (a .w) (a .cap) (rowsIn (a .w) (a .w) (rows j)) (i * square) (getD (a .iterations .now) i 0) (stopped j))
 
 slice-write-converged : tie.Need-slice-write-converged Inv-loop μ-loop
 slice-write-converged c = let t = turn c in omega (arith, below t, start (t .before) .pre, t .before .loop .inv .1 .long)
@@ -215,7 +220,8 @@ write-found-spec =
     part-find-end
     mul-find-2
     shared-slice-read-find
-    shared-slice-read-find-2
+    shared-slice-read-is-set
+    is-set-requires
     find-requires
     slice-write-converged
     mul-costs

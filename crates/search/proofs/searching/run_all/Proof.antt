@@ -3,12 +3,12 @@
 use borrow.Author.Needs.{needs}
 use Prim.Native.Nat.{ℕ, _+_, _-_, _*_, _≤_, _<_}
 use mathlib.Core.Path.{_≡_, refl, sym, ap, _∙_}
-use mathlib.Core.Bool.{Bool, false}
 use mathlib.Core.List.{List}
 use native.Mathlib.Omega.{arith}
 use lib.ListN.{length, drop, getD}
 use lib.Ieee.{Float}
 use borrow.Rule.Slice.PartMut.{midOf}
+use Rattle.meaning.specs.Flags.{isSet, byteOf}
 use Rattle.meaning.specs.Over.{over}
 use Rattle.search.specs.Lists.{listOf}
 use Rattle.search.specs.Prices.{readyPriceOf, standsFrom}
@@ -32,7 +32,7 @@ Inv-loop bins problem w cap runs limit simplexes₀ iterations₀ stopped₀ rea
     × (drop (standsFrom problem) table ≡ drop (standsFrom problem) table₀)
     × Blocks (w * w) runs (λ (j : ℕ). flat (after j .vertices)) simplexes₀ simplexes i
     × each.Passed (λ (j x : ℕ). after j .iterations) 0 iterations₀ iterations i
-    × each.Passed (λ (j : ℕ) (x : Bool). after j .stopped) false stopped₀ stopped i
+    × each.Passed (λ (j x : ℕ). byteOf (after j .stopped)) 0 stopped₀ stopped i
 
 abbrev μ-loop : tie.MeasureT-loop
 μ-loop bins problem w cap runs limit simplexes₀ iterations₀ stopped₀ ready table₀ size i₀ simplexes iterations stopped table i = runs - i
@@ -81,12 +81,15 @@ mul-t19 c = omega (arith, start (c .before) .pre .3)
 slice-read-t21 : tie.Need-slice-read-t21 Inv-loop μ-loop
 slice-read-t21 c = let l = c .before .before in omega (arith, l .loop .inv .3 .long, start l .pre .5)
 
-slice-read-t18 : tie.Need-slice-read-t18 Inv-loop μ-loop
-slice-read-t18 c = let l = c .before .before .before in omega (arith, l .loop .inv .4 .long, start l .pre .6)
+slice-read-is-set : tie.Need-slice-read-is-set Inv-loop μ-loop
+slice-read-is-set c = let l = c .before .before .before in omega (arith, l .loop .inv .4 .long, start l .pre .6)
+
+is-set-requires : tie.Need-is-set-requires Inv-loop μ-loop
+is-set-requires c κs = search needs
 
 mul-run : tie.Need-mul-run Inv-loop μ-loop
 mul-run c =
-    let t = c .before .before in
+    let t = c .before .before .before in
     omega (arith, in-slice (t .before) (t .loop-test .taken), t .before .loop .inv .2 .long, start (t .before) .good .1 .1 .1 .1 .1 .1 .0)
 
 sub-run : tie.Need-sub-run Inv-loop μ-loop
@@ -96,7 +99,7 @@ part-run-start : tie.Need-part-run-start Inv-loop μ-loop
 part-run-start c = omega arith
 
 part-run-end : tie.Need-part-run-end Inv-loop μ-loop
-part-run-end c = let t = c .before .before in omega (arith, in-slice (t .before) (t .loop-test .taken))
+part-run-end c = let t = c .before .before .before in omega (arith, in-slice (t .before) (t .loop-test .taken))
 
 -- what the call is lent
 module _ (t : tie.In-loop Inv-loop μ-loop) where
@@ -118,18 +121,21 @@ module _ (t : tie.In-loop Inv-loop μ-loop) where
 
 run-requires : tie.Need-run-requires Inv-loop μ-loop
 run-requires c κs =
-    let t = c .before .before .before .before in
+    let t = c .before .before .before .before .before in
     let s = start (t .before) in
     (found-long t, s .pre .0, s .pre .1, s .pre .2)
 
 mul-iterations : tie.Need-mul-iterations Inv-loop μ-loop
-mul-iterations c = omega (arith, start (c .before .before .before .before .before .before .before .before .before .before) .pre .3)
+mul-iterations c = omega (arith, start (c .before .before .before .before .before .before .before .before .before .before .before) .pre .3)
 
 slice-write-iterations : tie.Need-slice-write-iterations Inv-loop μ-loop
-slice-write-iterations c = let l = c .before .before .before .before .before .before .before .before .before .before in omega (arith, l .loop .inv .3 .long, start l .pre .5)
+slice-write-iterations c = let l = c .before .before .before .before .before .before .before .before .before .before .before in omega (arith, l .loop .inv .3 .long, start l .pre .5)
+
+byte-of-requires : tie.Need-byte-of-requires Inv-loop μ-loop
+byte-of-requires c κs = search needs
 
 slice-write-stopped : tie.Need-slice-write-stopped Inv-loop μ-loop
-slice-write-stopped c = let l = c .before .before .before .before .before .before .before .before .before .before in omega (arith, l .loop .inv .4 .long, start l .pre .6)
+slice-write-stopped c = let l = c .before .before .before .before .before .before .before .before .before .before .before .before in omega (arith, l .loop .inv .4 .long, start l .pre .6)
 
 add-i : tie.Need-add-i Inv-loop μ-loop
 add-i c = omega arith
@@ -139,8 +145,9 @@ loop-less c = omega arith
 
 loop-again : tie.Need-loop-again Inv-loop μ-loop
 loop-again c =
-    let r = c .before .before .before .before in
-    let t = r .before .before .before .before .before in
+    let r = c .before .before .before .before .before in
+    let q = r .before .before .before .is-set in
+    let t = r .before .before .before .before .before .before in
     let l = t .before in
     let s = start l in
     let a = s .args in
@@ -148,10 +155,10 @@ loop-again c =
     let inv = l .loop .inv in
     let k = r .run in
     let h : i < a .runs = t .loop-test .taken in
-    let from : Progress = record { iterations = getD (l .loop .iterations) i 0; stopped = getD (l .loop .stopped) i false } in
+    let from : Progress = record { iterations = getD (l .loop .iterations) i 0; stopped = q .result } in
     let e : stateOf (a .w) (k .last .1 .1 .1 .1 .1 .1 .0) (k .result) ≡ after l i =
     turned (a .w) (a .simplexes .now) (a .iterations .now) (a .stopped .now) (a .runs) (price l (length (a .table .now))) (a .cap) (a .limit) i _ _ _ _
-    (found t) (inv .3 .left i (omega arith)) (inv .4 .left i (omega arith))
+    (found t) (inv .3 .left i (omega arith)) (q .ensures ∙ ap isSet (inv .4 .left i (omega arith)))
     (k .ensures .0 ∙ ap (λ (n : ℕ). turnsOf (price l n) (a .cap) (a .limit) (stateOf (a .w) (lent t) from)) (inv .0)) in
     let long : length (k .last .1 .1 .1 .1 .1 .1 .0) ≡ size l = k .kept .1 .1 .1 .1 .1 .1 .0 ∙ found-long t in (
       k .kept .1 .1 .1 .1 .1 .1 .1 .1 .0 ∙ inv .0,
@@ -159,7 +166,7 @@ loop-again c =
       goes-on (size l) (a .runs) (rowsOf l) (a .simplexes .now) (l .loop .simplexes) i (inv .2) (room l) h _ long
           (block-is (a .w) _ _ long (ap (λ (x : State). x .vertices) e)),
       each.goes-on _ _ _ (inv .3) _ (omega (arith, s .pre .5)) (ap (λ (x : State). x .iterations) e),
-      each.goes-on _ _ _ (inv .4) _ (omega (arith, s .pre .6)) (ap (λ (x : State). x .stopped) e),
+      each.goes-on _ _ _ (inv .4) _ (omega (arith, s .pre .6)) (c .byte-of .ensures ∙ ap (λ (x : State). byteOf (x .stopped)) e),
     )
 
 same-length : tie.Need-same-length Inv-loop μ-loop
@@ -186,7 +193,7 @@ returns c =
       (
         done-front _ _ _ _ _ (inv .3) ∙ ap (λ (j : ℕ). over (listOf (λ (k : ℕ). after l k .iterations) j) (a .iterations .now)) e,
         (
-          done-front _ _ _ _ _ (inv .4) ∙ ap (λ (j : ℕ). over (listOf (λ (k : ℕ). after l k .stopped) j) (a .stopped .now)) e,
+          done-front _ _ _ _ _ (inv .4) ∙ ap (λ (j : ℕ). over (listOf (λ (k : ℕ). byteOf (after l k .stopped)) j) (a .stopped .now)) e,
           inv .1,
         ),
       ),
@@ -204,7 +211,8 @@ run-all-spec =
     add-to
     mul-t19
     slice-read-t21
-    slice-read-t18
+    slice-read-is-set
+    is-set-requires
     mul-run
     sub-run
     part-run-start
@@ -212,6 +220,7 @@ run-all-spec =
     run-requires
     mul-iterations
     slice-write-iterations
+    byte-of-requires
     slice-write-stopped
     add-i
     loop-less

@@ -3,7 +3,7 @@
 use borrow.Author.Needs.{needs}
 use Prim.Native.Nat.{ℕ, _+_, _*_, _≤_, _<_}
 use mathlib.Core.Path.{_≡_, refl, sym, ap, subst, _∙_}
-use mathlib.Core.Bool.{Bool, false}
+use mathlib.Core.Bool.{false}
 use mathlib.Core.List.{List}
 use native.Mathlib.Omega.{arith}
 use lib.ListN.{length, drop}
@@ -44,7 +44,7 @@ module _ (s : tie.Start) where
       (iterationsAfter (widthOf (a .problem)) (a .simplexes .now) (a .iterations .now) (a .stopped .now) (a .runs) price
       (capOf (a .problem .genome)) (a .limit)) (a .iterations .now)
 
-  abbrev endsBy : Reply ℕ → List Bool
+  abbrev endsBy : Reply ℕ → List ℕ
   endsBy x =
       let a = s .args in
       onGive x
