@@ -9,9 +9,10 @@ use borrow.Author.Tests.{ltb-true, ltb-false, le-ltb}
 use lib.Dec.{ltb}
 use lib.ListN.{length, length-map, List·getD-map}
 use lib.Ieee.{Float}
+use Rattle.meaning.specs.Flags.{isSet}
 use Rattle.fitter.specs.Attempting.{attemptFrom}
-use Rattle.fitter.specs.Columns.{shorter, shortest, countOfRuns, runOf, pastRun, runIn}
-use Rattle.fitter.specs.declared.runs.Run.{Run}
+use Rattle.fitter.specs.Columns.{shorter, shortest, countOfRuns, runOf, pastLent, runIn}
+use Rattle.fitter.specs.declared.runs.LentRun.{LentRun}
 use Rattle.fitter.specs.declared.settling.Setup.{Setup}
 
 module _ (a b i : ℕ) where
@@ -59,34 +60,34 @@ within-all a b c d e f i h =
 same-shorter : (n : ℕ) → shorter n n ≡ n
 same-shorter n = rw (le-ltb n n (le-refl n))
 
-module _ (runs : List Run) where
-  abbrev converged-of : List Bool
-  converged-of = map (λ (run : Run). run .converged) runs
+module _ (runs : List LentRun) where
+  abbrev converged-of : List ℕ
+  converged-of = map (λ (run : LentRun). run .converged) runs
 
   abbrev costs-of : List Float
-  costs-of = map (λ (run : Run). run .cost) runs
+  costs-of = map (λ (run : LentRun). run .cost) runs
 
   abbrev places-of : List ℕ
-  places-of = map (λ (run : Run). run .place) runs
+  places-of = map (λ (run : LentRun). run .place) runs
 
   abbrev lengths-of : List ℕ
-  lengths-of = map (λ (run : Run). run .length) runs
+  lengths-of = map (λ (run : LentRun). run .length) runs
 
   abbrev iterations-of : List ℕ
-  iterations-of = map (λ (run : Run). run .iterations) runs
+  iterations-of = map (λ (run : LentRun). run .iterations) runs
 
-  abbrev caps-of : List Bool
-  caps-of = map (λ (run : Run). run .«hit_cap») runs
+  abbrev caps-of : List ℕ
+  caps-of = map (λ (run : LentRun). run .«hit_cap») runs
 
   pub columns-run : runOf converged-of costs-of places-of lengths-of iterations-of caps-of ≡ runIn runs
   unfolding runOf runIn
   columns-run j i = record {
-    converged = List·getD-map (λ (run : Run). run .converged) runs i pastRun j;
-    cost = List·getD-map (λ (run : Run). run .cost) runs i pastRun j;
-    place = List·getD-map (λ (run : Run). run .place) runs i pastRun j;
-    length = List·getD-map (λ (run : Run). run .length) runs i pastRun j;
-    iterations = List·getD-map (λ (run : Run). run .iterations) runs i pastRun j;
-    «hit_cap» = List·getD-map (λ (run : Run). run .«hit_cap») runs i pastRun j;
+    converged = isSet (List·getD-map (λ (run : LentRun). run .converged) runs i pastLent j);
+    cost = List·getD-map (λ (run : LentRun). run .cost) runs i pastLent j;
+    place = List·getD-map (λ (run : LentRun). run .place) runs i pastLent j;
+    length = List·getD-map (λ (run : LentRun). run .length) runs i pastLent j;
+    iterations = List·getD-map (λ (run : LentRun). run .iterations) runs i pastLent j;
+    «hit_cap» = isSet (List·getD-map (λ (run : LentRun). run .«hit_cap») runs i pastLent j);
   }
 
   all-same : (a b c d e f n : ℕ) → a ≡ n → b ≡ n → c ≡ n → d ≡ n → e ≡ n → f ≡ n → shortest a b c d e f ≡ n

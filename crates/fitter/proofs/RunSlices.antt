@@ -13,11 +13,11 @@ use denote.Laws.{Is}
 use denote.Builtin.{f64, u32}
 use denote.Ref.{RefT}
 use denote.Slice.{sliceVal, ShrSlice, MutSlice, Room}
-use Rattle.fitter.specs.declared.runs.Run.{Run}
-use Rattle.fitter.proofs.runs.Run as Run-type
+use Rattle.fitter.specs.declared.runs.LentRun.{LentRun}
+use Rattle.fitter.proofs.runs.LentRun as Lent-type
 
-abbrev pub Run-row : RattleType
-Run-row = Run-type.the-row
+abbrev pub Lent-row : RattleType
+Lent-row = Lent-type.the-row
 
 -- S is the struct's type. Of the slices b (bins), r (runs), l (lists) and t (table): lifetime, share of its token,
 -- place, ghost name, and that it fits
@@ -40,12 +40,12 @@ pub record Arguments (S : RattleType) (at : S .Denot → Val) : Type 0 where
   pub γt : GName
   pub bins : List ℕ
   pub setup : S .Denot
-  pub runs : List Run
+  pub runs : List LentRun
   pub lists : List Float
   pub table : List Float
   pub gb : Room u32 (length bins)
   pub gs : Is S setup (at setup ∷ [])
-  pub gr : Room Run-row (length runs)
+  pub gr : Room Lent-row (length runs)
   pub gl : Room f64 (length lists)
   pub gt : Room f64 (length table)
 
@@ -62,7 +62,7 @@ module _ {S : RattleType} {at : S .Denot → Val} (a : Arguments S at) where
   abbrev pub bins-ref : RefT (List ℕ)
   bins-ref = record { ptr = pb; name = γb; now = bins }
 
-  abbrev pub runs-ref : RefT (List Run)
+  abbrev pub runs-ref : RefT (List LentRun)
   runs-ref = record { ptr = pr; name = γr; now = runs }
 
   abbrev pub lists-ref : RefT (List Float)
@@ -91,7 +91,7 @@ module _ {S : RattleType} {at : S .Denot → Val} (a : Arguments S at) where
   OwnB = ShrSlice (named 0) κb u32 .own bins-ref (bins-at ∷ [])
 
   abbrev pub OwnR : Fml
-  OwnR = ShrSlice (named 1) κr Run-row .own runs-ref (runs-at ∷ [])
+  OwnR = ShrSlice (named 1) κr Lent-row .own runs-ref (runs-at ∷ [])
 
   abbrev pub OwnL : Fml
   OwnL = ShrSlice (named 2) κl f64 .own lists-ref (lists-at ∷ [])

@@ -8,8 +8,10 @@ use lib.Dec.{ltb, eqb}
 use lib.ListN.{length, take, drop}
 use lib.Ieee.{Float, le}
 use lib.Ieee.Scale.{finite}
+use Rattle.meaning.specs.Flags.{isSet}
 use Rattle.meaning.specs.Fold.{fold}
 use Rattle.routines.specs.Constants as float
+use Rattle.fitter.specs.declared.runs.LentRun.{LentRun}
 use Rattle.fitter.specs.declared.runs.Run.{Run}
 use Rattle.fitter.specs.declared.runs.RunPoint.{RunPoint}
 use Rattle.fitter.specs.declared.runs.RunPoint.the-variants.{Converged, Missing}
@@ -23,6 +25,17 @@ noRun = record {
   length = 0;
   iterations = 0;
   «hit_cap» = false;
+}
+
+-- a lent run's flags are bytes
+abbrev pub runFrom : LentRun → Run
+runFrom lent = record {
+  converged = isSet (lent .converged);
+  cost = lent .cost;
+  place = lent .place;
+  length = lent .length;
+  iterations = lent .iterations;
+  «hit_cap» = isSet (lent .«hit_cap»);
 }
 
 abbrev pub pointOf : Run → RunPoint

@@ -21,12 +21,12 @@ use models::families::list_length;
 pub fn attempt_from_numbers(
     bins: &[u32],
     setup: Setup,
-    converged: &[bool],
+    converged: &[u8],
     costs: &[f64],
     places: &[usize],
     lengths: &[usize],
     iterations: &[u64],
-    caps: &[bool],
+    caps: &[u8],
     lists: &[f64],
     table: &mut [f64],
 ) -> AttemptAnswer

@@ -17,6 +17,7 @@ use crate::surveys::Survey;
 use crate::surveys::count_run;
 use crate::surveys::no_survey;
 use crate::surveys::weigh_run;
+use meaning::flags::is_set;
 
 fn shorter_of(a: usize, b: usize) -> usize
     ensures { λ r. ⌜ r ≡ shorter a b ⌝ }
@@ -29,12 +30,12 @@ fn shorter_of(a: usize, b: usize) -> usize
 
 // The number of runs: the shortest slice's.
 pub(crate) fn run_count(
-    converged: &[bool],
+    converged: &[u8],
     costs: &[f64],
     places: &[usize],
     lengths: &[usize],
     iterations: &[u64],
-    caps: &[bool],
+    caps: &[u8],
 ) -> usize
     ensures { λ r. ⌜ r ≡ countOfRuns (now (converged .entry)) (now (costs .entry)) (now (places .entry)) (now (lengths .entry)) (now (iterations .entry)) (now (caps .entry)) ⌝ }
 {
@@ -45,35 +46,35 @@ pub(crate) fn run_count(
 
 // The run at a position.
 pub(crate) fn run_at(
-    converged: &[bool],
+    converged: &[u8],
     costs: &[f64],
     places: &[usize],
     lengths: &[usize],
     iterations: &[u64],
-    caps: &[bool],
+    caps: &[u8],
     i: usize,
 ) -> Run
     requires { ⌜ i < countOfRuns (now converged) (now costs) (now places) (now lengths) (now iterations) (now caps) ⌝ }
     ensures { λ r. ⌜ r ≡ runOf (now (converged .entry)) (now (costs .entry)) (now (places .entry)) (now (lengths .entry)) (now (iterations .entry)) (now (caps .entry)) i ⌝ }
 {
     Run {
-        converged: converged[i],
+        converged: is_set(converged[i]),
         cost: costs[i],
         place: places[i],
         length: lengths[i],
         iterations: iterations[i],
-        hit_cap: caps[i],
+        hit_cap: is_set(caps[i]),
     }
 }
 
 // The first pass: a run without a converged point is passed over.
 pub(crate) fn survey_columns(
-    converged: &[bool],
+    converged: &[u8],
     costs: &[f64],
     places: &[usize],
     lengths: &[usize],
     iterations: &[u64],
-    caps: &[bool],
+    caps: &[u8],
     lent: usize,
     wanted: usize,
 ) -> Survey
@@ -96,12 +97,12 @@ pub(crate) fn survey_columns(
 // The second pass, behind the rejected run of least cost.
 pub(crate) fn retry_columns(
     held: Held,
-    converged: &[bool],
+    converged: &[u8],
     costs: &[f64],
     places: &[usize],
     lengths: &[usize],
     iterations: &[u64],
-    caps: &[bool],
+    caps: &[u8],
     bins: &[u32],
     setup: Setup,
     lists: &[f64],

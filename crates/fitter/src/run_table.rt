@@ -5,7 +5,7 @@ ghost use mathlib.Core.Path.{_≡_};
 ghost use lib.ListN.{length, drop};
 ghost use Rattle.fitter.specs.Columns.{runIn};
 ghost use Rattle.fitter.specs.Attempting.{attemptAnswerOf, attemptFrom, standsFrom};
-use crate::runs::Run;
+use crate::runs::LentRun;
 use crate::settling::AttemptAnswer;
 use crate::settling::Setup;
 use crate::turns::begin_turns;
@@ -17,7 +17,7 @@ use crate::turns::turn;
 pub fn attempt_from(
     bins: &[u32],
     setup: Setup,
-    runs: &[Run],
+    runs: &[LentRun],
     lists: &[f64],
     table: &mut [f64],
 ) -> AttemptAnswer

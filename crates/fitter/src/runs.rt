@@ -2,12 +2,12 @@
 // Ported from src/preprocessing/spectrum_fitter.rs of bacpop/sparrowhawk-asm, f1f8af1232, Apache-2.0; ported and
 // changed: the parameter lists lie one behind the other in a lent slice.
 ghost use mathlib.Core.Path.{_≡_};
-ghost use Rattle.fitter.specs.Runs.{pointOf, wrongPlace, badCost, listAt};
+ghost use Rattle.fitter.specs.Runs.{runFrom, pointOf, wrongPlace, badCost, listAt};
 ghost use lib.ListN.{length};
+use meaning::flags::is_set;
 use routines::pick::is_finite;
 
 // One record for each start. Where it did not converge, cost, place and length are not looked at.
-#[repr(C)]
 pub struct Run {
     pub converged: bool,
     pub cost: f64,
@@ -16,6 +16,30 @@ pub struct Run {
     pub length: usize,
     pub iterations: u64,
     pub hit_cap: bool,
+}
+
+// A run as it is lent: a flag is a byte, 0 for no and any other for yes.
+#[repr(C)]
+pub struct LentRun {
+    pub converged: u8,
+    pub cost: f64,
+    pub place: usize,
+    pub length: usize,
+    pub iterations: u64,
+    pub hit_cap: u8,
+}
+
+pub(crate) fn run_of(lent: LentRun) -> Run
+    ensures { λ r. ⌜ r ≡ runFrom lent ⌝ }
+{
+    Run {
+        converged: is_set(lent.converged),
+        cost: lent.cost,
+        place: lent.place,
+        length: lent.length,
+        iterations: lent.iterations,
+        hit_cap: is_set(lent.hit_cap),
+    }
 }
 
 // A run's answer: its cost and the place of its list.

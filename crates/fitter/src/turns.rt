@@ -7,10 +7,13 @@ ghost use Prim.Native.Nat.{_<_};
 ghost use lib.ListN.{length, drop};
 ghost use Rattle.fitter.specs.Settling.{finishOf};
 ghost use Rattle.fitter.specs.Judging.{tableFrom};
+ghost use Rattle.fitter.specs.Runs.{runFrom};
 ghost use Rattle.fitter.specs.Turns.{emptySettled, beginOf, secondFrom, firstStands, firstTurn, secondTurn};
 ghost use Rattle.fitter.specs.Turns.{turnOf, turnStands};
 use crate::judging::retry_run;
+use crate::runs::LentRun;
 use crate::runs::Run;
+use crate::runs::run_of;
 use crate::settling::AttemptAnswer;
 use crate::settling::Settled;
 use crate::settling::Setup;
@@ -146,16 +149,17 @@ pub(crate) fn retry_turn(
 // One turn: the run at `t.next`.
 pub(crate) fn turn(
     t: Turns,
-    run: Run,
+    lent: LentRun,
     bins: &[u32],
     setup: Setup,
     lists: &[f64],
     table: &mut [f64],
 ) -> Turns
     requires { ⌜ t .next < t .runs ⌝ }
-    ensures { λ r. ⌜ r ≡ turnOf (now (bins .entry)) setup (now (lists .entry)) (length (now (table .entry))) run t ⌝ }
+    ensures { λ r. ⌜ r ≡ turnOf (now (bins .entry)) setup (now (lists .entry)) (length (now (table .entry))) (runFrom lent) t ⌝ }
     ensures { λ r. ⌜ drop (turnStands setup t r) (now (table .exit)) ≡ drop (turnStands setup t r) (now (table .entry)) ⌝ }
 {
+    let run = run_of(lent);
     if t.surveyed {
         return retry_turn(t, run, bins, setup, lists, table);
     }

@@ -1,6 +1,5 @@
 -- `fitter::run_columns::run_at` meets its contract. Assumes nothing.
 use Prim.Native.Nat.{_<_}
-use mathlib.Core.Path.{refl}
 use borrow.Author.Needs.{needs}
 use lib.ListN.{length}
 use Rattle.fitter.specs.Columns.{countOfRuns, runOf}
@@ -8,70 +7,85 @@ use Rattle.fitter.proofs.Columned.{Within, within-all}
 use Rattle.fitter.proofs.run_columns.run_at.Statement.{statement}
 use Rattle.fitter.proofs.run_columns.run_at.Tie as tie
 
-all : (s : tie.Start) → let a = s .args in
+-- the slices are known
+abbrev Known : Type 0
+Known = tie.After-shared-slice-known7
+
+abbrev start : Known → tie.Start
+start k = k .before .before .before .before .before .before .before
+
+all : (k : Known) → let a = start k .args in
     Within (length (a .converged .now)) (length (a .costs .now)) (length (a .places .now)) (length (a .lengths .now))
     (length (a .iterations .now)) (length (a .caps .now)) (a .i)
 unfolding countOfRuns
-all s = within-all _ _ _ _ _ _ _ (s .pre)
+all k = within-all _ _ _ _ _ _ _ (start k .pre)
 
-shared-slice-read-t9 : tie.Need-shared-slice-read-t9
-shared-slice-read-t9 c = all (c .before) .first
+shared-slice-read-is-set : tie.Need-shared-slice-read-is-set
+shared-slice-read-is-set c = all c .first
 
-mul-t10 : tie.Need-mul-t10
-mul-t10 c =
-    let s = c .before in
-    let h : s .args .i < length (s .args .costs .now) = all s .second in
+is-set-requires : tie.Need-is-set-requires
+is-set-requires c κs = search needs
+
+mul-t11 : tie.Need-mul-t11
+mul-t11 c =
+    let k = c .before in
+    let h : start k .args .i < length (start k .args .costs .now) = all k .second in
     search needs
 
-shared-slice-read-t12 : tie.Need-shared-slice-read-t12
-shared-slice-read-t12 c = all (c .before .before) .second
+shared-slice-read-t13 : tie.Need-shared-slice-read-t13
+shared-slice-read-t13 c = all (c .before .before) .second
 
-mul-t13 : tie.Need-mul-t13
-mul-t13 c =
-    let s = c .before .before in
-    let h : s .args .i < length (s .args .places .now) = all s .third in
+mul-t14 : tie.Need-mul-t14
+mul-t14 c =
+    let k = c .before .before in
+    let h : start k .args .i < length (start k .args .places .now) = all k .third in
     search needs
 
-shared-slice-read-t15 : tie.Need-shared-slice-read-t15
-shared-slice-read-t15 c = all (c .before .before .before) .third
+shared-slice-read-t16 : tie.Need-shared-slice-read-t16
+shared-slice-read-t16 c = all (c .before .before .before) .third
 
-mul-t16 : tie.Need-mul-t16
-mul-t16 c =
-    let s = c .before .before .before in
-    let h : s .args .i < length (s .args .lengths .now) = all s .fourth in
+mul-t17 : tie.Need-mul-t17
+mul-t17 c =
+    let k = c .before .before .before in
+    let h : start k .args .i < length (start k .args .lengths .now) = all k .fourth in
     search needs
 
-shared-slice-read-t18 : tie.Need-shared-slice-read-t18
-shared-slice-read-t18 c = all (c .before .before .before .before) .fourth
+shared-slice-read-t19 : tie.Need-shared-slice-read-t19
+shared-slice-read-t19 c = all (c .before .before .before .before) .fourth
 
-mul-t19 : tie.Need-mul-t19
-mul-t19 c =
-    let s = c .before .before .before .before in
-    let h : s .args .i < length (s .args .iterations .now) = all s .fifth in
+mul-t20 : tie.Need-mul-t20
+mul-t20 c =
+    let k = c .before .before .before .before in
+    let h : start k .args .i < length (start k .args .iterations .now) = all k .fifth in
     search needs
 
-shared-slice-read-t21 : tie.Need-shared-slice-read-t21
-shared-slice-read-t21 c = all (c .before .before .before .before .before) .fifth
+shared-slice-read-t22 : tie.Need-shared-slice-read-t22
+shared-slice-read-t22 c = all (c .before .before .before .before .before) .fifth
 
-shared-slice-read-t23 : tie.Need-shared-slice-read-t23
-shared-slice-read-t23 c = all (c .before .before .before .before .before .before) .sixth
+shared-slice-read-is-set-2 : tie.Need-shared-slice-read-is-set-2
+shared-slice-read-is-set-2 c = all (c .before .before .before .before .before .before) .sixth
+
+is-set-requires-2 : tie.Need-is-set-requires-2
+is-set-requires-2 c κs = search needs
 
 returns : tie.Need-returns
 unfolding runOf
-returns c = refl
+returns c = rw (c .is-set2 .ensures, c .before .before .before .before .before .before .is-set .ensures)
 
 pub run-at-spec : {M : Type 1} → statement M
 run-at-spec =
     tie.close
     (tie.spec
-    shared-slice-read-t9
-    mul-t10
-    shared-slice-read-t12
-    mul-t13
-    shared-slice-read-t15
-    mul-t16
-    shared-slice-read-t18
-    mul-t19
-    shared-slice-read-t21
-    shared-slice-read-t23
+    shared-slice-read-is-set
+    is-set-requires
+    mul-t11
+    shared-slice-read-t13
+    mul-t14
+    shared-slice-read-t16
+    mul-t17
+    shared-slice-read-t19
+    mul-t20
+    shared-slice-read-t22
+    shared-slice-read-is-set-2
+    is-set-requires-2
     returns)

@@ -45,7 +45,7 @@ use Rattle.fitter.proofs.run_table.attempt_from.Key as key
 use Rattle.fitter.proofs.run_table.attempt_from.Statement as stated
 use Rattle.fitter.proofs.run_table.attempt_from.Code as code
 use Rattle.fitter.proofs.run_table.attempt_from.Proof.Types.{Args, Setup-row}
-use Rattle.fitter.proofs.RunSlices.{Run-row, Arguments, m, bins-ref, runs-ref, lists-ref, table-ref, bins-at}
+use Rattle.fitter.proofs.RunSlices.{Lent-row, Arguments, m, bins-ref, runs-ref, lists-ref, table-ref, bins-at}
 use Rattle.fitter.proofs.RunSlices.{setup-at, runs-at, lists-at, table-at}
 use Rattle.fitter.proofs.run_table.attempt_from.Proof.Calls.{Begin, Turn, End}
 use Rattle.fitter.proofs.run_table.attempt_from.Proof.Exit.{stayed, Post}
@@ -69,7 +69,7 @@ module _ {M : Type 1} (𝓤 : URA M) (H : Heap 𝓤) (A : Atoms 𝓤) (W : Given
         qed W
         ((‵ (flft κb qb) ⊛ ‵ (flft κr qr) ⊛ ‵ (flft κl ql) ⊛ ‵ (flft κt qt) ⊛ ‵ ftrue)
         ∷ ‵ (owns
-        (ShrSlice (named 0) κb u32 ∷ Setup-row ∷ ShrSlice (named 1) κr Run-row ∷ ShrSlice (named 2) κl f64
+        (ShrSlice (named 0) κb u32 ∷ Setup-row ∷ ShrSlice (named 1) κr Lent-row ∷ ShrSlice (named 2) κl f64
         ∷ MutSlice (named 3) κt f64 ∷ [])
         (bins-ref a, (setup, (runs-ref a, (lists-ref a, (table-ref a γt table, tt)))))
         (bins-at a ∷ [], (setup-at a ∷ [], (runs-at a ∷ [], (lists-at a ∷ [], (table-at a (m a) ∷ [], tt))))))
@@ -120,7 +120,7 @@ module _ {M : Type 1} (𝓤 : URA M) (H : Heap 𝓤) (A : Atoms 𝓤) (W : Given
         (
           goes-none 𝓤 H A W 4 (λ _. Setup-row) yes (λ κs x f. refl),
           (
-            goes-none-slice 𝓤 H A W 4 (1 ∷ []) tt (plain (λ _. Run-row)) yes,
+            goes-none-slice 𝓤 H A W 4 (1 ∷ []) tt (plain (λ _. Lent-row)) yes,
             (
               goes-none-slice 𝓤 H A W 4 (2 ∷ []) tt (plain (λ _. f64)) yes,
               (goes-slice 𝓤 H A W 4 3 tt (plain (λ _. f64)), tt),
@@ -138,7 +138,7 @@ module _ {M : Type 1} (𝓤 : URA M) (H : Heap 𝓤) (A : Atoms 𝓤) (W : Given
         (
           LL.tells Setup-type.the-type Setup-laws.the-laws,
           (
-            shr-slice-tells (named 1) (κs .1 .0) Run-row,
+            shr-slice-tells (named 1) (κs .1 .0) Lent-row,
             (
               shr-slice-tells (named 2) (κs .1 .1 .0) f64,
               (mut-slice-tells (named 3) (κs .1 .1 .1 .0) f64, tt),

@@ -1,9 +1,15 @@
 -- `fitter::turns::turn` meets its contract. Assumes nothing.
-use mathlib.Core.Path.{_∙_}
+use mathlib.Core.Path.{_∙_, ap}
+use lib.ListN.{length}
 use borrow.Author.Needs.{needs}
+use Rattle.fitter.specs.Turns.{turnOf}
+use Rattle.fitter.specs.declared.runs.Run.{Run}
 use Rattle.fitter.proofs.Turned.{turn-first, turn-second}
 use Rattle.fitter.proofs.turns.turn.Statement.{statement}
 use Rattle.fitter.proofs.turns.turn.Tie as tie
+
+run-of-requires : tie.Need-run-of-requires
+run-of-requires c κs = search needs
 
 retry-turn-requires : tie.Need-retry-turn-requires
 retry-turn-requires c κs = search needs
@@ -15,9 +21,12 @@ returns : tie.Need-returns
 returns c =
     let r = c .before .before in
     let t = r .before .before in
-    let a = t .before .before .before .before .args in (
+    let run = t .before .run-of in
+    let a = t .before .before .before .before .before .args in
+    let room = length (a .table .now) in (
       r .retry-turn .ensures .0
-          ∙ turn-second (a .bins .now) (a .setup) (a .lists .now) _ (a .run) (a .t) (t .if1 .taken),
+          ∙ turn-second (a .bins .now) (a .setup) (a .lists .now) room (run .result) (a .t) (t .if1 .taken)
+          ∙ ap (λ (x : Run). turnOf (a .bins .now) (a .setup) (a .lists .now) room x (a .t)) (run .ensures),
       rw (t .if1 .taken) (r .retry-turn .ensures .1),
     )
 
@@ -31,13 +40,16 @@ returns-2 : tie.Need-returns-2
 returns-2 c =
     let r = c .before .before in
     let t = r .before .before in
-    let a = t .before .before .before .before .args in (
+    let run = t .before .run-of in
+    let a = t .before .before .before .before .before .args in
+    let room = length (a .table .now) in (
       r .survey-turn .ensures .0
-          ∙ turn-first (a .bins .now) (a .setup) (a .lists .now) _ (a .run) (a .t) (t .if1 .left),
+          ∙ turn-first (a .bins .now) (a .setup) (a .lists .now) room (run .result) (a .t) (t .if1 .left)
+          ∙ ap (λ (x : Run). turnOf (a .bins .now) (a .setup) (a .lists .now) room x (a .t)) (run .ensures),
       rw (t .if1 .left) (r .survey-turn .ensures .1),
     )
 
 pub turn-spec : {M : Type 1} → statement M
 turn-spec =
     tie.close
-    (tie.spec retry-turn-requires same-length returns survey-turn-requires same-length-2 returns-2)
+    (tie.spec run-of-requires retry-turn-requires same-length returns survey-turn-requires same-length-2 returns-2)

@@ -25,7 +25,7 @@ use denote.Triple.Statement.{Contract}
 use denote.Triple.Clauses.{ensured, lasts}
 use denote.Triple.Entry.{onEntry}
 use denote.Triple.Spec.{tripleOf}
-use Rattle.fitter.specs.declared.runs.Run.{Run}
+use Rattle.fitter.specs.declared.runs.LentRun.{LentRun}
 use Rattle.fitter.specs.declared.settling.AttemptAnswer.{AttemptAnswer}
 use Rattle.fitter.specs.declared.settling.Setup.{Setup}
 use Rattle.fitter.specs.declared.turns.Turns.{Turns}
@@ -33,8 +33,8 @@ use Rattle.fitter.proofs.SaidFacts.{says-one}
 use Rattle.fitter.proofs.turns.begin_turns as begin
 use Rattle.fitter.proofs.turns.turn as turn
 use Rattle.fitter.proofs.turns.end_turns as end
-use Rattle.fitter.proofs.run_table.attempt_from.Proof.Types.{Args, Turns-row, Setup-row, turns-at, run-at}
-use Rattle.fitter.proofs.RunSlices.{Run-row, Arguments, n, m, bins-ref, lists-ref, table-ref, bins-at}
+use Rattle.fitter.proofs.run_table.attempt_from.Proof.Types.{Args, Turns-row, Setup-row, turns-at, lent-at}
+use Rattle.fitter.proofs.RunSlices.{Lent-row, Arguments, n, m, bins-ref, lists-ref, table-ref, bins-at}
 use Rattle.fitter.proofs.RunSlices.{setup-at, lists-at, table-at}
 use Rattle.fitter.proofs.run_table.attempt_from.Proof.State.{Began, Finished}
 
@@ -65,15 +65,15 @@ module _ (a : Args) where
   abbrev begin-vals : List Val × (List Val × (List Val × (List Val × Unit {0})))
   begin-vals = (bins-at a ∷ [], (setup-at a ∷ [], (vint w64 (n a) ∷ [], (vint w64 (m a) ∷ [], tt))))
 
-  abbrev pub args : Turns → Run → GName → List Float
-      → Turns × (Run × (RefT (List ℕ) × (Setup × (RefT (List Float) × (RefT (List Float) × Unit {0})))))
+  abbrev pub args : Turns → LentRun → GName → List Float
+      → Turns × (LentRun × (RefT (List ℕ) × (Setup × (RefT (List Float) × (RefT (List Float) × Unit {0})))))
   args t r δ zs = (t, (r, (bins-ref a, (setup, (lists-ref a, (table-ref a δ zs, tt))))))
 
-  abbrev vals : Turns → Run → List Float
+  abbrev vals : Turns → LentRun → List Float
       → List Val × (List Val × (List Val × (List Val × (List Val × (List Val × Unit {0})))))
   vals t r zs = (
     turns-at t ∷ [],
-    (run-at r ∷ [], (bins-at a ∷ [], (setup-at a ∷ [], (lists-at a ∷ [], (table-at a (length zs) ∷ [], tt))))),
+    (lent-at r ∷ [], (bins-at a ∷ [], (setup-at a ∷ [], (lists-at a ∷ [], (table-at a (length zs) ∷ [], tt))))),
   )
 
   -- ν is the lifetime of the call, for which the table is lent
@@ -83,10 +83,10 @@ module _ (a : Args) where
   abbrev pub Lent : {M : Type 1} (𝓤 : URA M) → ℕ → Item 𝓤
   Lent 𝓤 ν = ‵ (flft κb qb) ⊛ ‵ (flft κl ql) ⊛ ‵ (flft (ν ∷ []) fullShare) ⊛ ‵ ftrue
 
-  abbrev Handed : ℕ → GName → Turns → Run → List Float → Fml
+  abbrev Handed : ℕ → GName → Turns → LentRun → List Float → Fml
   Handed ν δ t r zs =
       owns
-      (Turns-row ∷ Run-row ∷ ShrSlice (named 0) κb u32 ∷ Setup-row ∷ ShrSlice (named 1) κl f64
+      (Turns-row ∷ Lent-row ∷ ShrSlice (named 0) κb u32 ∷ Setup-row ∷ ShrSlice (named 1) κl f64
       ∷ MutSlice (named 2) (ν ∷ []) f64 ∷ [])
       (args t r δ zs) (vals t r zs)
 
@@ -113,10 +113,10 @@ module _ {M : Type 1} (𝓤 : URA M) (H : Heap 𝓤) (A : Atoms 𝓤) (W : Given
       exE 𝓤 _ (λ ws. snd∗ 𝓤 (sem 𝓤 H A (lasts begin.ended (κb, tt) (begin-args a) ws)) (fact 𝓤 (Began a t)))
 
   -- ---- a turn
-  abbrev pub to-turn : ℕ → GName → Turns → Run → List Float → Turn 𝓤 H A mem run .Ghost
+  abbrev pub to-turn : ℕ → GName → Turns → LentRun → List Float → Turn 𝓤 H A mem run .Ghost
   to-turn ν δ t r zs = ((lfts a ν, (qb, (ql, (fullShare, tt))), tt, args a t r δ zs, vals a t r zs), tt)
 
-  pub goes-turn : (ν : ℕ) (δ : GName) (t : Turns) (r : Run) (zs : List Float) → t .next < t .runs
+  pub goes-turn : (ν : ℕ) (δ : GName) (t : Turns) (r : LentRun) (zs : List Float) → t .next < t .runs
       → ent 𝓤 (⋆ 𝓤 H A (Lent a 𝓤 ν ∷ ‵ (Handed a ν δ t r zs) ∷ [])) (Turn 𝓤 H A mem run .pre (to-turn ν δ t r zs))
   goes-turn ν δ t r zs l =
       let x = to-turn ν δ t r zs .0 in

@@ -20,13 +20,13 @@ use types.Kit.{Item, ‵}
 use types.Run.{Below}
 use denote.Memory.{pointee}
 use denote.Slice.{sliceTy}
-use Rattle.fitter.proofs.runs.Run.Laws as Run-laws
+use Rattle.fitter.proofs.runs.LentRun.Laws as Lent-laws
 use Rattle.fitter.proofs.turns.Turns.Laws as Turns-laws
 use Rattle.fitter.proofs.settling.Setup.Laws as Setup-laws
 use Rattle.fitter.proofs.settling.AttemptAnswer.Laws as Answer-laws
 use Rattle.fitter.proofs.run_table.attempt_from.Code.Mir as code-mir
 use Rattle.fitter.proofs.run_table.attempt_from.Proof.Types.{Args, turns-at, word, ref}
-use Rattle.fitter.proofs.RunSlices.{Run-row, Arguments, n, m, bins-at, setup-at, runs-at, lists-at, table-at}
+use Rattle.fitter.proofs.RunSlices.{Lent-row, Arguments, n, m, bins-at, setup-at, runs-at, lists-at, table-at}
 use Rattle.fitter.proofs.RunSlices.{OwnB, OwnR, OwnL, OwnT}
 use Rattle.fitter.proofs.run_table.attempt_from.Proof.State.{Here, val-of, Nearer}
 use Rattle.fitter.proofs.run_table.attempt_from.Proof.Exit.{Post}
@@ -53,10 +53,10 @@ pub record Blocks : Type 0 where
 abbrev pub En : {M : Type 1} (𝓤 : URA M) (H : Heap 𝓤) → Blocks → Env 𝓤 H
 En 𝓤 H ls =
     (Answer-laws.mir, ls .l0) ∷ (sliceTy (tyRef (named 0) imm (tyInt w32)), ls .l1) ∷ (Setup-laws.mir, ls .l2) ∷
-    (sliceTy (tyRef (named 1) imm (pointee (Run-row .written))), ls .l3) ∷
+    (sliceTy (tyRef (named 1) imm (pointee (Lent-row .written))), ls .l3) ∷
     (sliceTy (tyRef (named 2) imm (tyFloat binary64)), ls .l4) ∷
     (sliceTy (tyRef (named 3) mut (tyFloat binary64)), ls .l5) ∷ (Turns-laws.mir, ls .l6) ∷ (word, ls .l7) ∷
-    (word, ls .l8) ∷ (word, ls .l9) ∷ (tyBool, ls .l10) ∷ (tyPtr, ls .l11) ∷ (Run-laws.mir, ls .l12) ∷ (ref, ls .l13)
+    (word, ls .l8) ∷ (word, ls .l9) ∷ (tyBool, ls .l10) ∷ (tyPtr, ls .l11) ∷ (Lent-laws.mir, ls .l12) ∷ (ref, ls .l13)
     ∷ (sliceTy ref, ls .l14) ∷ []
 
 module _ {M : Type 1} (𝓤 : URA M) (a : Args) (ls : Blocks) where
@@ -68,7 +68,7 @@ module _ {M : Type 1} (𝓤 : URA M) (a : Args) (ls : Blocks) where
   Begun =
       ‵ (froom (sliceTy ref) l14 0) ∷ ‵ (fdies (sliceTy ref) l14)
       ∷ ‵ (froom ref l13 0) ∷ ‵ (fdies ref l13)
-      ∷ ‵ (froom Run-laws.mir l12 0) ∷ ‵ (fdies Run-laws.mir l12)
+      ∷ ‵ (froom Lent-laws.mir l12 0) ∷ ‵ (fdies Lent-laws.mir l12)
       ∷ ‵ (froom tyPtr l11 0) ∷ ‵ (fdies tyPtr l11)
       ∷ ‵ (froom tyBool l10 0) ∷ ‵ (fdies tyBool l10)
       ∷ ‵ (froom word l9 0) ∷ ‵ (fdies word l9)
@@ -79,8 +79,8 @@ module _ {M : Type 1} (𝓤 : URA M) (a : Args) (ls : Blocks) where
       (fdies (sliceTy (tyRef (named 3) mut (tyFloat binary64))) l5)
       ∷ ‵ (fat fullShare (sliceTy (tyRef (named 2) imm (tyFloat binary64))) l4 0 (lists-at a)) ∷ ‵
       (fdies (sliceTy (tyRef (named 2) imm (tyFloat binary64))) l4)
-      ∷ ‵ (fat fullShare (sliceTy (tyRef (named 1) imm (pointee (Run-row .written)))) l3 0 (runs-at a)) ∷ ‵
-      (fdies (sliceTy (tyRef (named 1) imm (pointee (Run-row .written)))) l3)
+      ∷ ‵ (fat fullShare (sliceTy (tyRef (named 1) imm (pointee (Lent-row .written)))) l3 0 (runs-at a)) ∷ ‵
+      (fdies (sliceTy (tyRef (named 1) imm (pointee (Lent-row .written)))) l3)
       ∷ ‵ (fat fullShare Setup-laws.mir l2 0 (setup-at a)) ∷ ‵ (fdies Setup-laws.mir l2)
       ∷ ‵ (fat fullShare (sliceTy (tyRef (named 0) imm (tyInt w32))) l1 0 (bins-at a)) ∷ ‵
       (fdies (sliceTy (tyRef (named 0) imm (tyInt w32))) l1)
@@ -93,7 +93,7 @@ module _ {M : Type 1} (𝓤 : URA M) (a : Args) (ls : Blocks) where
   At k =
       ‵ (froom (sliceTy ref) l14 0) ∷ ‵ (fdies (sliceTy ref) l14)
       ∷ ‵ (froom ref l13 0) ∷ ‵ (fdies ref l13)
-      ∷ ‵ (froom Run-laws.mir l12 0) ∷ ‵ (fdies Run-laws.mir l12)
+      ∷ ‵ (froom Lent-laws.mir l12 0) ∷ ‵ (fdies Lent-laws.mir l12)
       ∷ ‵ (froom tyPtr l11 0) ∷ ‵ (fdies tyPtr l11)
       ∷ ‵ (froom tyBool l10 0) ∷ ‵ (fdies tyBool l10)
       ∷ ‵ (froom word l9 0) ∷ ‵ (fdies word l9)
@@ -104,8 +104,8 @@ module _ {M : Type 1} (𝓤 : URA M) (a : Args) (ls : Blocks) where
       (fdies (sliceTy (tyRef (named 3) mut (tyFloat binary64))) l5)
       ∷ ‵ (fat fullShare (sliceTy (tyRef (named 2) imm (tyFloat binary64))) l4 0 (lists-at a)) ∷ ‵
       (fdies (sliceTy (tyRef (named 2) imm (tyFloat binary64))) l4)
-      ∷ ‵ (fat fullShare (sliceTy (tyRef (named 1) imm (pointee (Run-row .written)))) l3 0 (runs-at a)) ∷ ‵
-      (fdies (sliceTy (tyRef (named 1) imm (pointee (Run-row .written)))) l3)
+      ∷ ‵ (fat fullShare (sliceTy (tyRef (named 1) imm (pointee (Lent-row .written)))) l3 0 (runs-at a)) ∷ ‵
+      (fdies (sliceTy (tyRef (named 1) imm (pointee (Lent-row .written)))) l3)
       ∷ ‵ (fat fullShare Setup-laws.mir l2 0 (setup-at a)) ∷ ‵ (fdies Setup-laws.mir l2)
       ∷ ‵ (fat fullShare (sliceTy (tyRef (named 0) imm (tyInt w32))) l1 0 (bins-at a)) ∷ ‵
       (fdies (sliceTy (tyRef (named 0) imm (tyInt w32))) l1)
@@ -118,7 +118,7 @@ module _ {M : Type 1} (𝓤 : URA M) (a : Args) (ls : Blocks) where
   Tested k b =
       ‵ (froom (sliceTy ref) l14 0) ∷ ‵ (fdies (sliceTy ref) l14)
       ∷ ‵ (froom ref l13 0) ∷ ‵ (fdies ref l13)
-      ∷ ‵ (froom Run-laws.mir l12 0) ∷ ‵ (fdies Run-laws.mir l12)
+      ∷ ‵ (froom Lent-laws.mir l12 0) ∷ ‵ (fdies Lent-laws.mir l12)
       ∷ ‵ (froom tyPtr l11 0) ∷ ‵ (fdies tyPtr l11)
       ∷ ‵ (fat fullShare tyBool l10 0 (vbool b)) ∷ ‵ (fdies tyBool l10)
       ∷ ‵ (fat fullShare word l9 0 (vint w64 (n a))) ∷ ‵ (fdies word l9)
@@ -129,8 +129,8 @@ module _ {M : Type 1} (𝓤 : URA M) (a : Args) (ls : Blocks) where
       (fdies (sliceTy (tyRef (named 3) mut (tyFloat binary64))) l5)
       ∷ ‵ (fat fullShare (sliceTy (tyRef (named 2) imm (tyFloat binary64))) l4 0 (lists-at a)) ∷ ‵
       (fdies (sliceTy (tyRef (named 2) imm (tyFloat binary64))) l4)
-      ∷ ‵ (fat fullShare (sliceTy (tyRef (named 1) imm (pointee (Run-row .written)))) l3 0 (runs-at a)) ∷ ‵
-      (fdies (sliceTy (tyRef (named 1) imm (pointee (Run-row .written)))) l3)
+      ∷ ‵ (fat fullShare (sliceTy (tyRef (named 1) imm (pointee (Lent-row .written)))) l3 0 (runs-at a)) ∷ ‵
+      (fdies (sliceTy (tyRef (named 1) imm (pointee (Lent-row .written)))) l3)
       ∷ ‵ (fat fullShare Setup-laws.mir l2 0 (setup-at a)) ∷ ‵ (fdies Setup-laws.mir l2)
       ∷ ‵ (fat fullShare (sliceTy (tyRef (named 0) imm (tyInt w32))) l1 0 (bins-at a)) ∷ ‵
       (fdies (sliceTy (tyRef (named 0) imm (tyInt w32))) l1)
@@ -143,7 +143,7 @@ module _ {M : Type 1} (𝓤 : URA M) (a : Args) (ls : Blocks) where
   Got k =
       ‵ (froom (sliceTy ref) l14 0) ∷ ‵ (fdies (sliceTy ref) l14)
       ∷ ‵ (froom ref l13 0) ∷ ‵ (fdies ref l13)
-      ∷ ‵ (fat fullShare Run-laws.mir l12 0 (val-of a k)) ∷ ‵ (fdies Run-laws.mir l12)
+      ∷ ‵ (fat fullShare Lent-laws.mir l12 0 (val-of a k)) ∷ ‵ (fdies Lent-laws.mir l12)
       ∷ ‵ (froom tyPtr l11 0) ∷ ‵ (fdies tyPtr l11)
       ∷ ‵ (froom tyBool l10 0) ∷ ‵ (fdies tyBool l10)
       ∷ ‵ (froom word l9 0) ∷ ‵ (fdies word l9)
@@ -154,8 +154,8 @@ module _ {M : Type 1} (𝓤 : URA M) (a : Args) (ls : Blocks) where
       (fdies (sliceTy (tyRef (named 3) mut (tyFloat binary64))) l5)
       ∷ ‵ (fat fullShare (sliceTy (tyRef (named 2) imm (tyFloat binary64))) l4 0 (lists-at a)) ∷ ‵
       (fdies (sliceTy (tyRef (named 2) imm (tyFloat binary64))) l4)
-      ∷ ‵ (fat fullShare (sliceTy (tyRef (named 1) imm (pointee (Run-row .written)))) l3 0 (runs-at a)) ∷ ‵
-      (fdies (sliceTy (tyRef (named 1) imm (pointee (Run-row .written)))) l3)
+      ∷ ‵ (fat fullShare (sliceTy (tyRef (named 1) imm (pointee (Lent-row .written)))) l3 0 (runs-at a)) ∷ ‵
+      (fdies (sliceTy (tyRef (named 1) imm (pointee (Lent-row .written)))) l3)
       ∷ ‵ (fat fullShare Setup-laws.mir l2 0 (setup-at a)) ∷ ‵ (fdies Setup-laws.mir l2)
       ∷ ‵ (fat fullShare (sliceTy (tyRef (named 0) imm (tyInt w32))) l1 0 (bins-at a)) ∷ ‵
       (fdies (sliceTy (tyRef (named 0) imm (tyInt w32))) l1)

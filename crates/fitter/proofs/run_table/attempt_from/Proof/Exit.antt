@@ -30,7 +30,7 @@ use Rattle.fitter.proofs.settling.AttemptAnswer as Answer-type
 use Rattle.fitter.proofs.settling.AttemptAnswer.Laws as Answer-laws
 use Rattle.fitter.proofs.run_table.attempt_from as scan
 use Rattle.fitter.proofs.run_table.attempt_from.Proof.Types.{Args, Setup-row, Answer-row}
-use Rattle.fitter.proofs.RunSlices.{Run-row, Arguments, n, m, bins-ref, runs-ref, lists-ref, table-ref}
+use Rattle.fitter.proofs.RunSlices.{Lent-row, Arguments, n, m, bins-ref, runs-ref, lists-ref, table-ref}
 use Rattle.fitter.proofs.RunSlices.{bins-at, setup-at, runs-at, lists-at, table-at, OwnB, OwnR, OwnL, OwnT}
 
 -- what is had of each parameter at exit
@@ -40,7 +40,7 @@ stayed = (
   (
     stay-none (λ _. Setup-row) yes,
     (
-      stay-none-slice (1 ∷ []) tt (plain (λ _. Run-row)) yes,
+      stay-none-slice (1 ∷ []) tt (plain (λ _. Lent-row)) yes,
       (
         stay-none-slice (2 ∷ []) tt (plain (λ _. f64)) yes,
         (stay-slice (3 ∷ []) tt (plain (λ _. f64)), tt),

@@ -8,14 +8,15 @@ use lib.WfN.{Nat·lt-wfRel}
 use lib.Ieee.{Float}
 use mir.Val.{Val}
 use denote.Laws.{Is}
-use Rattle.fitter.specs.Columns.{pastRun, runIn}
+use Rattle.fitter.specs.Columns.{pastLent, runIn}
+use Rattle.fitter.specs.Runs.{runFrom}
 use Rattle.fitter.specs.Settling.{finishOf}
 use Rattle.fitter.specs.Turns.{beginOf, turnOf, turnStands}
-use Rattle.fitter.specs.declared.runs.Run.{Run}
+use Rattle.fitter.specs.declared.runs.LentRun.{LentRun}
 use Rattle.fitter.specs.declared.settling.AttemptAnswer.{AttemptAnswer}
 use Rattle.fitter.specs.declared.turns.Turns.{Turns}
 use Rattle.fitter.proofs.Turned.{Turning, left, begins, goes-on}
-use Rattle.fitter.proofs.run_table.attempt_from.Proof.Types.{Args, Turns-row, turns-at, run-at, told}
+use Rattle.fitter.proofs.run_table.attempt_from.Proof.Types.{Args, Turns-row, turns-at, lent-at, told}
 use Rattle.fitter.proofs.RunSlices.{Arguments, n, m}
 
 -- what the last call says
@@ -47,18 +48,18 @@ module _ (a : Args) where
   }
 
   -- ---- a turn
-  abbrev pub run-of : Here → Run
-  run-of k = getD runs (k .t .next) pastRun
+  abbrev pub lent-of : Here → LentRun
+  lent-of k = getD runs (k .t .next) pastLent
 
   abbrev pub val-of : Here → Val
-  val-of k = run-at (run-of k)
+  val-of k = lent-at (lent-of k)
 
   pub in-runs : (k : Here) → k .t .next < n a → k .t .next < k .t .runs
   in-runs k l = subst (λ (c : ℕ). k .t .next < c) (sym (k .inv .runs)) l
 
   -- what the call says of the turns and of the table
   abbrev pub Made : Here → Turns → Type 0
-  Made k t = t ≡ turnOf bins setup lists (length (k .zs)) (run-of k) (k .t)
+  Made k t = t ≡ turnOf bins setup lists (length (k .zs)) (runFrom (lent-of k)) (k .t)
 
   abbrev pub Stood : Here → Turns → List Float → Type 0
   Stood k t zs = drops (turnStands setup (k .t) t) zs ≡ drops (turnStands setup (k .t) t) (k .zs)
@@ -69,7 +70,7 @@ module _ (a : Args) where
   module _ (k : Here) (l : k .t .next < n a) (t : Turns) (zs : List Float) (e : Made k t) (h : Stood k t zs) where
     made : t ≡ turnOf bins setup lists (m a) (runIn runs (k .t .next)) (k .t)
     unfolding runIn
-    made = e ∙ ap (λ (c : ℕ). turnOf bins setup lists c (run-of k) (k .t)) (k .len)
+    made = e ∙ ap (λ (c : ℕ). turnOf bins setup lists c (runFrom (lent-of k)) (k .t)) (k .len)
 
     pub further : Turning bins setup lists (m a) (runIn runs) (n a) table t zs × (left-of t < left-of (k .t))
     further = goes-on bins setup lists (m a) (runIn runs) (n a) table (k .t) t (k .zs) zs (k .inv) l made h

@@ -17,12 +17,12 @@ use denote.RattleType.{RattleType, flat}
 use denote.Laws.{Is, valss}
 use denote.Struct.Declared.{fields}
 use denote.Struct.Laws as LL
-use Rattle.fitter.specs.declared.runs.Run.{Run}
+use Rattle.fitter.specs.declared.runs.LentRun.{LentRun}
 use Rattle.fitter.specs.declared.settling.Setup.{Setup}
 use Rattle.fitter.specs.declared.turns.Turns.{Turns}
 use Rattle.fitter.proofs.FirstField.{field-at, first-field}
-use Rattle.fitter.proofs.runs.Run as Run-type
-use Rattle.fitter.proofs.runs.Run.Laws as Run-laws
+use Rattle.fitter.proofs.runs.LentRun as Lent-type
+use Rattle.fitter.proofs.runs.LentRun.Laws as Lent-laws
 use Rattle.fitter.proofs.turns.Turns as Turns-type
 use Rattle.fitter.proofs.turns.Turns.Laws as Turns-laws
 use Rattle.fitter.proofs.settling.Setup as Setup-type
@@ -45,8 +45,8 @@ setup-val s = LL.val Setup-type.the-type Setup-laws.the-laws s
 abbrev pub Args : Type 0
 Args = Arguments Setup-row setup-val
 
-abbrev pub run-at : Run → Val
-run-at r = LL.val Run-type.the-type Run-laws.the-laws r
+abbrev pub lent-at : LentRun → Val
+lent-at r = LL.val Lent-type.the-type Lent-laws.the-laws r
 
 abbrev pub turns-at : Turns → Val
 turns-at t = LL.val Turns-type.the-type Turns-laws.the-laws t

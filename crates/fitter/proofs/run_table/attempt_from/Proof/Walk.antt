@@ -37,13 +37,13 @@ use denote.Struct.Laws as LL
 use denote.Triple.Statement.{Triple}
 use denote.Triple.Call.{calls-at, calls-at-last}
 use denote.Triple.Clauses.{ensured, lasts}
-use Rattle.fitter.specs.Columns.{pastRun, runIn}
+use Rattle.fitter.specs.Columns.{pastLent, runIn}
 use Rattle.fitter.specs.declared.settling.AttemptAnswer.{AttemptAnswer}
 use Rattle.fitter.specs.declared.turns.Turns.{Turns}
 use Rattle.fitter.proofs.LentOn.{LentAgain, lends-again, comes-back}
 use Rattle.fitter.proofs.Turned.{ends}
-use Rattle.fitter.proofs.runs.Run as Run-type
-use Rattle.fitter.proofs.runs.Run.Laws as Run-laws
+use Rattle.fitter.proofs.runs.LentRun as Lent-type
+use Rattle.fitter.proofs.runs.LentRun.Laws as Lent-laws
 use Rattle.fitter.proofs.turns.Turns as Turns-type
 use Rattle.fitter.proofs.turns.Turns.Laws as Turns-laws
 use Rattle.fitter.proofs.settling.Setup as Setup-type
@@ -59,9 +59,9 @@ use Rattle.fitter.proofs.turns.end_turns.Symbol as end-def
 use Rattle.fitter.proofs.run_table.attempt_from.Code.Mir as code-mir
 use Rattle.fitter.proofs.run_table.attempt_from.Proof.Types.{Args, Turns-row, Setup-row, Answer-row, turns-at}
 use Rattle.fitter.proofs.run_table.attempt_from.Proof.Types.{ref, told, next-there, next-read}
-use Rattle.fitter.proofs.RunSlices.{Run-row, Arguments, n, m, bins-ref, lists-ref, bins-at, setup-at, lists-at}
+use Rattle.fitter.proofs.RunSlices.{Lent-row, Arguments, n, m, bins-ref, lists-ref, bins-at, setup-at, lists-at}
 use Rattle.fitter.proofs.RunSlices.{table-at, OwnB, OwnL, OwnT, Lended}
-use Rattle.fitter.proofs.run_table.attempt_from.Proof.State.{Here, Began, start, run-of, val-of, Made, Stood}
+use Rattle.fitter.proofs.run_table.attempt_from.Proof.State.{Here, Began, start, lent-of, val-of, Made, Stood}
 use Rattle.fitter.proofs.run_table.attempt_from.Proof.State.{in-runs, further, next, Nearer, Nearer-wf}
 use Rattle.fitter.proofs.run_table.attempt_from.Proof.State.{Finished}
 use Rattle.fitter.proofs.run_table.attempt_from.Proof.Calls.{Begin, Turn, End, begin-args, to-begin}
@@ -112,7 +112,7 @@ module _ {M : Type 1} (𝓤 : URA M) (H : Heap 𝓤) (A : Atoms 𝓤) (W : Given
   Going-on c = runs C Λ (En 𝓤 H ls) c (atRet (En 𝓤 H ls) (Post 𝓤 H A mem run a))
 
   -- ---- a turn, from the call's arguments on
-  got : (k : Here a) → k .t .next < n a → Is Run-row (run-of a k) (val-of a k ∷ [])
+  got : (k : Here a) → k .t .next < n a → Is Lent-row (lent-of a k) (val-of a k ∷ [])
       → Sq W (Got 𝓤 a ls k) (Turning-on at-call k)
   unfolding afterTurn
   got k l g =
@@ -145,16 +145,16 @@ module _ {M : Type 1} (𝓤 : URA M) (H : Heap 𝓤) (A : Atoms 𝓤) (W : Given
       owned ! Setup-row (Is Setup-row) (LL.makes Setup-type.the-type Setup-laws.the-plain 𝓤 H A) setup
       (setup-at a ∷ []) gs $
       fjoin ! $ move ! (3 ∷ 0 ∷ []) $ fjoin ! $
-      owned ! Run-row (Is Run-row) (LL.makes Run-type.the-type Run-laws.the-plain 𝓤 H A) (run-of a k)
+      owned ! Lent-row (Is Lent-row) (LL.makes Lent-type.the-type Lent-laws.the-plain 𝓤 H A) (lent-of a k)
       (val-of a k ∷ []) g $
       fjoin ! $
       owned ! Turns-row (Is Turns-row) (LL.makes Turns-type.the-type Turns-laws.the-plain 𝓤 H A) (k .t)
       (turns-at (k .t) ∷ []) (k .is) $
       fjoin ! $ move ! (1 ∷ 0 ∷ []) $
-      use2 W (raw (Turn 𝓤 H A mem run .pre (to-turn 𝓤 H A W mem run a ν δ (k .t) (run-of a k) (k .zs))))
-      (goes-turn 𝓤 H A W mem run a ν δ (k .t) (run-of a k) (k .zs) (in-runs a k l)) $
+      use2 W (raw (Turn 𝓤 H A mem run .pre (to-turn 𝓤 H A W mem run a ν δ (k .t) (lent-of a k) (k .zs))))
+      (goes-turn 𝓤 H A W mem run a ν δ (k .t) (lent-of a k) (k .zs) (in-runs a k l)) $
       calls-at-last ! (fmOf 𝓤 H (W .laws) 𝓣) (Turn 𝓤 H A mem run) known-turn
-      (to-turn 𝓤 H A W mem run a ν δ (k .t) (run-of a k) (k .zs))
+      (to-turn 𝓤 H A W mem run a ν δ (k .t) (lent-of a k) (k .zs))
       (and-then ! (load ! (from ! (stop !)) (look ! 20 refl))
       (and-then ! (load ! (from ! (stop !)) (look ! 8 refl))
       (and-then ! (load ! (from ! (stop !)) (look ! 30 refl))
@@ -166,12 +166,13 @@ module _ {M : Type 1} (𝓤 : URA M) (H : Heap 𝓤) (A : Atoms 𝓤) (W : Given
       (later
       (some
       (λ (t′ : Turns). (Lent a 𝓤 ν ⊛ ‵ (Turns-row .own t′ (v′ ∷ []))) ⊛ raw
-      (ensured 𝓤 H A turn.ended (turn.clauses 𝓤 H A mem run) (lfts a ν) (args a (k .t) (run-of a k) δ (k .zs)) tt t′))))
+      (ensured 𝓤 H A turn.ended (turn.clauses 𝓤 H A mem run) (lfts a ν) (args a (k .t) (lent-of a k) δ (k .zs)) tt
+      t′))))
       (id⊢ 𝓤 _) $
       await ! tt $ pick ! (λ t′. split ! $ move ! (1 ∷ []) $
       use1 W
       (some
-      (λ (ws : Last). ‵ (lasts turn.ended (lfts a ν) (args a (k .t) (run-of a k) δ (k .zs)) ws) ⊛ raw
+      (λ (ws : Last). ‵ (lasts turn.ended (lfts a ν) (args a (k .t) (lent-of a k) δ (k .zs)) ws) ⊛ raw
       (fact 𝓤 (Made a k t′)) ⊛ raw (fact 𝓤 (Stood a k t′ (ws .1 .1 .1 .1 .1 .0))))) (id⊢ 𝓤 _) $
       pick ! (λ ws. split ! $ move ! (1 ∷ []) $ split ! $ heard ! (Made a k t′) (λ e′.
       heard ! (Stood a k t′ (ws .1 .1 .1 .1 .1 .0)) (λ h′. fsplit ! $ drop ! $ fsplit ! $ drop ! $ fsplit ! $ drop ! $
@@ -225,16 +226,16 @@ module _ {M : Type 1} (𝓤 : URA M) (H : Heap 𝓤) (A : Atoms 𝓤) (W : Given
       refl $
       -- the run is copied out of the lent slice
       move ! (35 ∷ []) $ fsplit ! $ move ! (1 ∷ []) $ fsplit ! $ move ! (1 ∷ 34 ∷ []) $
-      looks-slice ! tt Run-row (Is Run-row) (shows 𝓤 H A Run-row) (LL.vals Run-type.the-type Run-laws.the-laws)
-      (LL.tells Run-type.the-type Run-laws.the-laws) (LL.copy Run-type.the-type Run-laws.the-copy 𝓤 H A W) ys (pr .0)
-      (pr .1) (λ q′.
-      elem-out ! Run-row (Is Run-row) (shows 𝓤 H A Run-row) (LL.vals Run-type.the-type Run-laws.the-laws)
-      (LL.tells Run-type.the-type Run-laws.the-laws) q′ ys (k .t .next) pastRun (pr .0) (pr .1) l (λ g.
+      looks-slice ! tt Lent-row (Is Lent-row) (shows 𝓤 H A Lent-row) (LL.vals Lent-type.the-type Lent-laws.the-laws)
+      (LL.tells Lent-type.the-type Lent-laws.the-laws) (LL.copy Lent-type.the-type Lent-laws.the-copy 𝓤 H A W) ys
+      (pr .0) (pr .1) (λ q′.
+      elem-out ! Lent-row (Is Lent-row) (shows 𝓤 H A Lent-row) (LL.vals Lent-type.the-type Lent-laws.the-laws)
+      (LL.tells Lent-type.the-type Lent-laws.the-laws) q′ ys (k .t .next) pastLent (pr .0) (pr .1) l (λ g.
       assigns ! (of-opd ! (load ! (from ! (hop ! (look ! 13 refl) (stop !))) (look-raw ! 0 refl))) (from ! (stop !))
       (init ! 11 refl
-      (LL.lawful Run-type.the-type Run-laws.the-laws 𝓤 H A W .typed (run-of a k) (val-of a k ∷ []) g .0)) $
-      elem-back ! Run-row q′ ys (k .t .next) pastRun (val-of a k ∷ []) (pr .0) (pr .1) l $
-      shuts-slice ! tt Run-row q′ ys (pr .0) (pr .1) $ move ! (2 ∷ 1 ∷ []) $ fjoin ! $ move ! (2 ∷ 0 ∷ []) $ fjoin ! $
+      (LL.lawful Lent-type.the-type Lent-laws.the-laws 𝓤 H A W .typed (lent-of a k) (val-of a k ∷ []) g .0)) $
+      elem-back ! Lent-row q′ ys (k .t .next) pastLent (val-of a k ∷ []) (pr .0) (pr .1) l $
+      shuts-slice ! tt Lent-row q′ ys (pr .0) (pr .1) $ move ! (2 ∷ 1 ∷ []) $ fjoin ! $ move ! (2 ∷ 0 ∷ []) $ fjoin ! $
       forget ! 8 refl $ forget ! 10 refl $ forget ! 12 refl $
       keep !
       (2 ∷ 3 ∷ 4 ∷ 5 ∷ 6 ∷ 7 ∷ 8 ∷ 9 ∷ 10 ∷ 11 ∷ 12 ∷ 13 ∷ 14 ∷ 15 ∷ 16 ∷ 17 ∷ 18 ∷ 19 ∷ 20 ∷ 21 ∷ 22 ∷ 23 ∷ 24 ∷ 25 ∷
