@@ -2,6 +2,7 @@
 ghost use mathlib.Core.Path.{_≡_};
 ghost use Prim.Native.Nat.{ℕ};
 ghost use lib.ListN.{length, drop};
+ghost use Rattle.meaning.specs.Flags.{byteOf};
 ghost use Rattle.meaning.specs.Lent.{onGive};
 ghost use Rattle.meaning.specs.Over.{over};
 ghost use Rattle.models.specs.Families.{listLengthOf};
@@ -116,18 +117,18 @@ pub extern "C" fn fog_report_searches(
     simplexes: &[f64],
     iterations: &[u64],
     stopped: &[u8],
-    converged: &mut [bool],
+    converged: &mut [u8],
     costs: &mut [f64],
     places: &mut [usize],
     lengths: &mut [usize],
-    caps: &mut [bool],
+    caps: &mut [u8],
 ) -> FlatWritten
     ensures { λ r. ⌜ r ≡ sayWritten (reportOf (errorOf error) (genomeOf genome) runs (columnsOf (now (simplexes .entry)) (now (iterations .entry)) (now (stopped .entry)) (now (converged .entry)) (now (costs .entry)) (now (places .entry)) (now (lengths .entry)) (now (caps .entry)))) ⌝ }
-    ensures { λ _. ⌜ now (converged .exit) ≡ onGive (reportOf (errorOf error) (genomeOf genome) runs (columnsOf (now (simplexes .entry)) (now (iterations .entry)) (now (stopped .entry)) (now (converged .entry)) (now (costs .entry)) (now (places .entry)) (now (lengths .entry)) (now (caps .entry)))) (over (listOf (λ (i : ℕ). reportedAt (errorOf error) (genomeOf genome) runs (now (simplexes .entry)) (now (iterations .entry)) (now (stopped .entry)) i .converged) runs) (now (converged .entry))) (now (converged .entry)) ⌝ }
+    ensures { λ _. ⌜ now (converged .exit) ≡ onGive (reportOf (errorOf error) (genomeOf genome) runs (columnsOf (now (simplexes .entry)) (now (iterations .entry)) (now (stopped .entry)) (now (converged .entry)) (now (costs .entry)) (now (places .entry)) (now (lengths .entry)) (now (caps .entry)))) (over (listOf (λ (i : ℕ). byteOf (reportedAt (errorOf error) (genomeOf genome) runs (now (simplexes .entry)) (now (iterations .entry)) (now (stopped .entry)) i .converged)) runs) (now (converged .entry))) (now (converged .entry)) ⌝ }
     ensures { λ _. ⌜ now (costs .exit) ≡ onGive (reportOf (errorOf error) (genomeOf genome) runs (columnsOf (now (simplexes .entry)) (now (iterations .entry)) (now (stopped .entry)) (now (converged .entry)) (now (costs .entry)) (now (places .entry)) (now (lengths .entry)) (now (caps .entry)))) (over (listOf (λ (i : ℕ). reportedAt (errorOf error) (genomeOf genome) runs (now (simplexes .entry)) (now (iterations .entry)) (now (stopped .entry)) i .cost) runs) (now (costs .entry))) (now (costs .entry)) ⌝ }
     ensures { λ _. ⌜ now (places .exit) ≡ onGive (reportOf (errorOf error) (genomeOf genome) runs (columnsOf (now (simplexes .entry)) (now (iterations .entry)) (now (stopped .entry)) (now (converged .entry)) (now (costs .entry)) (now (places .entry)) (now (lengths .entry)) (now (caps .entry)))) (over (listOf (λ (i : ℕ). reportedAt (errorOf error) (genomeOf genome) runs (now (simplexes .entry)) (now (iterations .entry)) (now (stopped .entry)) i .place) runs) (now (places .entry))) (now (places .entry)) ⌝ }
     ensures { λ _. ⌜ now (lengths .exit) ≡ onGive (reportOf (errorOf error) (genomeOf genome) runs (columnsOf (now (simplexes .entry)) (now (iterations .entry)) (now (stopped .entry)) (now (converged .entry)) (now (costs .entry)) (now (places .entry)) (now (lengths .entry)) (now (caps .entry)))) (over (listOf (λ (i : ℕ). listLengthOf (errorOf error) (genomeOf genome)) runs) (now (lengths .entry))) (now (lengths .entry)) ⌝ }
-    ensures { λ _. ⌜ now (caps .exit) ≡ onGive (reportOf (errorOf error) (genomeOf genome) runs (columnsOf (now (simplexes .entry)) (now (iterations .entry)) (now (stopped .entry)) (now (converged .entry)) (now (costs .entry)) (now (places .entry)) (now (lengths .entry)) (now (caps .entry)))) (over (listOf (λ (i : ℕ). reportedAt (errorOf error) (genomeOf genome) runs (now (simplexes .entry)) (now (iterations .entry)) (now (stopped .entry)) i .«hit_cap») runs) (now (caps .entry))) (now (caps .entry)) ⌝ }
+    ensures { λ _. ⌜ now (caps .exit) ≡ onGive (reportOf (errorOf error) (genomeOf genome) runs (columnsOf (now (simplexes .entry)) (now (iterations .entry)) (now (stopped .entry)) (now (converged .entry)) (now (costs .entry)) (now (places .entry)) (now (lengths .entry)) (now (caps .entry)))) (over (listOf (λ (i : ℕ). byteOf (reportedAt (errorOf error) (genomeOf genome) runs (now (simplexes .entry)) (now (iterations .entry)) (now (stopped .entry)) i .«hit_cap»)) runs) (now (caps .entry))) (now (caps .entry)) ⌝ }
 {
     let tail = error_of(error);
     let lobes = genome_of(genome);

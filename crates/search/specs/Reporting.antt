@@ -68,7 +68,7 @@ reportTests w runs c =
     ∷ [])
 
 -- the lengths of the slices
-abbrev pub columnsOf : List Float → List ℕ → List ℕ → List Bool → List Float → List ℕ → List ℕ → List Bool → Columns
+abbrev pub columnsOf : List Float → List ℕ → List ℕ → List ℕ → List Float → List ℕ → List ℕ → List ℕ → Columns
 columnsOf simplexes iterations stopped converged costs places lengths caps = record {
   simplexes = length simplexes;
   iterations = length iterations;

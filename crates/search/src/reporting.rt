@@ -4,6 +4,7 @@ ghost use mathlib.Core.Path.{_≡_};
 ghost use Prim.Native.Nat.{ℕ, _-_, _*_, _<_, _≤_};
 ghost use lib.ListN.{length};
 ghost use Rattle.meaning.specs.Answers.{writtenSays};
+ghost use Rattle.meaning.specs.Flags.{byteOf};
 ghost use Rattle.meaning.specs.Lent.{onGive};
 ghost use Rattle.meaning.specs.Over.{over};
 ghost use Rattle.meaning.specs.Reply.{firstOf};
@@ -14,6 +15,7 @@ ghost use Rattle.search.specs.Reporting.{leastPlace, convergedAt, capped
 ghost use Rattle.search.specs.Vertices.{rowsIn};
 use crate::prices::iteration_cap;
 use meaning::answers::Written;
+use meaning::flags::byte_of;
 use meaning::flags::is_set;
 use meaning::limits::MOST;
 use models::families::ErrorModel;
@@ -100,20 +102,20 @@ fn write_found(
     simplexes: &[f64],
     iterations: &[u64],
     stopped: &[u8],
-    converged: &mut [bool],
+    converged: &mut [u8],
     costs: &mut [f64],
     places: &mut [usize],
     lengths: &mut [usize],
-    caps: &mut [bool],
+    caps: &mut [u8],
 )
     requires { ⌜ (0 < w) × (w ≤ 12) × (runs ≤ most) ⌝ }
     requires { ⌜ (runs * (w * w) ≤ length (now simplexes)) × (runs ≤ length (now iterations)) × (runs ≤ length (now stopped)) ⌝ }
     requires { ⌜ (runs ≤ length (now converged)) × (runs ≤ length (now costs)) × (runs ≤ length (now places)) × (runs ≤ length (now lengths)) × (runs ≤ length (now caps)) ⌝ }
-    ensures { λ _. ⌜ now (converged .exit) ≡ over (listOf (λ (i : ℕ). foundAt w cap runs (now (simplexes .entry)) (now (iterations .entry)) (now (stopped .entry)) i .converged) runs) (now (converged .entry)) ⌝ }
+    ensures { λ _. ⌜ now (converged .exit) ≡ over (listOf (λ (i : ℕ). byteOf (foundAt w cap runs (now (simplexes .entry)) (now (iterations .entry)) (now (stopped .entry)) i .converged)) runs) (now (converged .entry)) ⌝ }
     ensures { λ _. ⌜ now (costs .exit) ≡ over (listOf (λ (i : ℕ). foundAt w cap runs (now (simplexes .entry)) (now (iterations .entry)) (now (stopped .entry)) i .cost) runs) (now (costs .entry)) ⌝ }
     ensures { λ _. ⌜ now (places .exit) ≡ over (listOf (λ (i : ℕ). foundAt w cap runs (now (simplexes .entry)) (now (iterations .entry)) (now (stopped .entry)) i .place) runs) (now (places .entry)) ⌝ }
     ensures { λ _. ⌜ now (lengths .exit) ≡ over (listOf (λ (i : ℕ). w - 1) runs) (now (lengths .entry)) ⌝ }
-    ensures { λ _. ⌜ now (caps .exit) ≡ over (listOf (λ (i : ℕ). foundAt w cap runs (now (simplexes .entry)) (now (iterations .entry)) (now (stopped .entry)) i .«hit_cap») runs) (now (caps .entry)) ⌝ }
+    ensures { λ _. ⌜ now (caps .exit) ≡ over (listOf (λ (i : ℕ). byteOf (foundAt w cap runs (now (simplexes .entry)) (now (iterations .entry)) (now (stopped .entry)) i .«hit_cap»)) runs) (now (caps .entry)) ⌝ }
 {
     let square = w * w;
     let length = w - 1;
@@ -129,11 +131,11 @@ fn write_found(
             iterations[i],
             is_set(stopped[i]),
         );
-        converged[i] = found.converged;
+        converged[i] = byte_of(found.converged);
         costs[i] = found.cost;
         places[i] = found.place;
         lengths[i] = length;
-        caps[i] = found.hit_cap;
+        caps[i] = byte_of(found.hit_cap);
         i += 1;
     }
 }
@@ -167,18 +169,18 @@ pub fn report_searches(
     simplexes: &[f64],
     iterations: &[u64],
     stopped: &[u8],
-    converged: &mut [bool],
+    converged: &mut [u8],
     costs: &mut [f64],
     places: &mut [usize],
     lengths: &mut [usize],
-    caps: &mut [bool],
+    caps: &mut [u8],
 ) -> Written
     ensures { λ r. ⌜ writtenSays r ≡ reportOf error genome runs (columnsOf (now (simplexes .entry)) (now (iterations .entry)) (now (stopped .entry)) (now (converged .entry)) (now (costs .entry)) (now (places .entry)) (now (lengths .entry)) (now (caps .entry))) ⌝ }
-    ensures { λ _. ⌜ now (converged .exit) ≡ onGive (reportOf error genome runs (columnsOf (now (simplexes .entry)) (now (iterations .entry)) (now (stopped .entry)) (now (converged .entry)) (now (costs .entry)) (now (places .entry)) (now (lengths .entry)) (now (caps .entry)))) (over (listOf (λ (i : ℕ). reportedAt error genome runs (now (simplexes .entry)) (now (iterations .entry)) (now (stopped .entry)) i .converged) runs) (now (converged .entry))) (now (converged .entry)) ⌝ }
+    ensures { λ _. ⌜ now (converged .exit) ≡ onGive (reportOf error genome runs (columnsOf (now (simplexes .entry)) (now (iterations .entry)) (now (stopped .entry)) (now (converged .entry)) (now (costs .entry)) (now (places .entry)) (now (lengths .entry)) (now (caps .entry)))) (over (listOf (λ (i : ℕ). byteOf (reportedAt error genome runs (now (simplexes .entry)) (now (iterations .entry)) (now (stopped .entry)) i .converged)) runs) (now (converged .entry))) (now (converged .entry)) ⌝ }
     ensures { λ _. ⌜ now (costs .exit) ≡ onGive (reportOf error genome runs (columnsOf (now (simplexes .entry)) (now (iterations .entry)) (now (stopped .entry)) (now (converged .entry)) (now (costs .entry)) (now (places .entry)) (now (lengths .entry)) (now (caps .entry)))) (over (listOf (λ (i : ℕ). reportedAt error genome runs (now (simplexes .entry)) (now (iterations .entry)) (now (stopped .entry)) i .cost) runs) (now (costs .entry))) (now (costs .entry)) ⌝ }
     ensures { λ _. ⌜ now (places .exit) ≡ onGive (reportOf error genome runs (columnsOf (now (simplexes .entry)) (now (iterations .entry)) (now (stopped .entry)) (now (converged .entry)) (now (costs .entry)) (now (places .entry)) (now (lengths .entry)) (now (caps .entry)))) (over (listOf (λ (i : ℕ). reportedAt error genome runs (now (simplexes .entry)) (now (iterations .entry)) (now (stopped .entry)) i .place) runs) (now (places .entry))) (now (places .entry)) ⌝ }
     ensures { λ _. ⌜ now (lengths .exit) ≡ onGive (reportOf error genome runs (columnsOf (now (simplexes .entry)) (now (iterations .entry)) (now (stopped .entry)) (now (converged .entry)) (now (costs .entry)) (now (places .entry)) (now (lengths .entry)) (now (caps .entry)))) (over (listOf (λ (i : ℕ). listLengthOf error genome) runs) (now (lengths .entry))) (now (lengths .entry)) ⌝ }
-    ensures { λ _. ⌜ now (caps .exit) ≡ onGive (reportOf error genome runs (columnsOf (now (simplexes .entry)) (now (iterations .entry)) (now (stopped .entry)) (now (converged .entry)) (now (costs .entry)) (now (places .entry)) (now (lengths .entry)) (now (caps .entry)))) (over (listOf (λ (i : ℕ). reportedAt error genome runs (now (simplexes .entry)) (now (iterations .entry)) (now (stopped .entry)) i .«hit_cap») runs) (now (caps .entry))) (now (caps .entry)) ⌝ }
+    ensures { λ _. ⌜ now (caps .exit) ≡ onGive (reportOf error genome runs (columnsOf (now (simplexes .entry)) (now (iterations .entry)) (now (stopped .entry)) (now (converged .entry)) (now (costs .entry)) (now (places .entry)) (now (lengths .entry)) (now (caps .entry)))) (over (listOf (λ (i : ℕ). byteOf (reportedAt error genome runs (now (simplexes .entry)) (now (iterations .entry)) (now (stopped .entry)) i .«hit_cap»)) runs) (now (caps .entry))) (now (caps .entry)) ⌝ }
 {
     let w = list_length(error, genome) + 1;
     let number = report_refusal(

@@ -3,6 +3,7 @@
 use borrow.Author.Needs.{needs}
 use Prim.Native.Nat.{ℕ}
 use mathlib.Core.Path.{_∙_}
+use Rattle.meaning.specs.Flags.{byteOf}
 use Rattle.meaning.specs.Lent.{onGive}
 use Rattle.meaning.specs.Over.{over}
 use Rattle.models.specs.Families.{listLengthOf}
@@ -65,14 +66,14 @@ returns c =
     let w = said .0 ∙ (λ j. reportOf (t j) (l j) (a .runs) (columnsOf X I S D C P N K)) in (
       c .flat-written .ensures ∙ (λ j. sayWritten (w j)),
       (
-        said .1 .0 ∙ (λ j. onGive (reportOf (t j) (l j) (a .runs) (columnsOf X I S D C P N K)) (over (listOf (λ (i : ℕ). reportedAt (t j) (l j) (a .runs) X I S i .converged) (a .runs)) D) D),
+        said .1 .0 ∙ (λ j. onGive (reportOf (t j) (l j) (a .runs) (columnsOf X I S D C P N K)) (over (listOf (λ (i : ℕ). byteOf (reportedAt (t j) (l j) (a .runs) X I S i .converged)) (a .runs)) D) D),
         (
           said .1 .1 .0 ∙ (λ j. onGive (reportOf (t j) (l j) (a .runs) (columnsOf X I S D C P N K)) (over (listOf (λ (i : ℕ). reportedAt (t j) (l j) (a .runs) X I S i .cost) (a .runs)) C) C),
           (
             said .1 .1 .1 .0 ∙ (λ j. onGive (reportOf (t j) (l j) (a .runs) (columnsOf X I S D C P N K)) (over (listOf (λ (i : ℕ). reportedAt (t j) (l j) (a .runs) X I S i .place) (a .runs)) P) P),
             (
               said .1 .1 .1 .1 .0 ∙ (λ j. onGive (reportOf (t j) (l j) (a .runs) (columnsOf X I S D C P N K)) (over (listOf (λ (i : ℕ). listLengthOf (t j) (l j)) (a .runs)) N) N),
-              said .1 .1 .1 .1 .1 ∙ (λ j. onGive (reportOf (t j) (l j) (a .runs) (columnsOf X I S D C P N K)) (over (listOf (λ (i : ℕ). reportedAt (t j) (l j) (a .runs) X I S i .«hit_cap») (a .runs)) K) K),
+              said .1 .1 .1 .1 .1 ∙ (λ j. onGive (reportOf (t j) (l j) (a .runs) (columnsOf X I S D C P N K)) (over (listOf (λ (i : ℕ). byteOf (reportedAt (t j) (l j) (a .runs) X I S i .«hit_cap»)) (a .runs)) K) K),
             ),
           ),
         ),

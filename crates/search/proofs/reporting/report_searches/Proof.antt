@@ -3,6 +3,7 @@ use Prim.Native.Nat.{ℕ, _+_, _≤_, _<_}
 use mathlib.Core.Path.{_≡_, sym, ap, _∙_}
 use native.Mathlib.Omega.{arith}
 use borrow.Author.Needs.{needs}
+use Rattle.meaning.specs.Flags.{byteOf}
 use Rattle.models.specs.Families.{listLengthOf}
 use Rattle.search.specs.Reporting.{columnsOf}
 use Rattle.search.specs.declared.reporting.Columns.{Columns}
@@ -129,7 +130,7 @@ returns-2 c =
       report-given (a .error) (a .genome) (a .runs) _ (wide w) (columns s) _ e z,
       (
         column-left (a .error) (a .genome) (a .runs) _ (wide w) (columns s) _ e _ cap (a .simplexes .now)
-            (a .iterations .now) (a .stopped .now) (λ (x : Found). x .converged) (a .converged .now) _ z (all .0),
+            (a .iterations .now) (a .stopped .now) (λ (x : Found). byteOf (x .converged)) (a .converged .now) _ z (all .0),
         (
           column-left (a .error) (a .genome) (a .runs) _ (wide w) (columns s) _ e _ cap (a .simplexes .now)
               (a .iterations .now) (a .stopped .now) (λ (x : Found). x .cost) (a .costs .now) _ z (all .1 .0),
@@ -139,7 +140,7 @@ returns-2 c =
             (
               lengths-left (a .error) (a .genome) (a .runs) _ (wide w) (columns s) _ e (a .lengths .now) _ z (all .1 .1 .1 .0),
               column-left (a .error) (a .genome) (a .runs) _ (wide w) (columns s) _ e _ cap (a .simplexes .now)
-                  (a .iterations .now) (a .stopped .now) (λ (x : Found). x .«hit_cap») (a .caps .now) _ z (all .1 .1 .1 .1),
+                  (a .iterations .now) (a .stopped .now) (λ (x : Found). byteOf (x .«hit_cap»)) (a .caps .now) _ z (all .1 .1 .1 .1),
             ),
           ),
         ),

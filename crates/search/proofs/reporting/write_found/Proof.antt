@@ -2,13 +2,13 @@
 -- nothing.
 use Prim.Native.Nat.{ℕ, _+_, _-_, _*_, _≤_, _<_, zero-le}
 use mathlib.Core.Path.{_≡_, refl, ap, _∙_}
-use mathlib.Core.Bool.{Bool, false}
 use mathlib.Core.List.{List}
 use native.Mathlib.Nat.{mul-le-mul}
 use native.Mathlib.Omega.{arith}
 use borrow.Author.Needs.{needs}
 use lib.Ieee.{Float, nan}
 use lib.ListN.{length, getD}
+use Rattle.meaning.specs.Flags.{byteOf}
 use Rattle.meaning.specs.Over.{over}
 use Rattle.meaning.specs.Rows.{most}
 use Rattle.search.specs.Lists.{listOf}
@@ -27,11 +27,11 @@ abbrev Inv-loop : tie.InvT-loop
 Inv-loop w cap runs simplexes iterations stopped converged₀ costs₀ places₀ lengths₀ caps₀ square long i₀ converged costs places lengths caps i =
     let at = foundAt w cap runs simplexes iterations stopped in
     (i ≤ runs)
-    × Passed (λ (j : ℕ) (x : Bool). at j .converged) false converged₀ converged i
+    × Passed (λ (j x : ℕ). byteOf (at j .converged)) 0 converged₀ converged i
     × Passed (λ (j : ℕ) (x : Float). at j .cost) nan costs₀ costs i
     × Passed (λ (j x : ℕ). at j .place) 0 places₀ places i
     × Passed (λ (j x : ℕ). w - 1) 0 lengths₀ lengths i
-    × Passed (λ (j : ℕ) (x : Bool). at j .«hit_cap») false caps₀ caps i
+    × Passed (λ (j x : ℕ). byteOf (at j .«hit_cap»)) 0 caps₀ caps i
 
 abbrev μ-loop : tie.MeasureT-loop
 μ-loop w cap runs simplexes iterations stopped converged₀ costs₀ places₀ lengths₀ caps₀ square long i₀ converged costs places lengths caps i =
@@ -125,49 +125,55 @@ found c =
     c .find .ensures
     ∙ (λ j. foundOf (a .w) (a .cap) (rowsIn (a .w) (a .w) (rows j)) (i * square) (getD (a .iterations .now) i 0) (stopped j))
 
+byte-of-requires : tie.Need-byte-of-requires Inv-loop μ-loop
+byte-of-requires c κs = search needs
+
 slice-write-converged : tie.Need-slice-write-converged Inv-loop μ-loop
-slice-write-converged c = let t = turn c in omega (arith, below t, start (t .before) .pre, t .before .loop .inv .1 .long)
+slice-write-converged c = let t = turn (c .before) in omega (arith, below t, start (t .before) .pre, t .before .loop .inv .1 .long)
 
 mul-costs : tie.Need-mul-costs Inv-loop μ-loop
-mul-costs c = let t = turn c in omega (arith, below t, start (t .before) .pre)
+mul-costs c = let t = turn (c .before) in omega (arith, below t, start (t .before) .pre)
 
 slice-write-costs : tie.Need-slice-write-costs Inv-loop μ-loop
-slice-write-costs c = let t = turn c in omega (arith, below t, start (t .before) .pre, t .before .loop .inv .2 .long)
+slice-write-costs c = let t = turn (c .before) in omega (arith, below t, start (t .before) .pre, t .before .loop .inv .2 .long)
 
 mul-places : tie.Need-mul-places Inv-loop μ-loop
-mul-places c = let t = turn c in omega (arith, below t, start (t .before) .pre)
+mul-places c = let t = turn (c .before) in omega (arith, below t, start (t .before) .pre)
 
 slice-write-places : tie.Need-slice-write-places Inv-loop μ-loop
-slice-write-places c = let t = turn c in omega (arith, below t, start (t .before) .pre, t .before .loop .inv .3 .long)
+slice-write-places c = let t = turn (c .before) in omega (arith, below t, start (t .before) .pre, t .before .loop .inv .3 .long)
 
 mul-lengths : tie.Need-mul-lengths Inv-loop μ-loop
-mul-lengths c = let t = turn c in omega (arith, below t, start (t .before) .pre)
+mul-lengths c = let t = turn (c .before) in omega (arith, below t, start (t .before) .pre)
 
 slice-write-lengths : tie.Need-slice-write-lengths Inv-loop μ-loop
-slice-write-lengths c = let t = turn c in omega (arith, below t, start (t .before) .pre, t .before .loop .inv .4 .long)
+slice-write-lengths c = let t = turn (c .before) in omega (arith, below t, start (t .before) .pre, t .before .loop .inv .4 .long)
+
+byte-of-requires-2 : tie.Need-byte-of-requires-2 Inv-loop μ-loop
+byte-of-requires-2 c κs = search needs
 
 slice-write-caps : tie.Need-slice-write-caps Inv-loop μ-loop
-slice-write-caps c = let t = turn c in omega (arith, below t, start (t .before) .pre, t .before .loop .inv .5 .long)
+slice-write-caps c = let t = turn (c .before .before) in omega (arith, below t, start (t .before) .pre, t .before .loop .inv .5 .long)
 
 add-i : tie.Need-add-i Inv-loop μ-loop
-add-i c = let t = turn c in omega (arith, below t, start (t .before) .pre)
+add-i c = let t = turn (c .before .before) in omega (arith, below t, start (t .before) .pre)
 
 loop-less : tie.Need-loop-less Inv-loop μ-loop
-loop-less c = omega (arith, below (turn c))
+loop-less c = omega (arith, below (turn (c .before .before)))
 
 loop-again : tie.Need-loop-again Inv-loop μ-loop
 loop-again c =
-    let t = turn c in
+    let t = turn (c .before .before) in
     let inv = t .before .loop .inv in
     let h = below t in
     let s = start (t .before) in
-    let e = found c in (
+    let e = found (c .before .before) in (
       omega (arith, h),
-      goes-on _ _ _ (inv .1) _ (omega (arith, h, s .pre .1 .1 .0)) (ap (λ (f : Found). f .converged) e),
+      goes-on _ _ _ (inv .1) _ (omega (arith, h, s .pre .1 .1 .0)) (c .before .byte-of .ensures ∙ ap (λ (f : Found). byteOf (f .converged)) e),
       goes-on _ _ _ (inv .2) _ (omega (arith, h, s .pre .1 .1 .1)) (ap (λ (f : Found). f .cost) e),
       goes-on _ _ _ (inv .3) _ (omega (arith, h, s .pre .1 .1 .2)) (ap (λ (f : Found). f .place) e),
       goes-on _ _ _ (inv .4) _ (omega (arith, h, s .pre .1 .1 .3)) refl,
-      goes-on _ _ _ (inv .5) _ (omega (arith, h, s .pre .1 .1 .4)) (ap (λ (f : Found). f .«hit_cap») e),
+      goes-on _ _ _ (inv .5) _ (omega (arith, h, s .pre .1 .1 .4)) (c .byte-of2 .ensures ∙ ap (λ (f : Found). byteOf (f .«hit_cap»)) e),
     )
 
 same-length : tie.Need-same-length Inv-loop μ-loop
@@ -223,6 +229,7 @@ write-found-spec =
     shared-slice-read-is-set
     is-set-requires
     find-requires
+    byte-of-requires
     slice-write-converged
     mul-costs
     slice-write-costs
@@ -230,6 +237,7 @@ write-found-spec =
     slice-write-places
     mul-lengths
     slice-write-lengths
+    byte-of-requires-2
     slice-write-caps
     add-i
     loop-less
