@@ -2,6 +2,10 @@
 //
 // x = k * ln2/32 + r with a whole k and |r| at most about ln2/64, so e^x is a power of two times a row of the table
 // times e^r. Adding SHIFT to x * 32/ln2 rounds to the whole k and leaves it in the low bits of t.
+//
+// Special values (proofs/AnnexF.antt): exp of either zero is 1, of -inf +0, of +inf +inf, of a NaN a NaN; no other is.
+// Accuracy, proved at every finite double (crates/accuracy): within 0.70 ulp of e^x, and 0.85 ulp up to 2^-1022; +inf
+// where e^x is out of range; always one of the two doubles around e^x.
 ghost use mathlib.Core.Path.{_≡_};
 ghost use mathlib.Core.Bool.{not};
 ghost use lib.Dec.{T};

@@ -1,5 +1,8 @@
 // expm1, in the steps of docs/ROUTINES.md and under its names: exp's table and polynomial, with 1 taken off before what
 // is small is added.
+//
+// Special values (proofs/AnnexF.antt): expm1 of either zero is that zero, of -inf -1, of +inf +inf, of a NaN a NaN.
+// Accuracy, measured and not proved: at most 0.642 ulp on 16 million inputs (docs/MEASUREMENTS.md).
 ghost use mathlib.Core.Path.{_≡_};
 ghost use mathlib.Core.Bool.{not};
 ghost use lib.Dec.{T};

@@ -1,5 +1,10 @@
 // lgamma, in the steps of docs/ROUTINES.md and under its names: Stirling's series from 4 on; below, four steps up and a
 // logarithm off; below 0, the reflection without a sine: Gamma(f) Gamma(1-f) over Gamma(1+a).
+//
+// Special values (proofs/AnnexF.antt): lgamma of 1 and 2 is +0; of either zero, of each negative whole number and of
+// either infinity +inf; of a NaN a NaN.
+// Accuracy, measured and not proved (docs/MEASUREMENTS.md; v is the exact value): at most 3e-15 (1 + |v|) for x below 8
+// and above 0, 2.54 ulp from 8 to 2^1000, 8.4e-15 (1 + |v|) below 0.
 ghost use mathlib.Core.Path.{_≡_};
 ghost use Rattle.routines.specs.Lgamma.{lgammaOf, stirlingWith, aboveZero, belowZero};
 use crate::ln::ln;

@@ -2,6 +2,10 @@
 //
 // x = 2^k * z with z between 0.7089.. and 1.4179.., both cut out of the bits of x. The table has a c near z:
 // z = c * (1 + r), so ln x = k ln 2 + ln c + ln(1 + r), and |r| is below 1/200.
+//
+// Special values (proofs/AnnexF.antt): ln of either zero is -inf, of 1 +0, of what lies below 0 a NaN, of +inf +inf, of
+// a NaN a NaN.
+// Accuracy, measured and not proved: at most 0.632 ulp on 24 million inputs (docs/MEASUREMENTS.md).
 ghost use mathlib.Core.Path.{_≡_};
 ghost use mathlib.Core.Bool.{not};
 ghost use Prim.Native.Nat.{_≤_};
