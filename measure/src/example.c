@@ -7,7 +7,6 @@
  */
 #include "fogatise.h"
 #include <math.h>
-#include <stdbool.h>
 #include <stdio.h>
 #include <stdlib.h>
 
@@ -98,7 +97,7 @@ static double searched(const spectrum *s, families f, double *theta, uint64_t *r
 
 /* The run table: an entry for each run, and the lists one behind the other. */
 typedef struct {
-    bool converged[MOST_STARTS], caps[MOST_STARTS];
+    uint8_t converged[MOST_STARTS], caps[MOST_STARTS];
     double costs[MOST_STARTS], lists[MOST_STARTS * MOST_NUMBERS];
     size_t places[MOST_STARTS], lengths[MOST_STARTS], length, numbers;
     uint64_t iterations[MOST_STARTS];
@@ -118,7 +117,7 @@ static void search_all(const spectrum *s, families f, double share, runs *r) {
         r->iterations[i] = 0;
         r->costs[i] = searched(s, f, r->lists + r->places[i], &r->iterations[i]);
         r->converged[i] = r->costs[i] > 0 && r->costs[i] < INFINITY;
-        r->caps[i] = false;
+        r->caps[i] = 0;
     }
 }
 

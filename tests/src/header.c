@@ -157,12 +157,12 @@ static void unpack(void) {
 }
 
 static double costs[ENTRIES];
-static bool converged[ENTRIES], caps[ENTRIES];
+static uint8_t converged[ENTRIES], caps[ENTRIES];
 static size_t places[ENTRIES], lengths[ENTRIES];
 static uint64_t iterations[ENTRIES];
 
-static size_t flags(size_t i, bool *entries) {
-    for (size_t k = 0; k < row[i]; k++) entries[k] = row[i + 1 + k] != 0;
+static size_t flags(size_t i, uint8_t *entries) {
+    for (size_t k = 0; k < row[i]; k++) entries[k] = (uint8_t)row[i + 1 + k];
     return i + 1 + row[i];
 }
 
@@ -191,11 +191,14 @@ static void attempted(fog_attempt_answer answer, size_t room) {
     reals(table + stands, room - stands);
 }
 
+/* Any other byte for a yes. */
+static uint8_t other(uint8_t flag, size_t i) { return flag == 0 ? 0 : (uint8_t)(2 + i % 254); }
+
 static size_t shorter(size_t a, size_t b) { return a < b ? a : b; }
 
 /*
  * Scale, valley, limit, a problem whose list holds the numbers of all lists, six columns; then the attempt, and the table from where it
- * stands. Once over the columns, and once over as many run structs as the shortest column has.
+ * stands. Once over the columns, and once over as many run structs as the shortest column has, with other bytes for the flags.
  */
 static void attempt(void) {
     static fog_run runs[ENTRIES];
@@ -209,7 +212,8 @@ static void attempt(void) {
               row[t]);
 
     const size_t n = shorter(shorter(shorter(row[first], row[second]), shorter(row[third], row[fourth])), shorter(row[fifth], row[sixth]));
-    for (size_t i = 0; i < n; i++) runs[i] = (fog_run){converged[i], costs[i], places[i], lengths[i], iterations[i], caps[i]};
+    for (size_t i = 0; i < n; i++)
+        runs[i] = (fog_run){other(converged[i], i), costs[i], places[i], lengths[i], iterations[i], other(caps[i], i + n)};
     const fog_setup setup = {number(1), row[4], row[2], row[5], (uint8_t)row[6], (uint8_t)row[7], number(3)};
     problem(4, &b, &t);
     at = answer;

@@ -1,9 +1,9 @@
 # Writes the #[repr(C)] structs and the C functions of some Rattle or Rust text again in C, to be compiled behind fogatise.h.
-# The struct FlatFitAnswer of src/, and FitAnswer of the Rust wrapper, is fog_fit_answer in the header: it is laid out a second time, and
-# static assertions hold sizes, and the place and the type of each field by its name, against the header's. A function is declared a second
-# time, which a C compiler refuses where its type is another.
+# The struct FlatFitAnswer of src/, and FitAnswer of the Rust wrapper, is fog_fit_answer in the header, and LentRun is fog_run: it is laid out a
+# second time, and static assertions hold sizes, and the place and the type of each field by its name, against the header's. A function is
+# declared a second time, which a C compiler refuses where its type is another. A bool has no C type here: C has bytes.
 function flat(name) {
-    sub(/^Flat/, "", name)
+    sub(/^(Flat|Lent)/, "", name)
     gsub(/[A-Z]/, "_&", name)
     return tolower(name)
 }
@@ -28,7 +28,7 @@ function declare(text,    name, listed, answer, words, count, i, line) {
     print type(answer, "fog") " " name "(" line ");"
 }
 
-BEGIN { c["u8"] = "uint8_t"; c["u16"] = "uint16_t"; c["u32"] = "uint32_t"; c["u64"] = "uint64_t"; c["usize"] = "size_t"; c["f64"] = "double"; c["bool"] = "bool" }
+BEGIN { c["u8"] = "uint8_t"; c["u16"] = "uint16_t"; c["u32"] = "uint32_t"; c["u64"] = "uint64_t"; c["usize"] = "size_t"; c["f64"] = "double"; }
 
 /^#\[repr\(C\)\]/ { next_is = 1; next }
 next_is && /^pub struct/ { name = flat($3); print "typedef struct {"; fields = ""; next_is = 0; inside = 1; next }

@@ -1,6 +1,6 @@
 /*
  * The search through the C interface, whose rows the oracle keeps elsewhere: two starts of an easy spectrum, begun, run in parts and at
- * once, reported, and handed on to an attempt; a stopped run by every byte that says so; and a refusal of each call.
+ * once, reported, and handed on to an attempt; each flag by every byte that says yes; and a refusal of each call.
  */
 #include "fogatise.h"
 #include <stdint.h>
@@ -61,25 +61,57 @@ static int stays(const state *begun) {
     return 1;
 }
 
+typedef struct {
+    uint8_t converged[RUNS], caps[RUNS];
+    double costs[RUNS];
+    size_t places[RUNS], lengths[RUNS];
+} columns;
+
+static fog_attempt_answer attempted(const state *s, const columns *c) {
+    return fog_attempt_from_numbers(bins, BINS, 1.0, BINS, 5, PEAK, FOG_SINGLETON_PARETO, FOG_NEGATIVE_BINOMIAL, 1.1, c->converged, RUNS, c->costs,
+                                    RUNS, c->places, RUNS, c->lengths, RUNS, s->iterations, RUNS, c->caps, RUNS, s->simplexes, RUNS * SQUARE,
+                                    table, 1);
+}
+
+static fog_attempt_answer over_structs(const state *s, const columns *c) {
+    const fog_setup setup = {1.0, BINS, 5, PEAK, FOG_SINGLETON_PARETO, FOG_NEGATIVE_BINOMIAL, 1.1};
+    fog_run runs[RUNS];
+    for (size_t i = 0; i < RUNS; i++)
+        runs[i] = (fog_run){c->converged[i], c->costs[i], c->places[i], c->lengths[i], s->iterations[i], c->caps[i]};
+    return fog_attempt_from(bins, BINS, setup, runs, RUNS, s->simplexes, RUNS * SQUARE, table, 1);
+}
+
+static int attempts(fog_attempt_answer answer, double least, uint32_t capped, const state *s) {
+    const fog_attempt *a = &answer.attempt;
+    return answer.number == 0 && a->has_candidate == 1 && a->candidate.log_likelihood == -least && a->capped_starts == capped
+        && a->total_iterations == s->iterations[0] + s->iterations[1] && fog_is_valid(*a) == (a->rejection_present == 0);
+}
+
+/* The second run alone has converged, and the first alone has come to its cap, by every byte but 0. */
+static int every_byte(const state *s, const columns *reported) {
+    for (int byte = 1; byte < 256; byte++) {
+        columns c = *reported;
+        c.converged[0] = 0;
+        c.converged[1] = c.caps[0] = (uint8_t)byte;
+        if (!attempts(attempted(s, &c), c.costs[1], 1, s) || !attempts(over_structs(s, &c), c.costs[1], 1, s)) return 0;
+    }
+    return 1;
+}
+
 static int reports(const state *s, size_t length) {
-    bool converged[RUNS] = {false, false}, caps[RUNS] = {true, true};
-    double costs[RUNS] = {0.0, 0.0};
-    size_t places[RUNS] = {0, 0}, lengths[RUNS] = {0, 0};
+    columns c = {{5, 5}, {7, 7}, {0.0, 0.0}, {0, 0}, {0, 0}};
     const fog_written answer = fog_report_searches(FOG_SINGLETON_PARETO, FOG_NEGATIVE_BINOMIAL, RUNS, s->simplexes, RUNS * SQUARE, s->iterations,
-                                                   RUNS, s->stopped, RUNS, converged, RUNS, costs, RUNS, places, RUNS, lengths, RUNS, caps,
-                                                   length);
-    if (length < RUNS) return is(answer, FOG_TOO_SHORT, 0) && !converged[0] && caps[0] && costs[0] == 0.0 && places[0] == 0;
+                                                   RUNS, s->stopped, RUNS, c.converged, RUNS, c.costs, RUNS, c.places, RUNS, c.lengths, RUNS,
+                                                   c.caps, length);
+    if (length < RUNS) return is(answer, FOG_TOO_SHORT, 0) && c.converged[0] == 5 && c.caps[0] == 7 && c.costs[0] == 0.0 && c.places[0] == 0;
 
     /* Both have stopped, and the test leaves the best row in front. */
     for (size_t i = 0; i < RUNS; i++)
-        if (!converged[i] || caps[i] || lengths[i] != LENGTH || places[i] != i * SQUARE + 1 || costs[i] != s->simplexes[i * SQUARE]) return 0;
-    const fog_attempt_answer attempt = fog_attempt_from_numbers(
-        bins, BINS, 1.0, BINS, 5, PEAK, FOG_SINGLETON_PARETO, FOG_NEGATIVE_BINOMIAL, 1.1, converged, RUNS, costs, RUNS, places, RUNS, lengths,
-        RUNS, s->iterations, RUNS, caps, RUNS, s->simplexes, RUNS * SQUARE, table, 1);
-    const double least = costs[0] < costs[1] ? costs[0] : costs[1];
-    return is(answer, 0, RUNS) && attempt.number == 0 && attempt.attempt.has_candidate == 1
-        && attempt.attempt.candidate.log_likelihood == -least
-        && attempt.attempt.total_iterations == s->iterations[0] + s->iterations[1];
+        if (c.converged[i] != 1 || c.caps[i] != 0 || c.lengths[i] != LENGTH || c.places[i] != i * SQUARE + 1
+            || c.costs[i] != s->simplexes[i * SQUARE])
+            return 0;
+    const double least = c.costs[0] < c.costs[1] ? c.costs[0] : c.costs[1];
+    return is(answer, 0, RUNS) && attempts(attempted(s, &c), least, 0, s) && attempts(over_structs(s, &c), least, 0, s) && every_byte(s, &c);
 }
 
 /* How many of the search's answers are others. */

@@ -9,8 +9,9 @@ use crate::{Configuration, ErrorModel, FitRejection, GenomeModel, Refusal, Spect
 /// six, and `RunColumns::default()` has none.
 #[derive(Clone, Copy, Debug, Default, PartialEq)]
 pub struct RunColumns<'a> {
-    /// Whether the run converged. One that did not counts for its iterations and its cap alone.
-    pub converged: &'a [bool],
+    /// 0 where the run did not converge, and any other byte where it did. One that did not counts for its iterations and its cap
+    /// alone.
+    pub converged: &'a [u8],
     /// Its cost, which is finite and above 0 for a converged run.
     pub costs: &'a [f64],
     /// Where its parameter list starts in `lists`.
@@ -19,8 +20,8 @@ pub struct RunColumns<'a> {
     pub lengths: &'a [usize],
     /// Its iterations.
     pub iterations: &'a [u64],
-    /// Whether it ran into its cap.
-    pub caps: &'a [bool],
+    /// 0 where it did not run into its cap, and any other byte where it did.
+    pub caps: &'a [u8],
     /// The numbers of all lists.
     pub lists: &'a [f64],
 }
@@ -127,7 +128,7 @@ impl Spectrum<'_> {
 impl FitAttempt {
     /// Whether there is a candidate and no rejection.
     pub fn is_valid(&self) -> bool {
-        unsafe { raw::fog_is_valid(self.flat()) }
+        unsafe { raw::fog_is_valid(self.flat()) != 0 }
     }
 
     fn of(attempt: raw::Attempt) -> FitAttempt {

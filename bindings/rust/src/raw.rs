@@ -130,8 +130,8 @@ pub struct Setup {
 #[repr(C)]
 #[derive(Clone, Copy, Debug, Default, PartialEq)]
 pub struct Run {
-    /// Whether it converged. A run that did not counts for its iterations and its cap alone.
-    pub converged: bool,
+    /// 0 where it did not converge, and any other byte where it did. One that did not counts for its iterations and its cap alone.
+    pub converged: u8,
     /// Its cost, which is finite and above 0 for a converged run.
     pub cost: f64,
     /// Where its parameter list starts in the lists that are handed over beside it.
@@ -140,8 +140,8 @@ pub struct Run {
     pub length: usize,
     /// Its iterations.
     pub iterations: u64,
-    /// Whether it ran into its cap.
-    pub hit_cap: bool,
+    /// 0 where it did not run into its cap, and any other byte where it did.
+    pub hit_cap: u8,
 }
 
 #[repr(C)]
@@ -333,7 +333,7 @@ extern "C" {
         iterations_length: usize,
         stopped: *const u8,
         stopped_length: usize,
-        converged: *mut bool,
+        converged: *mut u8,
         converged_length: usize,
         costs: *mut f64,
         costs_length: usize,
@@ -341,7 +341,7 @@ extern "C" {
         places_length: usize,
         lengths: *mut usize,
         lengths_length: usize,
-        caps: *mut bool,
+        caps: *mut u8,
         caps_length: usize,
     ) -> Written;
 
@@ -356,7 +356,7 @@ extern "C" {
         error: u8,
         genome: u8,
         mass_limit: f64,
-        converged: *const bool,
+        converged: *const u8,
         converged_length: usize,
         costs: *const f64,
         costs_length: usize,
@@ -366,7 +366,7 @@ extern "C" {
         lengths_length: usize,
         iterations: *const u64,
         iterations_length: usize,
-        caps: *const bool,
+        caps: *const u8,
         caps_length: usize,
         lists: *const f64,
         lists_length: usize,
@@ -384,7 +384,7 @@ extern "C" {
         table: *mut f64,
         table_length: usize,
     ) -> AttemptAnswer;
-    pub fn fog_is_valid(attempt: Attempt) -> bool;
+    pub fn fog_is_valid(attempt: Attempt) -> u8;
     pub fn fog_select_fit(first: Attempt, second: Attempt, third: Attempt, fourth: Attempt) -> Selected;
 
     pub fn fog_read_histogram(file: *const u8, length: usize, bins: *mut u32, bins_length: usize) -> File;

@@ -30,16 +30,16 @@ pub struct Scratch<'a> {
 /// Room for what runs have come to: as many entries in each slice as there are runs, or more.
 #[derive(Debug, PartialEq)]
 pub struct ReportRoom<'a> {
-    /// Whether the test has stopped the run, and its cost is finite and above 0.
-    pub converged: &'a mut [bool],
+    /// 1 where the test has stopped the run and its cost is finite and above 0, else 0.
+    pub converged: &'a mut [u8],
     /// The least cost in its simplex.
     pub costs: &'a mut [f64],
     /// Where the list with that cost starts in the simplexes.
     pub places: &'a mut [usize],
     /// The length of that list.
     pub lengths: &'a mut [usize],
-    /// Whether the cap has ended it.
-    pub caps: &'a mut [bool],
+    /// 1 where the cap has ended it, else 0.
+    pub caps: &'a mut [u8],
 }
 
 impl Spectrum<'_> {

@@ -87,9 +87,9 @@ fn an_attempt_is_the_least_of_its_valid_runs() {
     let lists = starts(PLAIN);
     let runs = lists.len() / 7;
     let costs: Vec<f64> = lists.chunks_exact(7).map(|theta| s.cost(PLAIN, theta, &mut []).expect("a cost")).collect();
-    let (mut converged, mut caps) = (vec![true; runs], vec![false; runs]);
-    converged[runs - 1] = false;
-    caps[..2].fill(true);
+    let (mut converged, mut caps) = (vec![1; runs], vec![0; runs]);
+    converged[runs - 1] = 0;
+    caps[..2].fill(1);
     let columns = RunColumns {
         converged: &converged,
         costs: &costs,
@@ -108,6 +108,11 @@ fn an_attempt_is_the_least_of_its_valid_runs() {
     assert_eq!((attempt.candidate, attempt.rejection), (Some(valid[0]), None));
     assert_eq!((attempt.error_model, attempt.genome_model), (PLAIN.error, PLAIN.genome));
     assert_eq!((attempt.total_iterations, attempt.capped_starts), (21, 2));
+
+    // Every byte but 0 is a yes.
+    let (bytes, hits): (Vec<u8>, Vec<u8>) = (converged.iter().map(|b| b * 2).collect(), caps.iter().map(|b| b * 255).collect());
+    let same = RunColumns { converged: &bytes, caps: &hits, ..columns };
+    assert_eq!(s.attempt_from_numbers(PLAIN, 1e9, &same, &mut []), Ok(attempt));
 
     // A peak that no lobe reaches: every run is rejected.
     let far = Spectrum { valley: 1000, peak: 2000, ..s }.attempt_from_numbers(PLAIN, 1e9, &columns, &mut []).expect("an attempt");

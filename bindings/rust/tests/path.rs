@@ -20,30 +20,30 @@ fn main() -> Result<(), Refusal> {
 
     // What a search made of its starts, as it was stored. The third run of the Pareto family ran into its cap.
     let weibull = RunColumns {
-        converged: &[true, true],
+        converged: &[1, 1],
         costs: &[41563.0236, 41569.8086],
         places: &[0, 8],
         lengths: &[8, 8],
         iterations: &[308, 336],
-        caps: &[false, false],
+        caps: &[0, 0],
         lists: &[-1.49, -4.07, 0.3, -0.46, 0.06, 2.06, -0.81, 1.42, -1.47, -3.31, -0.32, -0.02, 0.14, 2.25, -0.04, -25.17],
     };
     let pareto = RunColumns {
-        converged: &[true, true, false],
+        converged: &[1, 1, 0],
         costs: &[41565.7244, 41563.2379, 0.0],
         places: &[0, 7, 0],
         lengths: &[7, 7, 0],
         iterations: &[310, 561, 600],
-        caps: &[false, false, true],
+        caps: &[0, 0, 1],
         lists: &[-1.74, -3.38, 0.27, -0.79, -0.18, 1.79, -26.62, -1.61, -4.04, 0.4, -0.67, -0.08, 1.86, 0.04],
     };
     let weibull_shelf = RunColumns {
-        converged: &[true],
+        converged: &[1],
         costs: &[41563.1021],
         places: &[0],
         lengths: &[11],
         iterations: &[414],
-        caps: &[false],
+        caps: &[0],
         lists: &[-1.49, -4.0, 0.32, -0.52, 0.09, 2.08, -0.94, 1.17, -3.33, -25.65, 24.05],
     };
 

@@ -28,14 +28,14 @@ fn attempt(spectrum: &Spectrum, configuration: Configuration, seeds: &Seeds) -> 
     }
 
     let mut room = ReportRoom {
-        converged: &mut vec![false; runs],
+        converged: &mut vec![0; runs],
         costs: &mut vec![0.0; runs],
         places: &mut vec![0; runs],
         lengths: &mut vec![0; runs],
-        caps: &mut vec![false; runs],
+        caps: &mut vec![0; runs],
     };
     let columns = configuration.report_searches(runs, &searches, &mut room)?;
-    assert!((0..runs).all(|i| searches.stopped[i] == 1 || columns.caps[i]));
+    assert!((0..runs).all(|i| searches.stopped[i] == 1 || columns.caps[i] == 1));
     let attempt = spectrum.attempt_from_numbers(configuration, 1.1, &columns, scratch.table)?;
     assert_eq!(attempt.total_iterations, searches.iterations.iter().sum());
     Ok(attempt)

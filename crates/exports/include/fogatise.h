@@ -12,6 +12,8 @@
  * call reads none, it is aligned as C aligns the type, and what one call is lent does not overlap. A NaN that comes back may have any sign
  * and payload.
  *
+ * A flag is a byte: where it is handed in, 0 says no and every other byte yes; where it comes back or is written, it is 0 or 1.
+ *
  * docs/GLOSSARY.md says what valley, peak, shelf, window end and scale are.
  *
  * From a histogram file to cutoffs:
@@ -36,7 +38,6 @@
 #ifndef FOGATISE_H
 #define FOGATISE_H
 
-#include <stdbool.h>
 #include <stddef.h>
 #include <stdint.h>
 
@@ -232,15 +233,15 @@ typedef struct {
 
 /*
  * A run of the search. Its parameter list is the `length` numbers from `place` on of the lists that are handed over beside it. Where
- * converged is false, cost, place and length are not looked at.
+ * converged is 0, cost, place and length are not looked at.
  */
 typedef struct {
-    bool converged;
+    uint8_t converged;
     double cost;
     size_t place;
     size_t length;
     uint64_t iterations;
-    bool hit_cap;
+    uint8_t hit_cap;
 } fog_run;
 
 /* Number 0 and the attempt; or a number, and an attempt with every field 0. */
@@ -550,11 +551,11 @@ fog_written fog_run_searches(const uint32_t *bins, size_t bins_length, double sc
 /*
  * What each of the first `runs` runs has come to, in five arrays of `runs` entries; each may have more, which stay as they were. For run i
  *
- *   converged   whether the test has stopped it, and its cost is finite and above 0
+ *   converged   1 where the test has stopped it and its cost is finite and above 0, else 0
  *   costs       the least cost in its simplex
  *   places      where the list with that cost starts in `simplexes`: the earlier row on ties
  *   lengths     the length of that list
- *   caps        whether the cap has ended it: its iterations are as many, and the test has not stopped it
+ *   caps        1 where the cap has ended it, else 0: its iterations are as many, and the test has not stopped it
  *
  * A run that is still to go on has neither converged nor come to its cap. With `iterations` as the sixth array, and `simplexes` as `lists`,
  * these go into fog_attempt_from_numbers as they are; hand it `runs` as the length of each of the six. The answer is the number of runs.
@@ -562,8 +563,8 @@ fog_written fog_run_searches(const uint32_t *bins, size_t bins_length, double sc
  */
 fog_written fog_report_searches(uint8_t error, uint8_t genome, size_t runs, const double *simplexes, size_t simplexes_length,
                                 const uint64_t *iterations, size_t iterations_length, const uint8_t *stopped, size_t stopped_length,
-                                bool *converged, size_t converged_length, double *costs, size_t costs_length, size_t *places,
-                                size_t places_length, size_t *lengths, size_t lengths_length, bool *caps, size_t caps_length);
+                                uint8_t *converged, size_t converged_length, double *costs, size_t costs_length, size_t *places,
+                                size_t places_length, size_t *lengths, size_t lengths_length, uint8_t *caps, size_t caps_length);
 
 /* ---- which fit is used */
 
@@ -598,18 +599,18 @@ fog_verdict fog_validate_fit(fog_fit fit, size_t valley, size_t peak, double mas
  * a plain genome family. With a shelf its first window_end + 1 entries hold anything afterwards.
  */
 fog_attempt_answer fog_attempt_from_numbers(const uint32_t *bins, size_t bins_length, double scale, size_t window_end, size_t valley,
-                                            size_t peak, uint8_t error, uint8_t genome, double mass_limit, const bool *converged,
+                                            size_t peak, uint8_t error, uint8_t genome, double mass_limit, const uint8_t *converged,
                                             size_t converged_length, const double *costs, size_t costs_length, const size_t *places,
                                             size_t places_length, const size_t *lengths, size_t lengths_length,
-                                            const uint64_t *iterations, size_t iterations_length, const bool *caps, size_t caps_length,
+                                            const uint64_t *iterations, size_t iterations_length, const uint8_t *caps, size_t caps_length,
                                             const double *lists, size_t lists_length, double *table, size_t table_length);
 
 /* What fog_attempt_from_numbers answers over the six fields of the runs, with the numbers in one struct. */
 fog_attempt_answer fog_attempt_from(const uint32_t *bins, size_t bins_length, fog_setup setup, const fog_run *runs, size_t runs_length,
                                     const double *lists, size_t lists_length, double *table, size_t table_length);
 
-/* Whether there is a candidate and no rejection. */
-bool fog_is_valid(fog_attempt attempt);
+/* 1 where there is a candidate and no rejection, else 0. */
+uint8_t fog_is_valid(fog_attempt attempt);
 
 /*
  * The valid candidate of lowest BIC, the attempts being gone through in order: a later one takes the place of the best only where its BIC

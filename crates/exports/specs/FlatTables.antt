@@ -1,8 +1,8 @@
 -- How C has an attempt over a run table: the numbers that go in, and what comes back. Beside a number every field is 0.
 -- Definitions only. Assumes nothing.
 use Prim.Native.Nat.{ℕ}
-use mathlib.Core.Bool.{Bool, cond}
 use lib.Ieee.{Float}
+use Rattle.meaning.specs.Flags.{byteOf}
 use Rattle.fitter.specs.Validation.{reasonNumber}
 use Rattle.fitter.specs.declared.attempts.FitAttempt.{FitAttempt}
 use Rattle.fitter.specs.declared.attempts.RejectionPart.{RejectionPart}
@@ -24,9 +24,6 @@ setupOf scale end valley peak error genome limit = record {
   «mass_limit» = limit;
 }
 
-abbrev pub flagOf : Bool → ℕ
-flagOf b = cond b 1 0
-
 -- 0 and 0 where there is none, else 1 and the reason's number
 abbrev pub rejectionThere : RejectionPart → ℕ
 rejectionThere Absent = 0
@@ -40,7 +37,7 @@ unfoldable pub ofAttempt : FitAttempt → FlatAttempt
 ofAttempt a = record {
   «error_model» = ofError (a .«error_model»);
   «genome_model» = ofGenome (a .«genome_model»);
-  «has_candidate» = flagOf (a .«has_candidate»);
+  «has_candidate» = byteOf (a .«has_candidate»);
   candidate = ofFit (a .candidate);
   «rejection_present» = rejectionThere (a .rejection);
   rejection = rejectionNumber (a .rejection);

@@ -1,6 +1,7 @@
 // An attempt, as C has it, and the fit that is used out of four. C makes an attempt by filling the struct in.
 ghost use mathlib.Core.Path.{_≡_};
 ghost use mathlib.Core.List.{[], _∷_};
+ghost use Rattle.meaning.specs.Flags.{byteOf};
 ghost use Rattle.fitter.specs.Attempts.{validOf};
 ghost use Rattle.fitter.specs.Selection.{selectOf};
 ghost use Rattle.exports.specs.FlatAttempts.{reasonOf, rejectionOf, attemptFrom, ofSelected};
@@ -16,6 +17,7 @@ use fitter::attempts::make_attempt;
 use fitter::rejections::FitRejection;
 use fitter::selection::Selected;
 use fitter::selection::select_fit;
+use meaning::flags::byte_of;
 
 #[repr(C)]
 pub struct FlatAttempt {
@@ -91,10 +93,10 @@ fn flat_selected(selected: Selected) -> FlatSelected
 }
 
 #[no_mangle]
-pub extern "C" fn fog_is_valid(attempt: FlatAttempt) -> bool
-    ensures { λ r. ⌜ r ≡ validOf (attemptFrom attempt) ⌝ }
+pub extern "C" fn fog_is_valid(attempt: FlatAttempt) -> u8
+    ensures { λ r. ⌜ r ≡ byteOf (validOf (attemptFrom attempt)) ⌝ }
 {
-    is_valid(attempt_of(attempt))
+    byte_of(is_valid(attempt_of(attempt)))
 }
 
 #[no_mangle]

@@ -9,7 +9,7 @@ use crate::run_tables::FlatAttemptAnswer;
 use crate::run_tables::flat_attempt_answer;
 use crate::run_tables::setup_of;
 use fitter::run_table::attempt_from;
-use fitter::runs::Run;
+use fitter::runs::LentRun;
 use fitter::settling::Setup;
 
 // The numbers of an attempt; the families are bytes.
@@ -42,7 +42,7 @@ fn setup_from(setup: FlatSetup) -> Setup
 pub extern "C" fn fog_attempt_from(
     bins: &[u32],
     setup: FlatSetup,
-    runs: &[Run],
+    runs: &[LentRun],
     lists: &[f64],
     table: &mut [f64],
 ) -> FlatAttemptAnswer

@@ -3,7 +3,7 @@ ghost use mathlib.Core.Path.{_≡_};
 ghost use lib.ListN.{length, drop};
 ghost use Rattle.fitter.specs.Attempting.{attemptAnswerOf, attemptFrom, standsFrom};
 ghost use Rattle.fitter.specs.Columns.{countOfRuns, runOf};
-ghost use Rattle.exports.specs.FlatTables.{flagOf, rejectionThere, rejectionNumber, ofAttempt, setupOf, sayAttempt};
+ghost use Rattle.exports.specs.FlatTables.{rejectionThere, rejectionNumber, ofAttempt, setupOf, sayAttempt};
 use crate::families::error_of;
 use crate::families::flat_error;
 use crate::families::flat_genome;
@@ -16,20 +16,12 @@ use fitter::attempts::FitAttempt;
 use fitter::attempts::RejectionPart;
 use fitter::settling::AttemptAnswer;
 use fitter::settling::Setup;
+use meaning::flags::byte_of;
 
 #[repr(C)]
 pub struct FlatAttemptAnswer {
     pub number: u8,
     pub attempt: FlatAttempt,
-}
-
-fn flag_of(b: bool) -> u8
-    ensures { λ r. ⌜ r ≡ flagOf b ⌝ }
-{
-    if b {
-        return 1;
-    }
-    0
 }
 
 fn rejection_there(rejection: RejectionPart) -> u8
@@ -60,7 +52,7 @@ fn flat_attempt(attempt: FitAttempt) -> FlatAttempt
     FlatAttempt {
         error_model: flat_error(error),
         genome_model: flat_genome(genome),
-        has_candidate: flag_of(attempt.has_candidate),
+        has_candidate: byte_of(attempt.has_candidate),
         candidate: candidate,
         rejection_present: rejection_there(rejection),
         rejection: rejection_number(rejection),
@@ -110,12 +102,12 @@ pub extern "C" fn fog_attempt_from_numbers(
     error: u8,
     genome: u8,
     mass_limit: f64,
-    converged: &[bool],
+    converged: &[u8],
     costs: &[f64],
     places: &[usize],
     lengths: &[usize],
     iterations: &[u64],
-    caps: &[bool],
+    caps: &[u8],
     lists: &[f64],
     table: &mut [f64],
 ) -> FlatAttemptAnswer

@@ -9,8 +9,11 @@ attempt-of-requires c κs = search needs
 is-valid-requires : tie.Need-is-valid-requires
 is-valid-requires c κs = search needs
 
+byte-of-requires : tie.Need-byte-of-requires
+byte-of-requires c κs = search needs
+
 returns : tie.Need-returns
-returns c = rw (c .is-valid .ensures, c .before .attempt-of .ensures)
+returns c = rw (c .byte-of .ensures, c .before .is-valid .ensures, c .before .before .attempt-of .ensures)
 
 pub fog-is-valid-spec : {M : Type 1} → statement M
-fog-is-valid-spec = tie.close (tie.spec attempt-of-requires is-valid-requires returns)
+fog-is-valid-spec = tie.close (tie.spec attempt-of-requires is-valid-requires byte-of-requires returns)

@@ -31,7 +31,7 @@ use denote.Triple.Spec.{Meets, tripleOf}
 use denote.Triple.Table.{entered, cited}
 use denote.Triple.Walked.{goes-none, goes-none-slice, goes-slice, walked, walk-meets}
 use denote.Exit.{yes}
-use Rattle.fitter.proofs.RunSlices.{Run-row, Arguments, m, bins-ref, runs-ref, lists-ref, table-ref, bins-at}
+use Rattle.fitter.proofs.RunSlices.{Lent-row, Arguments, m, bins-ref, runs-ref, lists-ref, table-ref, bins-at}
 use Rattle.fitter.proofs.RunSlices.{setup-at, runs-at, lists-at, table-at}
 use Rattle.exports.proofs.run_slices.FlatSetup as Flat-type
 use Rattle.exports.proofs.run_slices.FlatSetup.Laws as Flat-laws
@@ -68,7 +68,7 @@ module _ {M : Type 1} (𝓤 : URA M) (H : Heap 𝓤) (A : Atoms 𝓤) (W : Given
         qed W
         ((‵ (flft κb qb) ⊛ ‵ (flft κr qr) ⊛ ‵ (flft κl ql) ⊛ ‵ (flft κt qt) ⊛ ‵ ftrue)
         ∷ ‵ (owns
-        (ShrSlice (named 0) κb u32 ∷ Flat-row ∷ ShrSlice (named 1) κr Run-row ∷ ShrSlice (named 2) κl f64
+        (ShrSlice (named 0) κb u32 ∷ Flat-row ∷ ShrSlice (named 1) κr Lent-row ∷ ShrSlice (named 2) κl f64
         ∷ MutSlice (named 3) κt f64 ∷ [])
         (bins-ref a, (setup, (runs-ref a, (lists-ref a, (table-ref a γt table, tt)))))
         (bins-at a ∷ [], (setup-at a ∷ [], (runs-at a ∷ [], (lists-at a ∷ [], (table-at a (m a) ∷ [], tt))))))
@@ -113,7 +113,7 @@ module _ {M : Type 1} (𝓤 : URA M) (H : Heap 𝓤) (A : Atoms 𝓤) (W : Given
         (
           goes-none 𝓤 H A W 4 (λ _. Flat-row) yes (λ κs x f. refl),
           (
-            goes-none-slice 𝓤 H A W 4 (1 ∷ []) tt (plain (λ _. Run-row)) yes,
+            goes-none-slice 𝓤 H A W 4 (1 ∷ []) tt (plain (λ _. Lent-row)) yes,
             (
               goes-none-slice 𝓤 H A W 4 (2 ∷ []) tt (plain (λ _. f64)) yes,
               (goes-slice 𝓤 H A W 4 3 tt (plain (λ _. f64)), tt),
@@ -131,7 +131,7 @@ module _ {M : Type 1} (𝓤 : URA M) (H : Heap 𝓤) (A : Atoms 𝓤) (W : Given
         (
           LL.tells Flat-type.the-type Flat-laws.the-laws,
           (
-            shr-slice-tells (named 1) (κs .1 .0) Run-row,
+            shr-slice-tells (named 1) (κs .1 .0) Lent-row,
             (
               shr-slice-tells (named 2) (κs .1 .1 .0) f64,
               (mut-slice-tells (named 3) (κs .1 .1 .1 .0) f64, tt),

@@ -13,8 +13,8 @@ flat-error-requires c κs = search needs
 flat-genome-requires : tie.Need-flat-genome-requires
 flat-genome-requires c κs = search needs
 
-flag-of-requires : tie.Need-flag-of-requires
-flag-of-requires c κs = search needs
+byte-of-requires : tie.Need-byte-of-requires
+byte-of-requires c κs = search needs
 
 rejection-there-requires : tie.Need-rejection-there-requires
 rejection-there-requires c κs = search needs
@@ -32,7 +32,7 @@ returns c =
     rw (
       c .rejection-number .ensures,
       there .rejection-there .ensures,
-      flag .flag-of .ensures,
+      flag .byte-of .ensures,
       genome .flat-genome .ensures,
       error .flat-error .ensures,
       error .before .flat-fit .ensures,
@@ -45,7 +45,7 @@ flat-attempt-spec =
     flat-fit-requires
     flat-error-requires
     flat-genome-requires
-    flag-of-requires
+    byte-of-requires
     rejection-there-requires
     rejection-number-requires
     returns)

@@ -24,12 +24,12 @@ use denote.Steps.{nothing}
 use denote.Triple.Statement.{Contract}
 use denote.Triple.Clauses.{ensured, lasts}
 use denote.Triple.Spec.{tripleOf}
-use Rattle.fitter.specs.declared.runs.Run.{Run}
+use Rattle.fitter.specs.declared.runs.LentRun.{LentRun}
 use Rattle.fitter.specs.declared.settling.Setup.{Setup}
 use Rattle.exports.specs.FlatSetups.{setupFrom}
 use Rattle.exports.specs.FlatTables.{sayAttempt}
 use Rattle.exports.specs.declared.run_tables.FlatAttemptAnswer.{FlatAttemptAnswer}
-use Rattle.fitter.proofs.RunSlices.{Run-row, Arguments, m, bins-ref, runs-ref, lists-ref, table-ref, bins-at}
+use Rattle.fitter.proofs.RunSlices.{Lent-row, Arguments, m, bins-ref, runs-ref, lists-ref, table-ref, bins-at}
 use Rattle.fitter.proofs.RunSlices.{setup-at, runs-at, lists-at, table-at}
 use Rattle.exports.proofs.run_slices.setup_from as made
 use Rattle.fitter.proofs.run_table.attempt_from as asked
@@ -70,7 +70,7 @@ module _ (a : Args) where
   open Arguments a using (κb, κr, κl, qb, qr, ql, table)
 
   abbrev pub args : GName → Numbers a
-      → RefT (List ℕ) × (Setup × (RefT (List Run) × (RefT (List Float) × (RefT (List Float) × Unit {0}))))
+      → RefT (List ℕ) × (Setup × (RefT (List LentRun) × (RefT (List Float) × (RefT (List Float) × Unit {0}))))
   args δ k = (bins-ref a, (k .s, (runs-ref a, (lists-ref a, (table-ref a δ table, tt)))))
 
   abbrev vals : Numbers a → List Val × (List Val × (List Val × (List Val × (List Val × Unit {0}))))
@@ -86,7 +86,7 @@ module _ (a : Args) where
   abbrev Handed : ℕ → GName → Numbers a → Fml
   Handed ν δ k =
       owns
-      (ShrSlice (named 0) κb u32 ∷ Setup-row ∷ ShrSlice (named 1) κr Run-row ∷ ShrSlice (named 2) κl f64
+      (ShrSlice (named 0) κb u32 ∷ Setup-row ∷ ShrSlice (named 1) κr Lent-row ∷ ShrSlice (named 2) κl f64
       ∷ MutSlice (named 3) (ν ∷ []) f64 ∷ [])
       (args δ k) (vals k)
 

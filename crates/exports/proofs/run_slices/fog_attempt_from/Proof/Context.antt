@@ -12,7 +12,7 @@ use prog.Wp.{Heap, Env}
 use types.Kit.{Item, ‵}
 use denote.Memory.{pointee}
 use denote.Slice.{sliceTy}
-use Rattle.fitter.proofs.RunSlices.{Run-row, Arguments, m, bins-at, setup-at, runs-at, lists-at, table-at, OwnB, OwnR}
+use Rattle.fitter.proofs.RunSlices.{Lent-row, Arguments, m, bins-at, setup-at, runs-at, lists-at, table-at, OwnB, OwnR}
 use Rattle.fitter.proofs.RunSlices.{OwnL, OwnT}
 use Rattle.fitter.proofs.settling.Setup.Laws as Setup-laws
 use Rattle.fitter.proofs.settling.AttemptAnswer.Laws as Answer-laws
@@ -37,7 +37,7 @@ pub record Blocks : Type 0 where
 abbrev pub En : {M : Type 1} (𝓤 : URA M) (H : Heap 𝓤) → Blocks → Env 𝓤 H
 En 𝓤 H ls =
     (Out-laws.mir, ls .l0) ∷ (sliceTy (tyRef (named 0) imm (tyInt w32)), ls .l1) ∷ (Flat-laws.mir, ls .l2) ∷
-    (sliceTy (tyRef (named 1) imm (pointee (Run-row .written))), ls .l3) ∷
+    (sliceTy (tyRef (named 1) imm (pointee (Lent-row .written))), ls .l3) ∷
     (sliceTy (tyRef (named 2) imm (tyFloat binary64)), ls .l4) ∷
     (sliceTy (tyRef (named 3) mut (tyFloat binary64)), ls .l5) ∷ (Setup-laws.mir, ls .l6) ∷ (Answer-laws.mir, ls .l7)
     ∷ (ref, ls .l8) ∷ (sliceTy ref, ls .l9) ∷ []
@@ -57,8 +57,8 @@ module _ {M : Type 1} (𝓤 : URA M) (a : Args) (ls : Blocks) where
       (fdies (sliceTy (tyRef (named 3) mut (tyFloat binary64))) l5)
       ∷ ‵ (fat fullShare (sliceTy (tyRef (named 2) imm (tyFloat binary64))) l4 0 (lists-at a)) ∷ ‵
       (fdies (sliceTy (tyRef (named 2) imm (tyFloat binary64))) l4)
-      ∷ ‵ (fat fullShare (sliceTy (tyRef (named 1) imm (pointee (Run-row .written)))) l3 0 (runs-at a)) ∷ ‵
-      (fdies (sliceTy (tyRef (named 1) imm (pointee (Run-row .written)))) l3)
+      ∷ ‵ (fat fullShare (sliceTy (tyRef (named 1) imm (pointee (Lent-row .written)))) l3 0 (runs-at a)) ∷ ‵
+      (fdies (sliceTy (tyRef (named 1) imm (pointee (Lent-row .written)))) l3)
       ∷ ‵ (fat fullShare Flat-laws.mir l2 0 (setup-at a)) ∷ ‵ (fdies Flat-laws.mir l2)
       ∷ ‵ (fat fullShare (sliceTy (tyRef (named 0) imm (tyInt w32))) l1 0 (bins-at a)) ∷ ‵
       (fdies (sliceTy (tyRef (named 0) imm (tyInt w32))) l1)
@@ -77,8 +77,8 @@ module _ {M : Type 1} (𝓤 : URA M) (a : Args) (ls : Blocks) where
       (fdies (sliceTy (tyRef (named 3) mut (tyFloat binary64))) l5)
       ∷ ‵ (fat fullShare (sliceTy (tyRef (named 2) imm (tyFloat binary64))) l4 0 (lists-at a)) ∷ ‵
       (fdies (sliceTy (tyRef (named 2) imm (tyFloat binary64))) l4)
-      ∷ ‵ (fat fullShare (sliceTy (tyRef (named 1) imm (pointee (Run-row .written)))) l3 0 (runs-at a)) ∷ ‵
-      (fdies (sliceTy (tyRef (named 1) imm (pointee (Run-row .written)))) l3)
+      ∷ ‵ (fat fullShare (sliceTy (tyRef (named 1) imm (pointee (Lent-row .written)))) l3 0 (runs-at a)) ∷ ‵
+      (fdies (sliceTy (tyRef (named 1) imm (pointee (Lent-row .written)))) l3)
       ∷ ‵ (fat fullShare Flat-laws.mir l2 0 (setup-at a)) ∷ ‵ (fdies Flat-laws.mir l2)
       ∷ ‵ (fat fullShare (sliceTy (tyRef (named 0) imm (tyInt w32))) l1 0 (bins-at a)) ∷ ‵
       (fdies (sliceTy (tyRef (named 0) imm (tyInt w32))) l1)
@@ -97,8 +97,8 @@ module _ {M : Type 1} (𝓤 : URA M) (a : Args) (ls : Blocks) where
       (fdies (sliceTy (tyRef (named 3) mut (tyFloat binary64))) l5)
       ∷ ‵ (fat fullShare (sliceTy (tyRef (named 2) imm (tyFloat binary64))) l4 0 (lists-at a)) ∷ ‵
       (fdies (sliceTy (tyRef (named 2) imm (tyFloat binary64))) l4)
-      ∷ ‵ (fat fullShare (sliceTy (tyRef (named 1) imm (pointee (Run-row .written)))) l3 0 (runs-at a)) ∷ ‵
-      (fdies (sliceTy (tyRef (named 1) imm (pointee (Run-row .written)))) l3)
+      ∷ ‵ (fat fullShare (sliceTy (tyRef (named 1) imm (pointee (Lent-row .written)))) l3 0 (runs-at a)) ∷ ‵
+      (fdies (sliceTy (tyRef (named 1) imm (pointee (Lent-row .written)))) l3)
       ∷ ‵ (fat fullShare Flat-laws.mir l2 0 (setup-at a)) ∷ ‵ (fdies Flat-laws.mir l2)
       ∷ ‵ (fat fullShare (sliceTy (tyRef (named 0) imm (tyInt w32))) l1 0 (bins-at a)) ∷ ‵
       (fdies (sliceTy (tyRef (named 0) imm (tyInt w32))) l1)

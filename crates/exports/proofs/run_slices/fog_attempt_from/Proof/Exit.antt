@@ -22,7 +22,7 @@ use denote.Triple.Walked.{Stays, stay-none, stay-none-slice, stay-slice, walkOf,
 use denote.Exit.{yes}
 use Rattle.exports.specs.declared.run_tables.FlatAttemptAnswer.{FlatAttemptAnswer}
 use Rattle.fitter.proofs.SaidFacts.{says-both}
-use Rattle.fitter.proofs.RunSlices.{Run-row, Arguments, m, bins-ref, runs-ref, lists-ref, table-ref, bins-at}
+use Rattle.fitter.proofs.RunSlices.{Lent-row, Arguments, m, bins-ref, runs-ref, lists-ref, table-ref, bins-at}
 use Rattle.fitter.proofs.RunSlices.{setup-at, runs-at, lists-at, table-at, OwnB, OwnR, OwnL, OwnT}
 use Rattle.exports.proofs.run_slices.FlatSetup as Flat-type
 use Rattle.exports.proofs.run_slices.FlatSetup.Laws as Flat-laws
@@ -38,7 +38,7 @@ stayed = (
   (
     stay-none (λ _. Flat-row) yes,
     (
-      stay-none-slice (1 ∷ []) tt (plain (λ _. Run-row)) yes,
+      stay-none-slice (1 ∷ []) tt (plain (λ _. Lent-row)) yes,
       (
         stay-none-slice (2 ∷ []) tt (plain (λ _. f64)) yes,
         (stay-slice (3 ∷ []) tt (plain (λ _. f64)), tt),

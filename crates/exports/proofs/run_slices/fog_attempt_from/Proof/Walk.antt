@@ -32,7 +32,7 @@ use Rattle.exports.specs.FlatSetups.{setupFrom}
 use Rattle.exports.specs.FlatTables.{sayAttempt}
 use Rattle.exports.specs.declared.run_tables.FlatAttemptAnswer.{FlatAttemptAnswer}
 use Rattle.fitter.proofs.LentOn.{LentAgain, lends-again, comes-back}
-use Rattle.fitter.proofs.RunSlices.{Run-row, Arguments, m, bins-ref, runs-ref, lists-ref, bins-at, setup-at, runs-at}
+use Rattle.fitter.proofs.RunSlices.{Lent-row, Arguments, m, bins-ref, runs-ref, lists-ref, bins-at, setup-at, runs-at}
 use Rattle.fitter.proofs.RunSlices.{lists-at, OwnB, OwnR, OwnL, OwnT, Lended}
 use Rattle.fitter.proofs.settling.Setup as Setup-type
 use Rattle.fitter.proofs.settling.Setup.Laws as Setup-laws
@@ -118,7 +118,7 @@ module _ {M : Type 1} (𝓤 : URA M) (H : Heap 𝓤) (A : Atoms 𝓤) (W : Given
       use1 W (‵ (OwnB a) ⊛ ‵ (OwnB a)) (shr-slice-copy 𝓤 H A W (named 0) κb u32 .twice (bins-ref a) (bins-at a ∷ [])) $
       split ! $ move ! (28 ∷ []) $
       use1 W (‵ (OwnR a) ⊛ ‵ (OwnR a))
-      (shr-slice-copy 𝓤 H A W (named 1) κr Run-row .twice (runs-ref a) (runs-at a ∷ [])) $
+      (shr-slice-copy 𝓤 H A W (named 1) κr Lent-row .twice (runs-ref a) (runs-at a ∷ [])) $
       split ! $ move ! (30 ∷ []) $
       use1 W (‵ (OwnL a) ⊛ ‵ (OwnL a))
       (shr-slice-copy 𝓤 H A W (named 2) κl f64 .twice (lists-ref a) (lists-at a ∷ [])) $
