@@ -38,18 +38,22 @@ fn past(words: &[u64]) -> &[u64] {
     from(from(words, 1), word(words, 0) as usize)
 }
 
-fn set(n: u64) -> bool {
-    n != 0
+// A word as a byte; 255 for one that is none.
+fn byte(n: u64) -> u8 {
+    if n < 256 {
+        return n as u8;
+    }
+    255
 }
 
-// The first of a column's entries at the front of `flags`, 0 for false; how many.
-fn fill_flags(words: &[u64], n: usize, flags: &mut [bool]) -> usize
+// The first of a column's entries at the front of `flags`; how many.
+fn fill_flags(words: &[u64], n: usize, flags: &mut [u8]) -> usize
     ensures { λ r. ⌜ Counts r (now (flags .exit)) ⌝ }
 {
     let end = least(n, flags.len());
     let mut i = 0;
     while i < end {
-        flags[i] = set(word(words, i));
+        flags[i] = byte(word(words, i));
         i += 1;
     }
     end
@@ -152,12 +156,12 @@ fn attempted(
     r: Row,
     bins: &[u32],
     lists: &[f64],
-    converged: &[bool],
+    converged: &[u8],
     costs: &[f64],
     places: &[usize],
     lengths: &[usize],
     iterations: &[u64],
-    caps: &[bool],
+    caps: &[u8],
     table: &mut [f64],
     answer: &[u64],
 ) -> bool {
@@ -180,7 +184,7 @@ fn with_lengths(
     r: Row,
     bins: &[u32],
     lists: &[f64],
-    converged: &[bool],
+    converged: &[u8],
     costs: &[f64],
     places: &[usize],
     lengths: &[usize],
@@ -188,7 +192,7 @@ fn with_lengths(
     words: &[u64],
 ) -> bool {
     let mut table = [0.0; MOST];
-    let mut caps = [false; MOST];
+    let mut caps = [0u8; MOST];
     let last = past(words);
     let k = fill_flags(from(last, 1), word(last, 0) as usize, &mut caps);
     let m = fill(from(lent, 1), word(lent, 0) as usize, &mut table);
@@ -211,7 +215,7 @@ fn with_costs(
     r: Row,
     bins: &[u32],
     lists: &[f64],
-    converged: &[bool],
+    converged: &[u8],
     costs: &[f64],
     lent: &[u64],
     words: &[u64],
@@ -235,7 +239,7 @@ fn with_costs(
 }
 
 fn with_spectrum(r: Row, bins: &[u32], lists: &[f64], lent: &[u64]) -> bool {
-    let mut converged = [false; MOST];
+    let mut converged = [0u8; MOST];
     let mut costs = [0.0; MOST];
     let words = past(lent);
     let next = past(words);

@@ -23,8 +23,8 @@ loop-holds c = search needs
 word-requires : tie.Need-word-requires Inv-loop μ-loop
 word-requires c κs = search needs
 
-set-requires : tie.Need-set-requires Inv-loop μ-loop
-set-requires c κs = search needs
+byte-requires : tie.Need-byte-requires Inv-loop μ-loop
+byte-requires c κs = search needs
 
 slice-write-flags : tie.Need-slice-write-flags Inv-loop μ-loop
 slice-write-flags c = search needs
@@ -37,7 +37,8 @@ loop-less c = omega arith
 
 loop-again : tie.Need-loop-again Inv-loop μ-loop
 loop-again c =
-    let kept = length-set (c .before .before .before .loop .flags) (c .before .before .before .loop .i) (c .set .result) in
+    let l = c .before .before .before .loop in
+    let kept = length-set (l .flags) (l .i) (c .byte .result) in
     (omega arith, omega (arith, kept), omega (arith, kept))
 
 same-length : tie.Need-same-length Inv-loop μ-loop
@@ -55,7 +56,7 @@ fill-flags-spec =
     least-requires
     loop-holds
     word-requires
-    set-requires
+    byte-requires
     slice-write-flags
     add-i
     loop-less
