@@ -88,12 +88,8 @@ fn first_bytes(x: &[u8], n: usize) -> &[u8] {
     if n < x.len() { &x[..n] } else { x }
 }
 
-fn first_flags(x: &[bool], n: usize) -> &[bool] {
-    if n < x.len() { &x[..n] } else { x }
-}
-
-fn flag_at(x: &[bool], i: usize) -> bool {
-    if i < x.len() { x[i] } else { false }
+fn flag_at(x: &[u8], i: usize) -> bool {
+    if i < x.len() { is_set(x[i]) } else { false }
 }
 
 // 1 for a run that has ended, by the test or at its cap, and 0 for one that has not.
@@ -104,7 +100,7 @@ fn ended(stopped: bool, capped: bool) -> usize
 }
 
 // How many runs have ended.
-fn runs_done(stopped: &[u8], caps: &[bool]) -> usize {
+fn runs_done(stopped: &[u8], caps: &[u8]) -> usize {
     let mut done: usize = 0;
     let mut i: usize = 0;
     while i < stopped.len() {
@@ -136,11 +132,11 @@ fn go_on(
     stopped: &mut [u8],
     ready: &mut [f64],
     table: &mut [f64],
-    converged: &mut [bool],
+    converged: &mut [u8],
     costs: &mut [f64],
     places: &mut [usize],
     lengths: &mut [usize],
-    caps: &mut [bool],
+    caps: &mut [u8],
 ) -> bool {
     let error = problem.error;
     let genome = problem.genome;
@@ -192,11 +188,11 @@ fn search_all(
     stopped: &mut [u8],
     ready: &mut [f64],
     table: &mut [f64],
-    converged: &mut [bool],
+    converged: &mut [u8],
     costs: &mut [f64],
     places: &mut [usize],
     lengths: &mut [usize],
-    caps: &mut [bool],
+    caps: &mut [u8],
 ) -> bool {
     let mut whole = true;
     let mut done: usize = 0;
@@ -219,7 +215,7 @@ fn search_all(
         );
         whole = both(whole, fine);
         if done < runs {
-            done = runs_done(first_bytes(stopped, runs), first_flags(caps, runs));
+            done = runs_done(first_bytes(stopped, runs), first_bytes(caps, runs));
             let least = least_cost(first_floats(costs, runs));
             say(watch, k, done as u64, runs as u64, pattern(least));
         }
@@ -254,11 +250,11 @@ pub(crate) fn attempt(
     let mut stopped = [0u8; RUNS];
     let mut ready = [0.0f64; READY];
     let mut table = [0.0f64; TABLE];
-    let mut converged = [false; RUNS];
+    let mut converged = [0u8; RUNS];
     let mut costs = [0.0f64; RUNS];
     let mut places = [0usize; RUNS];
     let mut lengths = [0usize; RUNS];
-    let mut caps = [false; RUNS];
+    let mut caps = [0u8; RUNS];
     let numbers = items(fit_starts(
         error,
         genome,
@@ -298,7 +294,7 @@ pub(crate) fn attempt(
     let answer = attempt_from_numbers(
         bins,
         setup_of(asked, end, error, genome),
-        first_flags(&converged, runs),
+        first_bytes(&converged, runs),
         &costs,
         &places,
         &lengths,

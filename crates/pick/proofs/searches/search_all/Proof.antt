@@ -10,7 +10,6 @@ use Rattle.pick.proofs.searches.search_all.Lts as lts
 use Rattle.pick.proofs.progress.say.Reads as say-reads
 use Rattle.pick.proofs.searches.both.Reads as both-reads
 use Rattle.pick.proofs.searches.first_bytes.Reads as first-bytes-reads
-use Rattle.pick.proofs.searches.first_flags.Reads as first-flags-reads
 use Rattle.pick.proofs.searches.first_floats.Reads as first-floats-reads
 use Rattle.pick.proofs.searches.go_on.Reads as go-on-reads
 use Rattle.pick.proofs.searches.least_cost.Reads as least-cost-reads
@@ -44,8 +43,8 @@ first-bytes-requires : tie.Need-first-bytes-requires Inv-loop μ-loop
 first-bytes-requires c κs = search needs
 
 -- src/searches.rt:173:58
-first-flags-requires : tie.Need-first-flags-requires Inv-loop μ-loop
-first-flags-requires c κs = search needs
+first-bytes-requires-2 : tie.Need-first-bytes-requires-2 Inv-loop μ-loop
+first-bytes-requires-2 c κs = search needs
 
 -- src/searches.rt:173:13
 runs-done-requires : tie.Need-runs-done-requires Inv-loop μ-loop
@@ -157,7 +156,7 @@ search-all-spec =
     go-on-requires
     both-requires
     first-bytes-requires
-    first-flags-requires
+    first-bytes-requires-2
     runs-done-requires
     first-floats-requires
     least-cost-requires
