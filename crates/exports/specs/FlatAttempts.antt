@@ -51,8 +51,8 @@ reasonOf n = getD reasons n reason.OptimisationFailed
 abbrev pub rejectionOf : ℕ → ℕ → RejectionPart
 rejectionOf present n = cond (eqb present 0) Absent (Present (reasonOf n))
 
-unfoldable pub attemptFrom : FlatAttempt → FitAttempt
-attemptFrom a =
+unfoldable pub attemptOfFlat : FlatAttempt → FitAttempt
+attemptOfFlat a =
     attemptOf
     (errorOf (a .«error_model»))
     (genomeOf (a .«genome_model»))

@@ -4,7 +4,7 @@ ghost use mathlib.Core.List.{[], _∷_};
 ghost use Rattle.meaning.specs.Flags.{byteOf};
 ghost use Rattle.fitter.specs.Attempts.{validOf};
 ghost use Rattle.fitter.specs.Selection.{selectOf};
-ghost use Rattle.exports.specs.FlatAttempts.{reasonOf, rejectionOf, attemptFrom, ofSelected};
+ghost use Rattle.exports.specs.FlatAttempts.{reasonOf, rejectionOf, attemptOfFlat, ofSelected};
 use crate::families::error_of;
 use crate::families::genome_of;
 use crate::fits::FlatFit;
@@ -65,7 +65,7 @@ fn rejection_of(present: u8, n: u8) -> RejectionPart
 }
 
 fn attempt_of(attempt: FlatAttempt) -> FitAttempt
-    ensures { λ r. ⌜ r ≡ attemptFrom attempt ⌝ }
+    ensures { λ r. ⌜ r ≡ attemptOfFlat attempt ⌝ }
 {
     let error = error_of(attempt.error_model);
     let genome = genome_of(attempt.genome_model);
@@ -94,7 +94,7 @@ fn flat_selected(selected: Selected) -> FlatSelected
 
 #[no_mangle]
 pub extern "C" fn fog_is_valid(attempt: FlatAttempt) -> u8
-    ensures { λ r. ⌜ r ≡ byteOf (validOf (attemptFrom attempt)) ⌝ }
+    ensures { λ r. ⌜ r ≡ byteOf (validOf (attemptOfFlat attempt)) ⌝ }
 {
     byte_of(is_valid(attempt_of(attempt)))
 }
@@ -106,7 +106,7 @@ pub extern "C" fn fog_select_fit(
     third: FlatAttempt,
     fourth: FlatAttempt,
 ) -> FlatSelected
-    ensures { λ r. ⌜ r ≡ ofSelected (selectOf (attemptFrom first ∷ attemptFrom second ∷ attemptFrom third ∷ attemptFrom fourth ∷ [])) ⌝ }
+    ensures { λ r. ⌜ r ≡ ofSelected (selectOf (attemptOfFlat first ∷ attemptOfFlat second ∷ attemptOfFlat third ∷ attemptOfFlat fourth ∷ [])) ⌝ }
 {
     let one = attempt_of(first);
     let two = attempt_of(second);

@@ -7,7 +7,7 @@ use lib.ListN.{length, drop}
 use lib.Ieee.{Float}
 use Rattle.models.specs.Families.{listLengthOf}
 use Rattle.fitter.specs.Attempting.{attemptAnswerOf, attemptFrom, standsFrom}
-use Rattle.fitter.specs.Judging.{tableFrom, retriedOf}
+use Rattle.fitter.specs.Retrying.{tableFrom, retriedOf}
 use Rattle.fitter.specs.Settling.{settleOf, withHeld, finishOf, surveyed, settled, again, answeredOf}
 use Rattle.fitter.specs.Surveys.{surveyOf}
 use Rattle.fitter.specs.declared.judging.Held.{Held}

@@ -10,7 +10,7 @@ use lib.Dec.{ltb, eqb}
 use lib.ListN.{length, length-append}
 use lib.Ieee.{Float}
 use Rattle.meaning.specs.Reply.{Test, test, firstOf, refuse, give}
-use Rattle.meaning.specs.Rows.{inOrder, short}
+use Rattle.meaning.specs.Rows.{inOrder, tooShort}
 use Rattle.meaning.proofs.Chains.{stops, goes-on, parts, chain-refused, chain-passed}
 use Rattle.meaning.proofs.Rows.{test-passed}
 use Rattle.models.specs.Families.{listLengthOf}
@@ -106,7 +106,7 @@ module _ (error : ErrorModel) (genome : GenomeModel) (pareto weibull seeds : Lis
   pairs = oddShapes (length shapes)
 
   abbrev rooms : List Test
-  rooms = inOrder (short room (length all) ∷ [])
+  rooms = inOrder (tooShort room (length all) ∷ [])
 
   pub tables-refused : 7 ≡ firstOf tables → startsOf error genome pareto weibull seeds hint share shapes room ≡ refuse 7
   unfolding startsOf

@@ -9,21 +9,21 @@ use lib.Dec.{ltb, eqb}
 use lib.ListN.{length}
 use lib.Ieee.{Float}
 use Rattle.meaning.specs.Reply.{Reply, refuse, give, Test, test, chain, firstOf}
-use Rattle.meaning.specs.Rows.{inOrder, few, many}
+use Rattle.meaning.specs.Rows.{inOrder, belowTwo, aboveMost}
 use Rattle.meaning.proofs.Replies.{same-number, answer-not-refused}
 use Rattle.models.specs.Families.{listLengthOf}
 use Rattle.models.specs.Refusals.{tableDemand, wrongList, spectrumTests, fitTests}
 use Rattle.models.specs.Unpacking.{emptyFit, fitAnswerOf, unpackOf}
-use Rattle.fitter.specs.Attempting.{wrongRuns, badRuns, setupTests, attemptTests, candidateOf, attemptFrom}
+use Rattle.fitter.specs.Attempting.{wrongLists, wrongCosts, setupTests, attemptTests, candidateOf, attemptFrom}
 use Rattle.fitter.specs.Attempts.{attemptOf, unrejected}
 use Rattle.fitter.specs.Candidates.{LongEnough}
-use Rattle.fitter.specs.Judging.{rejectionOf, fitOfRun, judgedOf, validRun, keptOf}
-use Rattle.fitter.specs.Runs.{listAt, wrongRun, badRun, anyOf, iterationsOf, cappedOf}
+use Rattle.fitter.specs.Judging.{rejectionOfJudgement, fitOfRun, judgedFitOf, validRun, keptBest}
+use Rattle.fitter.specs.Runs.{listAt, hasWrongList, hasWrongCost, anyOf, iterationsOf, cappedOf}
 use Rattle.fitter.specs.Surveys.{leastOf}
 use Rattle.fitter.specs.Validation.{outsideLimit, verdictOf}
 use Rattle.fitter.specs.declared.attempts.FitAttempt.{FitAttempt}
 use Rattle.fitter.specs.declared.attempts.RejectionPart.the-variants.{Present}
-use Rattle.fitter.specs.declared.judging.Judged.{Judged}
+use Rattle.fitter.specs.declared.judging.JudgedFit.{JudgedFit}
 use Rattle.fitter.specs.declared.rejections.FitRejection.the-variants as reason
 use Rattle.fitter.specs.declared.runs.Run.{Run}
 use Rattle.fitter.specs.declared.settling.Setup.{Setup}
@@ -75,11 +75,11 @@ module _ (bins : List ℕ) (setup : Setup) (lists : List Float) (at : ℕ → Ru
   abbrev others : List Test
   others =
       inOrder
-      (few (setup .peak ∷ setup .valley ∷ length bins ∷ [])
-      ∷ many (length bins ∷ setup .peak ∷ setup .valley ∷ setup .«window_end» ∷ n ∷ [])
+      (belowTwo (setup .peak ∷ setup .valley ∷ length bins ∷ [])
+      ∷ aboveMost (length bins ∷ setup .peak ∷ setup .valley ∷ setup .«window_end» ∷ n ∷ [])
       ∷ spectrumTests bins (setup .scale) (setup .«window_end»)
-      ∷ wrongRuns (anyOf (λ (i : ℕ). wrongRun (length lists) wanted (at i)) n)
-      ∷ badRuns (anyOf (λ (i : ℕ). badRun (at i)) n)
+      ∷ wrongLists (anyOf (λ (i : ℕ). hasWrongList (length lists) wanted (at i)) n)
+      ∷ wrongCosts (anyOf (λ (i : ℕ). hasWrongCost (at i)) n)
       ∷ outsideLimit (setup .«mass_limit»)
       ∷ [])
 
@@ -87,22 +87,22 @@ module _ (bins : List ℕ) (setup : Setup) (lists : List Float) (at : ℕ → Ru
   abbrev unpack-others : ℕ → List Test
   unpack-others listed =
       inOrder
-      (few (setup .peak ∷ length bins ∷ [])
-      ∷ many (length bins ∷ setup .peak ∷ setup .«window_end» ∷ [])
+      (belowTwo (setup .peak ∷ length bins ∷ [])
+      ∷ aboveMost (length bins ∷ setup .peak ∷ setup .«window_end» ∷ [])
       ∷ spectrumTests bins (setup .scale) (setup .«window_end»)
       ∷ wrongList listed (setup .error) (setup .genome)
       ∷ [])
 
   abbrev candidate : ℕ → FitAttempt
-  candidate room = candidateOf bins setup lists room at n (keptOf bins setup lists room at n)
+  candidate room = candidateOf bins setup lists room at n (keptBest bins setup lists room at n)
 
   -- ---- the candidate, by what each run is judged as
-  abbrev kept-by : (Run → Judged) → Best
+  abbrev kept-by : (Run → JudgedFit) → Best
   kept-by judge =
       let best = leastOf at (λ (run : Run). run .converged && unrejected (judge run .rejection)) n in
       cond (best .run .converged) best (leastOf at (λ (run : Run). run .converged) n)
 
-  abbrev candidate-by : (Run → Judged) → FitAttempt
+  abbrev candidate-by : (Run → JudgedFit) → FitAttempt
   candidate-by judge =
       let best = kept-by judge in
       cond (best .run .converged)
@@ -129,15 +129,15 @@ module _ (bins : List ℕ) (setup : Setup) (lists : List Float) (at : ℕ → Ru
         (chain (unpack-others (length list) ++ ten b) (give (whole bins setup list (run .cost) (run .iterations))))
         .fit) same-short
 
-    same-judged : judgedOf bins setup lists room ≡ judgedOf bins setup lists other
-    unfolding judgedOf
+    same-judged : judgedFitOf bins setup lists room ≡ judgedFitOf bins setup lists other
+    unfolding judgedFitOf
     same-judged j run = record {
       fit = same-fit run j;
-      rejection = rejectionOf (verdictOf (same-fit run j) (setup .valley) (setup .peak) (setup .«mass_limit»));
+      rejection = rejectionOfJudgement (verdictOf (same-fit run j) (setup .valley) (setup .peak) (setup .«mass_limit»));
     }
 
     same-candidate : candidate room ≡ candidate other
-    unfolding keptOf validRun
+    unfolding keptBest validRun
     same-candidate = ap candidate-by same-judged
 
   -- ---- THE THEOREM

@@ -11,18 +11,19 @@ use lib.ListN.{length}
 use lib.Ieee.{Float}
 use Rattle.meaning.specs.Fold.{fold}
 use Rattle.meaning.specs.Reply.{give, Test, firstOf}
-use Rattle.meaning.specs.Rows.{most, inOrder, few, many}
+use Rattle.meaning.specs.Rows.{most, inOrder, belowTwo, aboveMost}
 use Rattle.meaning.proofs.Chains.{numbered, goes-on, chain-refused, chain-passed}
 use Rattle.meaning.proofs.Folds.{fold-more, fold-split, fold-keeps}
 use Rattle.models.specs.Refusals.{spectrumTests, shortTable}
 use Rattle.fitter.specs.Attempts.{unrejected}
 use Rattle.fitter.specs.Validation.{outsideLimit}
-use Rattle.fitter.specs.Attempting.{wrongRuns, badRuns, setupTests, surveyTests, wanted, attemptTests}
-use Rattle.fitter.specs.Attempting.{candidateOf, attemptFrom, attemptAnswerOf, refusedOf}
-use Rattle.fitter.specs.Judging.{judgedOf, heldOf, keptOf, retriedOf}
-use Rattle.fitter.specs.Runs.{badCost, badRun, anyOf, top32, iterationsOf, cappedOf}
+use Rattle.fitter.specs.Attempting.{wrongLists, wrongCosts, setupTests, surveyTests, wanted, attemptTests}
+use Rattle.fitter.specs.Attempting.{candidateOf, attemptFrom, attemptAnswerOf, refusedAnswer}
+use Rattle.fitter.specs.Judging.{judgedFitOf, keptBest}
+use Rattle.fitter.specs.Retrying.{heldOf, retriedOf}
+use Rattle.fitter.specs.Runs.{badCost, hasWrongCost, anyOf, top32, iterationsOf, cappedOf}
 use Rattle.fitter.specs.Settling.{noHeld, closedBy, heldBy, settleOf, withHeld}
-use Rattle.fitter.specs.Settling.{failedOf, keptAnswer, finishOf}
+use Rattle.fitter.specs.Settling.{failedAnswer, keptAnswer, finishOf}
 use Rattle.fitter.specs.Settling.{surveyed, settled, again, answeredOf}
 use Rattle.fitter.specs.Surveys.{leastOf}
 use Rattle.fitter.specs.declared.judging.Held.{Held}
@@ -52,7 +53,7 @@ module _ (bins : List ℕ) (setup : Setup) (n : ℕ) (wrong bad : Bool) (room : 
   from-limit = outsideLimit (setup .«mass_limit») ∷ shortTable (setup .genome) (setup .«window_end») room ∷ []
 
   abbrev from-wrong : List (List Test)
-  from-wrong = wrongRuns wrong ∷ badRuns bad ∷ from-limit
+  from-wrong = wrongLists wrong ∷ wrongCosts bad ∷ from-limit
 
   abbrev spectrum : List Test
   spectrum = spectrumTests bins (setup .scale) (setup .«window_end»)
@@ -74,12 +75,12 @@ module _ (bins : List ℕ) (setup : Setup) (n : ℕ) (wrong bad : Bool) (room : 
       (l .1 .0, l .1 .1 .1 .0, l .1 .1 .1 .1 .0)
 
   -- 7 of any run comes before 9 of any other, and before the limit's
-  pub seven-first : 0 ≡ firstOf (few lows) → 0 ≡ firstOf (many highs) → 0 ≡ firstOf spectrum → wrong ≡ true
+  pub seven-first : 0 ≡ firstOf (belowTwo lows) → 0 ≡ firstOf (aboveMost highs) → 0 ≡ firstOf spectrum → wrong ≡ true
       → 7 ≡ firstOf tests
   unfolding setupTests
   seven-first l h s w =
-      goes-on (few lows) (inOrder (many highs ∷ spectrum ∷ from-wrong)) refl l 7
-      (goes-on (many highs) (inOrder (spectrum ∷ from-wrong)) refl h 7
+      goes-on (belowTwo lows) (inOrder (aboveMost highs ∷ spectrum ∷ from-wrong)) refl l 7
+      (goes-on (aboveMost highs) (inOrder (spectrum ∷ from-wrong)) refl h 7
       (goes-on spectrum (inOrder from-wrong) spectrum-numbered s 7 (rw w)))
 
 -- ---- where no run has a property, none has it
@@ -106,8 +107,8 @@ any-none p n h i l = go (p i) refl
     go true e = absurd (true≢false (sym (found e) ∙ h))
     go false e = refl
 
-good-cost : (run : Run) → badRun run ≡ false → run .converged ≡ true → badCost (run .cost) ≡ false
-unfolding badRun
+good-cost : (run : Run) → hasWrongCost run ≡ false → run .converged ≡ true → badCost (run .cost) ≡ false
+unfolding hasWrongCost
 good-cost run h e = sym (ap (λ (b : Bool). b && badCost (run .cost)) e) ∙ h
 
 module _ (bins : List ℕ) (setup : Setup) (lists : List Float) (room : ℕ) (at : ℕ → Run) (n : ℕ) where
@@ -118,7 +119,7 @@ module _ (bins : List ℕ) (setup : Setup) (lists : List Float) (room : ℕ) (at
   all = attemptTests bins setup lists room at n
 
   abbrev kept : Best
-  kept = keptOf bins setup lists room at n
+  kept = keptBest bins setup lists room at n
 
   abbrev least : Best
   least = leastOf at (λ (run : Run). run .converged) n
@@ -156,7 +157,7 @@ module _ (bins : List ℕ) (setup : Setup) (lists : List Float) (room : ℕ) (at
   unfolding settleOf
   first-refused k e = rw (number-is ∙ e, some-number k)
 
-  refused-answer : (k : ℕ) → finishOf survey (closedBy (suc k) setup) ≡ refusedOf (suc k)
+  refused-answer : (k : ℕ) → finishOf survey (closedBy (suc k) setup) ≡ refusedAnswer (suc k)
   unfolding finishOf
   refused-answer k = rw (some-number k)
 
@@ -179,7 +180,7 @@ module _ (bins : List ℕ) (setup : Setup) (lists : List Float) (room : ℕ) (at
 
     pub good : (i : ℕ) → i < n → at i .converged ≡ true → badCost (at i .cost) ≡ false
     good i l e =
-        good-cost (at i) (any-none (λ (k : ℕ). badRun (at k)) n (clear bins setup n _ _ room z .good) i l) e
+        good-cost (at i) (any-none (λ (k : ℕ). hasWrongCost (at k)) n (clear bins setup n _ _ room z .good) i l) e
 
     runs-few : n ≤ most
     runs-few = in-limits bins setup n _ _ room z .2
@@ -198,7 +199,7 @@ module _ (bins : List ℕ) (setup : Setup) (lists : List Float) (room : ℕ) (at
     zero-number = number-is ∙ sym z
 
     failed-same : least .run .converged ≡ false
-        → failedOf setup survey ≡ record { number = 0; attempt = candidateOf bins setup lists room at n kept }
+        → failedAnswer setup survey ≡ record { number = 0; attempt = candidateOf bins setup lists room at n kept }
     failed-same e = rw (kept-none bins setup lists room at n good e, e, iterations-are, capped-are)
 
     kept-same : least .run .converged ≡ true
@@ -223,12 +224,12 @@ module _ (bins : List ℕ) (setup : Setup) (lists : List Float) (room : ℕ) (at
     abbrev retried : Held
     retried = retriedOf bins setup lists room at n (heldOf bins setup lists room least)
 
-    again-is : (b : Bool) → unrejected (judgedOf bins setup lists room (least .run) .rejection) ≡ b
+    again-is : (b : Bool) → unrejected (judgedFitOf bins setup lists room (least .run) .rejection) ≡ b
         → again bins setup lists room at n lowest ≡ cond (not b) (withHeld lowest retried) lowest
     again-is b f = ap (λ (c : Bool). cond (not c) (withHeld lowest retried) lowest) f
 
     by-judgement : (b : Bool) → least .run .converged ≡ true
-        → unrejected (judgedOf bins setup lists room (least .run) .rejection) ≡ b
+        → unrejected (judgedFitOf bins setup lists room (least .run) .rejection) ≡ b
         → finishOf survey (again bins setup lists room at n lowest)
         ≡ keptAnswer setup survey (heldOf bins setup lists room kept)
     by-judgement true e f =
@@ -246,7 +247,7 @@ module _ (bins : List ℕ) (setup : Setup) (lists : List Float) (room : ℕ) (at
     some-same : least .run .converged ≡ true → answeredOf bins setup lists room at n ≡ answer
     some-same e =
         finished (heldBy setup (heldOf bins setup lists room least)) (first-some e)
-        ∙ by-judgement (unrejected (judgedOf bins setup lists room (least .run) .rejection)) e refl
+        ∙ by-judgement (unrejected (judgedFitOf bins setup lists room (least .run) .rejection)) e refl
         ∙ kept-same e ∙ sym passed
 
     passed-same : (b : Bool) → least .run .converged ≡ b → answeredOf bins setup lists room at n ≡ answer

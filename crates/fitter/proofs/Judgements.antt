@@ -3,20 +3,23 @@ use Prim.Native.Nat.{ℕ}
 use mathlib.Core.Path.{_≡_, refl, sym, ap, _∙_}
 use mathlib.Core.Bool.{Bool, true, false, not, cond, _&&_, true≢false, false≢true}
 use mathlib.Core.List.{List}
-use lib.Ieee.{Float}
+use lib.Ieee.{Float, le, ofBits}
+use lib.Ieee.Scale.{finite}
 use Rattle.meaning.specs.Reply.{give}
 use Rattle.meaning.proofs.Replies.{same-answer, answer-not-refused}
-use Rattle.models.specs.Unpacking.{fitAnswerOf, unpackOf}
+use Rattle.models.specs.Unpacking.{emptyFit, fitAnswerOf, unpackOf}
 use Rattle.models.specs.declared.fit.SpectrumFit.{SpectrumFit}
 use Rattle.models.specs.declared.unpacking.FitAnswer.{FitAnswer}
 use Rattle.fitter.specs.Attempts.{unrejected}
-use Rattle.fitter.specs.Validation.{Judgement, verdictOf, verdictSays}
+use Rattle.fitter.specs.Validation.{Judgement, rejected, verdictOf, verdictSays}
+use Rattle.fitter.specs.Validation.{nonFiniteLikelihood, invalidComponents, badWeight, badMean}
 use Rattle.fitter.specs.declared.attempts.RejectionPart.{RejectionPart}
 use Rattle.fitter.specs.declared.attempts.RejectionPart.the-variants.{Present}
 use Rattle.fitter.specs.declared.validation.Verdict.{Verdict}
 use Rattle.fitter.specs.declared.validation.Verdict.the-variants.{Valid, Rejected, Refused}
 use Rattle.fitter.proofs.Verdicts.{there-and-back}
-use Rattle.fitter.specs.Judging.{rejectionOf, rejectionSaid, fitOfRun, judgedOf, heldOf, couldWin, retryStep}
+use Rattle.fitter.specs.Judging.{rejectionOfJudgement, fitOfRun, judgedFitOf}
+use Rattle.fitter.specs.Retrying.{rejectionOfVerdict, heldOf, couldWin, retryStep}
 use Rattle.fitter.specs.Runs.{listAt, pointOf}
 use Rattle.fitter.specs.Surveys.{bestOf}
 use Rattle.fitter.specs.declared.settling.Setup.{Setup}
@@ -25,9 +28,9 @@ use Rattle.fitter.specs.declared.runs.Run.{Run}
 use Rattle.fitter.specs.declared.runs.RunPoint.{RunPoint}
 use Rattle.fitter.specs.declared.runs.RunPoint.the-variants.{Converged, Missing}
 
-said-is : (v : Verdict) (j : Judgement) → verdictSays v ≡ give j → rejectionSaid v ≡ rejectionOf j
-said-is Valid j e = ap rejectionOf (same-answer e)
-said-is (Rejected why) j e = ap Present (sym (there-and-back why)) ∙ ap rejectionOf (same-answer e)
+said-is : (v : Verdict) (j : Judgement) → verdictSays v ≡ give j → rejectionOfVerdict v ≡ rejectionOfJudgement j
+said-is Valid j e = ap rejectionOfJudgement (same-answer e)
+said-is (Rejected why) j e = ap Present (sym (there-and-back why)) ∙ ap rejectionOfJudgement (same-answer e)
 said-is (Refused n) j e = absurd (answer-not-refused (sym e))
 
 module _ (bins : List ℕ) (setup : Setup) (lists : List Float) (room : ℕ) (run : Run) where
@@ -40,17 +43,18 @@ module _ (bins : List ℕ) (setup : Setup) (lists : List Float) (room : ℕ) (ru
   pub judged-is : (list : List Float) (answer : FitAnswer) (v : Verdict) (r : RejectionPart)
       → list ≡ listAt lists (run .place) (run .length) → answer ≡ unpacked list
       → verdictSays v ≡ give (verdictOf (answer .fit) (setup .valley) (setup .peak) (setup .«mass_limit»))
-      → r ≡ rejectionSaid v
-      → record { fit = answer .fit; rejection = r } ≡ judgedOf bins setup lists room run
-  unfolding judgedOf fitOfRun
+      → r ≡ rejectionOfVerdict v
+      → record { fit = answer .fit; rejection = r } ≡ judgedFitOf bins setup lists room run
+  unfolding judgedFitOf fitOfRun
   judged-is list answer v r el ef ev er =
       let f : answer .fit ≡ fitOfRun bins setup lists room run =
       ap (λ (x : FitAnswer). x .fit) (ef ∙ ap unpacked el) in
       let s : r
-      ≡ rejectionOf
+      ≡ rejectionOfJudgement
       (verdictOf (fitOfRun bins setup lists room run) (setup .valley) (setup .peak) (setup .«mass_limit»)) =
       er ∙ said-is v _ ev
-      ∙ ap (λ (x : SpectrumFit). rejectionOf (verdictOf x (setup .valley) (setup .peak) (setup .«mass_limit»))) f in
+      ∙ ap (λ (x : SpectrumFit). rejectionOfJudgement
+      (verdictOf x (setup .valley) (setup .peak) (setup .«mass_limit»))) f in
       λ i. record { fit = f i; rejection = s i }
 
 -- ---- a run looked at again, by its answer
@@ -59,7 +63,7 @@ module _ (bins : List ℕ) (setup : Setup) (lists : List Float) (room i : ℕ) (
   new = heldOf bins setup lists room (bestOf i run)
 
   abbrev fine : Bool
-  fine = unrejected (judgedOf bins setup lists room run .rejection)
+  fine = unrejected (judgedFitOf bins setup lists room run .rejection)
 
   abbrev next : Held
   next = retryStep bins setup lists room i run held
@@ -91,3 +95,8 @@ from-not {b = false} e = refl
 pub from-not-not : {b : Bool} → not b ≡ false → b ≡ true
 from-not-not {b = true} e = refl
 from-not-not {b = false} e = absurd (true≢false e)
+
+-- the empty fit, which would stand for one that `unpack` refused, is turned away: its mean is 0
+pub empty-rejected : (valley peak : ℕ) (limit : Float) → verdictOf emptyFit valley peak limit ≡ rejected 2
+unfolding verdictOf nonFiniteLikelihood invalidComponents badWeight badMean emptyFit finite le ofBits
+empty-rejected valley peak limit = refl

@@ -9,7 +9,8 @@ use Rattle.meaning.proofs.Folds.{fold-keeps}
 use Rattle.fitter.specs.Attempts.{unrejected}
 use Rattle.fitter.specs.Runs.{badCost}
 use Rattle.fitter.specs.Surveys.{bestOf, beats, lesser, leastStep, leastOf}
-use Rattle.fitter.specs.Judging.{couldWin, judgedOf, validRun, heldOf, keptOf, retryStep, retriedOf}
+use Rattle.fitter.specs.Judging.{judgedFitOf, validRun, keptBest}
+use Rattle.fitter.specs.Retrying.{couldWin, heldOf, retryStep, retriedOf}
 use Rattle.fitter.specs.declared.settling.Setup.{Setup}
 use Rattle.fitter.specs.declared.judging.Held.{Held}
 use Rattle.fitter.specs.declared.runs.Run.{Run}
@@ -25,7 +26,7 @@ module _ (bins : List ℕ) (setup : Setup) (lists : List Float) (room : ℕ) whe
   valid = validRun bins setup lists room
 
   abbrev fine : Run → Bool
-  fine run = unrejected (judgedOf bins setup lists room run .rejection)
+  fine run = unrejected (judgedFitOf bins setup lists room run .rejection)
 
   abbrev held : Best → Held
   held = heldOf bins setup lists room
@@ -52,8 +53,8 @@ module _ (bins : List ℕ) (setup : Setup) (lists : List Float) (room : ℕ) whe
     both = agree at all valid valid-converged (λ (r : Run) (e : r .converged ≡ true). e) n good
 
     -- ---- where none converged, none is valid
-    pub kept-none : least .run .converged ≡ false → keptOf bins setup lists room at n ≡ least
-    unfolding keptOf
+    pub kept-none : least .run .converged ≡ false → keptBest bins setup lists room at n ≡ least
+    unfolding keptBest
     kept-none e = go (best .run .converged) refl
       where
         go : (b : Bool) → best .run .converged ≡ b → cond b best least ≡ least
@@ -61,8 +62,9 @@ module _ (bins : List ℕ) (setup : Setup) (lists : List Float) (room : ℕ) whe
         go false f = refl
 
     -- ---- where the least is valid it is kept
-    pub kept-least : least .run .converged ≡ true → fine (least .run) ≡ true → keptOf bins setup lists room at n ≡ least
-    unfolding keptOf
+    pub kept-least : least .run .converged ≡ true → fine (least .run) ≡ true → keptBest bins setup lists room at n
+        ≡ least
+    unfolding keptBest
     kept-least e f =
         let s : best ≡ least = both .same e (valid-by (least .run) true true e f) in
         go (best .run .converged) s
@@ -71,8 +73,8 @@ module _ (bins : List ℕ) (setup : Setup) (lists : List Float) (room : ℕ) whe
         go true s = s
         go false s = refl
 
-    pub kept-converged : least .run .converged ≡ true → keptOf bins setup lists room at n .run .converged ≡ true
-    unfolding keptOf
+    pub kept-converged : least .run .converged ≡ true → keptBest bins setup lists room at n .run .converged ≡ true
+    unfolding keptBest
     kept-converged e = go (best .run .converged) refl
       where
         go : (b : Bool) → best .run .converged ≡ b → cond b best least .run .converged ≡ true
@@ -214,8 +216,8 @@ module _ (bins : List ℕ) (setup : Setup) (lists : List Float) (room : ℕ) whe
             (λ (z : false ≡ true). absurd (false≢true z));
       }
 
-      pub kept-retried : retriedOf bins setup lists room at n (held least) ≡ held (keptOf bins setup lists room at n)
-      unfolding retriedOf keptOf
+      pub kept-retried : retriedOf bins setup lists room at n (held least) ≡ held (keptBest bins setup lists room at n)
+      unfolding retriedOf keptBest
       kept-retried =
           let p =
           fold-keeps (λ (k : ℕ) (h : Held). retryStep bins setup lists room k (at k) h) Past 0 n (held least)

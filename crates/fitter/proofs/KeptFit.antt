@@ -15,12 +15,12 @@ use Rattle.models.specs.Unpacking.{emptyFit}
 use Rattle.fitter.specs.Attempting.{attemptTests, candidateOf, attemptFrom, attemptAnswerOf}
 use Rattle.fitter.specs.Attempts.{attemptOf}
 use Rattle.fitter.specs.Candidates.{RunFit, FromRun}
-use Rattle.fitter.specs.Judging.{judgedOf, validRun, keptOf}
+use Rattle.fitter.specs.Judging.{judgedFitOf, validRun, keptBest}
 use Rattle.fitter.specs.Kept.{KeptRun, is-valid, is-rejected, is-missing}
-use Rattle.fitter.specs.Runs.{wrongRun, badRun, anyOf, iterationsOf, cappedOf}
+use Rattle.fitter.specs.Runs.{hasWrongList, hasWrongCost, anyOf, iterationsOf, cappedOf}
 use Rattle.fitter.specs.declared.attempts.FitAttempt.{FitAttempt}
 use Rattle.fitter.specs.declared.attempts.RejectionPart.the-variants.{Present}
-use Rattle.fitter.specs.declared.judging.Judged.{Judged}
+use Rattle.fitter.specs.declared.judging.JudgedFit.{JudgedFit}
 use Rattle.fitter.specs.declared.rejections.FitRejection.the-variants as reason
 use Rattle.fitter.specs.declared.runs.Run.{Run}
 use Rattle.fitter.specs.declared.settling.Setup.{Setup}
@@ -46,10 +46,10 @@ module _ (bins : List ℕ) (setup : Setup) (lists : List Float) (room : ℕ) (at
   tests = attemptTests bins setup lists room at n
 
   abbrev kept : Best
-  kept = keptOf bins setup lists room at n
+  kept = keptBest bins setup lists room at n
 
-  abbrev judged : Run → Judged
-  judged = judgedOf bins setup lists room
+  abbrev judged : Run → JudgedFit
+  judged = judgedFitOf bins setup lists room
 
   attempt-is : candidateOf bins setup lists room at n kept ≡ attempt
   unfolding attemptFrom
@@ -59,12 +59,12 @@ module _ (bins : List ℕ) (setup : Setup) (lists : List Float) (room : ℕ) (at
   unfolding attemptFrom
   none-holds = gave-passed (candidateOf bins setup lists room at n kept) attempt tests gave
 
-  all-clear : Clear bins setup n (anyOf (λ (i : ℕ). wrongRun (length lists) wanted (at i)) n)
-      (anyOf (λ (i : ℕ). badRun (at i)) n) room
+  all-clear : Clear bins setup n (anyOf (λ (i : ℕ). hasWrongList (length lists) wanted (at i)) n)
+      (anyOf (λ (i : ℕ). hasWrongCost (at i)) n) room
   all-clear = clear bins setup n _ _ room none-holds
 
-  right : (i : ℕ) → i < n → wrongRun (length lists) wanted (at i) ≡ false
-  right = any-none (λ (i : ℕ). wrongRun (length lists) wanted (at i)) n (all-clear .right)
+  right : (i : ℕ) → i < n → hasWrongList (length lists) wanted (at i) ≡ false
+  right = any-none (λ (i : ℕ). hasWrongList (length lists) wanted (at i)) n (all-clear .right)
 
   -- which run is kept
   pub which-kept : KeptRun at (validRun bins setup lists room) n kept
@@ -106,7 +106,8 @@ module _ (bins : List ℕ) (setup : Setup) (lists : List Float) (room : ℕ) (at
             subst (λ (a : FitAttempt). RunFit bins setup lists (kept .run) (a .candidate) (a .rejection))
             (by-converged true c)
             (run-fit bins setup n _ _ room all-clear lists (kept .run) c
-            (subst (λ (r : Run). wrongRun (length lists) wanted r ≡ false) (sym there) (right (kept .position) below)));
+            (subst (λ (r : Run). hasWrongList (length lists) wanted r ≡ false) (sym there)
+            (right (kept .position) below)));
       }
     where
       place : kept .run .converged ≡ true → KeptRun at (validRun bins setup lists room) n kept
@@ -134,12 +135,12 @@ module _ (bins : List ℕ) (setup : Setup) (lists : List Float) (room : ℕ) (at
   answer = attemptAnswerOf (attemptFrom bins setup lists room at n) .attempt
 
   pub answer-fit : answer .«has_candidate» ≡ true
-      → FromRun bins setup lists at n (keptOf bins setup lists room at n) answer
+      → FromRun bins setup lists at n (keptBest bins setup lists room at n) answer
   answer-fit = go (attemptFrom bins setup lists room at n) refl
     where
       go : (r : Reply FitAttempt) → attemptFrom bins setup lists room at n ≡ r
           → attemptAnswerOf r .attempt .«has_candidate» ≡ true
-          → FromRun bins setup lists at n (keptOf bins setup lists room at n) (attemptAnswerOf r .attempt)
+          → FromRun bins setup lists at n (keptBest bins setup lists room at n) (attemptAnswerOf r .attempt)
       go (refuse k) e h = absurd (false≢true h)
       go (broken k) e h = absurd (false≢true h)
       go (give a) e h = kept-fit bins setup lists room at n a e h

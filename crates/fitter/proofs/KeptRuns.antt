@@ -8,7 +8,7 @@ use native.Mathlib.Nat.{not-suc-le-zero, eq-or-lt-of-le, le-of-suc-le-suc}
 use native.Mathlib.Omega.{arith}
 use lib.Ieee.{Float, lt}
 use Rattle.meaning.proofs.Folds.{fold-keeps}
-use Rattle.fitter.specs.Judging.{validRun, keptOf}
+use Rattle.fitter.specs.Judging.{validRun, keptBest}
 use Rattle.fitter.specs.Kept.{Lowest, Found, none, one, KeptRun, is-valid, is-rejected, is-missing}
 use Rattle.fitter.specs.Runs.{badCost}
 use Rattle.fitter.specs.Surveys.{noBest, bestOf, beats, lesser, leastStep, leastOf}
@@ -135,8 +135,8 @@ module _ (bins : List ℕ) (setup : Setup) (lists : List Float) (room : ℕ) (at
   abbrev all : Run → Bool
   all run = run .converged
 
-  pub kept-run : KeptRun at valid n (keptOf bins setup lists room at n)
-  unfolding keptOf
+  pub kept-run : KeptRun at valid n (keptBest bins setup lists room at n)
+  unfolding keptBest
   kept-run =
       go (leastOf at valid n) (leastOf at all n)
       (found at valid (valid-converged bins setup lists room) n

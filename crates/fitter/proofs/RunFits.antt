@@ -10,9 +10,9 @@ use lib.Dec.{ltb, eqb}
 use lib.ListN.{length, length-take, length-drop}
 use lib.Ieee.{Float}
 use Rattle.meaning.specs.Reply.{Reply, give, firstOf}
-use Rattle.meaning.specs.Rows.{most, inOrder, few, many, noWindow}
+use Rattle.meaning.specs.Rows.{most, inOrder, belowTwo, aboveMost, noWindow}
 use Rattle.meaning.proofs.Chains.{goes-on, chain-passed}
-use Rattle.meaning.proofs.Rows.{many-clear}
+use Rattle.meaning.proofs.Rows.{above-most-clear}
 use Rattle.routines.specs.Ops.{ofCount}
 use Rattle.models.specs.Families.{listLengthOf}
 use Rattle.models.specs.Masses.{entriesOf}
@@ -24,8 +24,8 @@ use Rattle.models.specs.declared.fit.SpectrumFit.{SpectrumFit}
 use Rattle.models.specs.declared.params.Params.{Params}
 use Rattle.models.proofs.Passed.{spectrum-passed}
 use Rattle.fitter.specs.Candidates.{LongEnough, listOf, unpackRun, RunFit}
-use Rattle.fitter.specs.Judging.{fitOfRun, judgedOf}
-use Rattle.fitter.specs.Runs.{wrongPlace, wrongRun, listAt}
+use Rattle.fitter.specs.Judging.{fitOfRun, judgedFitOf}
+use Rattle.fitter.specs.Runs.{wrongPlace, hasWrongList, listAt}
 use Rattle.fitter.specs.Validation.{outsideLimit, validateTests, validateOf, verdictOf}
 use Rattle.fitter.specs.declared.runs.Run.{Run}
 use Rattle.fitter.specs.declared.settling.Setup.{Setup}
@@ -37,9 +37,9 @@ or-none true b e = absurd (true≢false e)
 or-none false b e = (refl, e)
 
 module _ (lists : List Float) (wanted : ℕ) (run : Run) (converged : run .converged ≡ true)
-    (right : wrongRun (length lists) wanted run ≡ false) where
+    (right : hasWrongList (length lists) wanted run ≡ false) where
   tested : (eqb (run .length) wanted ≡ true) × (ltb (length lists) (run .place + run .length) ≡ false)
-  unfolding wrongRun wrongPlace
+  unfolding hasWrongList wrongPlace
   tested =
       let both =
       or-none (not (eqb (run .length) wanted)) (ltb (length lists) (run .place + run .length))
@@ -88,11 +88,11 @@ module _ (bins : List ℕ) (setup : Setup) where
         let list = wrongList listed (setup .error) (setup .genome) ∷ table in
         let spectrum = spectrumTests bins (setup .scale) end in
         let highs = length bins ∷ setup .peak ∷ end ∷ [] in
-        let above = many highs ∷ spectrum ∷ list in
-        goes-on (few (setup .peak ∷ [])) (inOrder (few (length bins ∷ []) ∷ above)) refl (all .peak-some) 0
-        (goes-on (few (length bins ∷ [])) (inOrder above) refl (all .bins-some) 0
-        (goes-on (many highs) (inOrder (spectrum ∷ list)) refl
-        (many-clear highs (all .limits .0, (all .limits .1 .0, (end-few, tt)))) 0
+        let above = aboveMost highs ∷ spectrum ∷ list in
+        goes-on (belowTwo (setup .peak ∷ [])) (inOrder (belowTwo (length bins ∷ []) ∷ above)) refl (all .peak-some) 0
+        (goes-on (belowTwo (length bins ∷ [])) (inOrder above) refl (all .bins-some) 0
+        (goes-on (aboveMost highs) (inOrder (spectrum ∷ list)) refl
+        (above-most-clear highs (all .limits .0, (all .limits .1 .0, (end-few, tt)))) 0
         (goes-on spectrum (inOrder list) (unfold spectrumTests in refl) (all .spectrum) 0
         (goes-on (wrongList listed (setup .error) (setup .genome)) (inOrder table) refl
         (rw (eq-eqb listed (listLengthOf (setup .error) (setup .genome)) e)) 0
@@ -103,12 +103,13 @@ module _ (bins : List ℕ) (setup : Setup) where
     validate-passes =
         let limit = outsideLimit (setup .«mass_limit») ∷ [] in
         let highs = setup .valley ∷ setup .peak ∷ end ∷ [] in
-        let above = many highs ∷ noWindow end ∷ limit in
+        let above = aboveMost highs ∷ noWindow end ∷ limit in
         let some : 1 ≤ end = end-some in
-        goes-on (few (setup .valley ∷ [])) (inOrder (few (setup .peak ∷ []) ∷ above)) refl (all .valley-some) 0
-        (goes-on (few (setup .peak ∷ [])) (inOrder above) refl (all .peak-some) 0
-        (goes-on (many highs) (inOrder (noWindow end ∷ limit)) refl
-        (many-clear highs (all .limits .1 .1 .0, (all .limits .1 .0, (end-few, tt)))) 0
+        goes-on (belowTwo (setup .valley ∷ [])) (inOrder (belowTwo (setup .peak ∷ []) ∷ above)) refl
+        (all .valley-some) 0
+        (goes-on (belowTwo (setup .peak ∷ [])) (inOrder above) refl (all .peak-some) 0
+        (goes-on (aboveMost highs) (inOrder (noWindow end ∷ limit)) refl
+        (above-most-clear highs (all .limits .1 .1 .0, (all .limits .1 .0, (end-few, tt)))) 0
         (goes-on (noWindow end) (inOrder limit) refl (rw (ne-eqb end 0 (λ (e : end ≡ 0). omega arith))) 0
         (all .limited))))
 
@@ -124,7 +125,7 @@ module _ (bins : List ℕ) (setup : Setup) where
         (unfold fitTests spectrumTests in refl) (unpack-passes (length list) other e h)
 
     module _ (lists : List Float) (run : Run) (converged : run .converged ≡ true)
-        (right : wrongRun (length lists) (listLengthOf (setup .error) (setup .genome)) run ≡ false) where
+        (right : hasWrongList (length lists) (listLengthOf (setup .error) (setup .genome)) run ≡ false) where
       abbrev wanted : ℕ
       wanted = listLengthOf (setup .error) (setup .genome)
 
@@ -167,9 +168,9 @@ module _ (bins : List ℕ) (setup : Setup) where
           (λ (top : ℕ). 0 ≡ firstOf (validateTests top (setup .valley) (setup .peak) (setup .«mass_limit»)))
           (sym fit-end) validate-passes)
 
-      pub run-fit : let judged = judgedOf bins setup lists room run in
+      pub run-fit : let judged = judgedFitOf bins setup lists room run in
           RunFit bins setup lists run (judged .fit) (judged .rejection)
-      unfolding judgedOf
+      unfolding judgedFitOf
       run-fit = record {
         inside = in-lists lists wanted run converged right;
         unpacked = unpack-is;

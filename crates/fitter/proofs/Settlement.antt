@@ -8,9 +8,9 @@ use lib.Dec.{eqb}
 use lib.ListN.{drop}
 use lib.Ieee.{Float}
 use Rattle.meaning.specs.Reply.{firstOf}
-use Rattle.fitter.specs.Attempting.{surveyTests, refusedOf}
-use Rattle.fitter.specs.Judging.{heldOf}
-use Rattle.fitter.specs.Settling.{closedBy, heldBy, settleOf, failedOf, keptAnswer, finishOf}
+use Rattle.fitter.specs.Attempting.{surveyTests, refusedAnswer}
+use Rattle.fitter.specs.Retrying.{heldOf}
+use Rattle.fitter.specs.Settling.{closedBy, heldBy, settleOf, failedAnswer, keptAnswer, finishOf}
 use Rattle.fitter.specs.declared.judging.Held.{Held}
 use Rattle.fitter.specs.declared.settling.Settled.{Settled}
 use Rattle.fitter.specs.declared.settling.Setup.{Setup}
@@ -35,7 +35,7 @@ module _ (bins : List ℕ) (setup : Setup) (runs : ℕ) (survey : Survey) (lists
   settled-some h c = rw (← e, eq-eqb number 0 h, c)
 
 module _ (survey : Survey) (s : Settled) where
-  pub finished-refused : (s .number ≡ 0 → ⊥) → refusedOf (s .number) ≡ finishOf survey s
+  pub finished-refused : (s .number ≡ 0 → ⊥) → refusedAnswer (s .number) ≡ finishOf survey s
   unfolding finishOf
   finished-refused h = rw (ne-eqb (s .number) 0 h)
 
@@ -45,7 +45,7 @@ module _ (survey : Survey) (s : Settled) where
   finished-kept h c = rw (eq-eqb (s .number) 0 h, c)
 
   pub finished-failed : s .number ≡ 0 → s .held .best .run .converged ≡ false
-      → failedOf (s .setup) survey ≡ finishOf survey s
+      → failedAnswer (s .setup) survey ≡ finishOf survey s
   unfolding finishOf
   finished-failed h c = rw (eq-eqb (s .number) 0 h, c)
 
@@ -55,8 +55,8 @@ unfolding finishOf
 finished-number survey s = go (eqb (s .number) 0) refl (s .held .best .run .converged)
   where
     go : (b : Bool) → eqb (s .number) 0 ≡ b → (c : Bool)
-        → cond b (cond c (keptAnswer (s .setup) survey (s .held)) (failedOf (s .setup) survey))
-        (refusedOf (s .number)) .number
+        → cond b (cond c (keptAnswer (s .setup) survey (s .held)) (failedAnswer (s .setup) survey))
+        (refusedAnswer (s .number)) .number
         ≡ s .number
     go true e true = sym (eqb-true (s .number) 0 e)
     go true e false = sym (eqb-true (s .number) 0 e)

@@ -7,9 +7,9 @@ use native.Mathlib.Omega.{arith}
 use lib.ListN.{length}
 use lib.Ieee.{Float, le}
 use Rattle.meaning.specs.Reply.{refuse, give, firstOf}
-use Rattle.meaning.specs.Rows.{most, inOrder, few, many}
+use Rattle.meaning.specs.Rows.{most, inOrder, belowTwo, aboveMost}
 use Rattle.meaning.proofs.Chains.{stops, goes-on, chain-refused, chain-passed}
-use Rattle.meaning.proofs.Rows.{Some, Each, few-clear, few-found, many-clear, many-found}
+use Rattle.meaning.proofs.Rows.{Some, Each, below-two-clear, below-two-found, above-most-clear, above-most-found}
 use Rattle.routines.specs.Constants.{zero, two}
 use Rattle.routines.specs.Ops.{_⊗_, _⊘_}
 use Rattle.routines.specs.Starts.{dec}
@@ -25,28 +25,29 @@ module _ (bins : List ℕ) (scale : Float) (valley peak : ℕ) where
   abbrev share : Float
   share = shareOf (recovered (usedScaleOf scale) bins) valley peak
 
-  behind : Each (λ (n : ℕ). 2 ≤ n) limited → (n : ℕ) → n ≡ firstOf (inOrder (many limited ∷ []))
-      → n ≡ firstOf (inOrder (few limited ∷ many limited ∷ []))
-  behind h = goes-on (few limited) (inOrder (many limited ∷ [])) refl (few-clear limited h)
+  behind : Each (λ (n : ℕ). 2 ≤ n) limited → (n : ℕ) → n ≡ firstOf (inOrder (aboveMost limited ∷ []))
+      → n ≡ firstOf (inOrder (belowTwo limited ∷ aboveMost limited ∷ []))
+  behind h = goes-on (belowTwo limited) (inOrder (aboveMost limited ∷ [])) refl (below-two-clear limited h)
 
   pub share-low : Some (λ (n : ℕ). n < 2) limited → shelfShareOf bins scale valley peak ≡ refuse 1
   unfolding shelfShareOf
   share-low h =
-      chain-refused (give share) (inOrder (few limited ∷ many limited ∷ [])) 1
-      (stops (few limited) (inOrder (many limited ∷ [])) 1 (few-found limited h) (omega arith)) (omega arith)
+      chain-refused (give share) (inOrder (belowTwo limited ∷ aboveMost limited ∷ [])) 1
+      (stops (belowTwo limited) (inOrder (aboveMost limited ∷ [])) 1 (below-two-found limited h) (omega arith))
+      (omega arith)
 
   module _ (low : Each (λ (n : ℕ). 2 ≤ n) limited) where
     pub share-high : Some (λ (n : ℕ). most < n) limited → shelfShareOf bins scale valley peak ≡ refuse 2
     unfolding shelfShareOf
     share-high h =
-        chain-refused (give share) (inOrder (few limited ∷ many limited ∷ [])) 2
-        (behind low 2 (stops (many limited) [] 2 (many-found limited h) (omega arith))) (omega arith)
+        chain-refused (give share) (inOrder (belowTwo limited ∷ aboveMost limited ∷ [])) 2
+        (behind low 2 (stops (aboveMost limited) [] 2 (above-most-found limited h) (omega arith))) (omega arith)
 
     pub share-given : Each (λ (n : ℕ). n ≤ most) limited → shelfShareOf bins scale valley peak ≡ give share
     unfolding shelfShareOf
     share-given h =
-        chain-passed (give share) (inOrder (few limited ∷ many limited ∷ [])) refl
-        (behind low 0 (goes-on (many limited) [] refl (many-clear limited h) 0 refl))
+        chain-passed (give share) (inOrder (belowTwo limited ∷ aboveMost limited ∷ [])) refl
+        (behind low 0 (goes-on (aboveMost limited) [] refl (above-most-clear limited h) 0 refl))
 
 -- ---- the lobe
 module _ (sample : List ℕ) (valley peak : ℕ) (lobe : Float) (whole : lobe ≡ massOf sample valley (2 * peak)) where

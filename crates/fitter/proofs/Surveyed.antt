@@ -7,7 +7,7 @@ use native.Mathlib.Omega.{arith}
 use native.Mathlib.Numerals.{add-one}
 use Rattle.meaning.specs.Fold.{fold}
 use Rattle.meaning.proofs.Folds.{fold-none, fold-more, fold-keeps}
-use Rattle.fitter.specs.Runs.{pointOf, wrongRun, badRun, sumOf, anyOf, atMost, top64, top32}
+use Rattle.fitter.specs.Runs.{pointOf, hasWrongList, hasWrongCost, sumOf, anyOf, atMost, top64, top32}
 use Rattle.fitter.specs.Runs.{one-if, iterationsOf, cappedOf}
 use Rattle.fitter.specs.Surveys.{noSurvey, lesser, leastStep, leastOf, countOf, afterPoint, surveyStep, surveyOf}
 use Rattle.fitter.specs.declared.runs.Run.{Run}
@@ -39,13 +39,13 @@ module _ (lent wanted i : ℕ) (run : Run) (s : Survey) where
   abbrev next : Survey
   next = surveyStep lent wanted i run s
 
-  step-wrong : (c : Bool) → run .converged ≡ c → next .wrong ≡ (s .wrong || wrongRun lent wanted run)
-  unfolding surveyStep wrongRun
+  step-wrong : (c : Bool) → run .converged ≡ c → next .wrong ≡ (s .wrong || hasWrongList lent wanted run)
+  unfolding surveyStep hasWrongList
   step-wrong true e = rw e
   step-wrong false e = rw e (or-false (s .wrong))
 
-  step-bad : (c : Bool) → run .converged ≡ c → next .bad ≡ (s .bad || badRun run)
-  unfolding surveyStep badRun
+  step-bad : (c : Bool) → run .converged ≡ c → next .bad ≡ (s .bad || hasWrongCost run)
+  unfolding surveyStep hasWrongCost
   step-bad true e = rw e
   step-bad false e = rw e (or-false (s .bad))
 
@@ -70,16 +70,17 @@ module _ (lent wanted : ℕ) (at : ℕ → Run) (n : ℕ) where
   abbrev step : ℕ → Survey → Survey
   step i s = surveyStep lent wanted i (at i) s
 
-  pub survey-wrong : surveyOf lent wanted at n .wrong ≡ anyOf (λ (i : ℕ). wrongRun lent wanted (at i)) n
+  pub survey-wrong : surveyOf lent wanted at n .wrong ≡ anyOf (λ (i : ℕ). hasWrongList lent wanted (at i)) n
   unfolding surveyOf anyOf
   survey-wrong =
-      fold-field (λ (s : Survey). s .wrong) step (λ (i : ℕ) (so : Bool). so || wrongRun lent wanted (at i)) n noSurvey
+      fold-field (λ (s : Survey). s .wrong) step
+      (λ (i : ℕ) (so : Bool). so || hasWrongList lent wanted (at i)) n noSurvey
       (λ (i : ℕ) (s : Survey). step-wrong lent wanted i (at i) s (at i .converged) refl)
 
-  pub survey-bad : surveyOf lent wanted at n .bad ≡ anyOf (λ (i : ℕ). badRun (at i)) n
+  pub survey-bad : surveyOf lent wanted at n .bad ≡ anyOf (λ (i : ℕ). hasWrongCost (at i)) n
   unfolding surveyOf anyOf
   survey-bad =
-      fold-field (λ (s : Survey). s .bad) step (λ (i : ℕ) (so : Bool). so || badRun (at i)) n noSurvey
+      fold-field (λ (s : Survey). s .bad) step (λ (i : ℕ) (so : Bool). so || hasWrongCost (at i)) n noSurvey
       (λ (i : ℕ) (s : Survey). step-bad lent wanted i (at i) s (at i .converged) refl)
 
   pub survey-iterations : surveyOf lent wanted at n .iterations ≡ iterationsOf at n

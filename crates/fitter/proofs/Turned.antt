@@ -13,7 +13,7 @@ use Rattle.meaning.specs.Reply.{firstOf}
 use Rattle.meaning.proofs.Folds.{fold-none, fold-more}
 use Rattle.models.specs.Families.{listLengthOf}
 use Rattle.fitter.specs.Attempting.{surveyTests, attemptAnswerOf, attemptFrom, standsFrom}
-use Rattle.fitter.specs.Judging.{tableFrom, retryStep, retriedOf}
+use Rattle.fitter.specs.Retrying.{tableFrom, retryStep, retriedOf}
 use Rattle.fitter.specs.Settling.{closedBy, settleOf, withHeld, finishOf, surveyed, settled}
 use Rattle.fitter.specs.Surveys.{noSurvey, surveyStep, surveyOf}
 use Rattle.fitter.specs.Turns.{emptySettled, beginOf, secondFrom, goneOn, settledTo, firstStands}

@@ -12,7 +12,7 @@ use Rattle.meaning.proofs.Replies.{same-answer, same-number, answer-not-refused
 use Rattle.routines.specs.Exp.{expOf}
 use Rattle.models.specs.Fits.{totalRatioOf}
 use Rattle.models.specs.declared.fit.SpectrumFit.{SpectrumFit}
-use Rattle.fitter.specs.Validation.{valid, rejected, judged, rules, verdictOf, reasonNumber, reasonAt}
+use Rattle.fitter.specs.Validation.{valid, rejected, judgementAt, rules, verdictOf, reasonNumber, reasonAt}
 use Rattle.fitter.specs.Validation.{verdictSays, excessOf, NoRule}
 use Rattle.fitter.specs.declared.rejections.FitRejection.{FitRejection}
 use Rattle.fitter.specs.declared.rejections.FitRejection.the-variants as reason
@@ -54,7 +54,7 @@ verdict-same (Refused n) (Rejected w) e = absurd (answer-not-refused (sym e))
 verdict-same (Refused n) (Refused m) e = ap Refused (same-number e)
 
 -- ---- a valid fit
-judged-valid : (n : ℕ) → judged n ≡ valid → 0 ≡ n
+judged-valid : (n : ℕ) → judgementAt n ≡ valid → 0 ≡ n
 judged-valid zero e = refl
 judged-valid (suc n) e = absurd (valid-not-rejected (sym e))
 

@@ -7,7 +7,7 @@ use lib.Dec.{eqb}
 use lib.ListN.{length}
 use lib.Ieee.{Float}
 use Rattle.meaning.specs.Reply.{Reply, refuse, broken, give, Test, test, chain}
-use Rattle.meaning.specs.Rows.{inOrder, few, many}
+use Rattle.meaning.specs.Rows.{inOrder, belowTwo, aboveMost}
 use Rattle.models.specs.Families.{listLengthOf}
 use Rattle.models.specs.Refusals.{spectrumTests, tableDemand, shortTable}
 use Rattle.models.specs.Unpacking.{emptyFit}
@@ -18,8 +18,8 @@ use Rattle.fitter.specs.Validation.{outsideLimit}
 use Rattle.fitter.specs.declared.attempts.FitAttempt.{FitAttempt}
 use Rattle.fitter.specs.declared.attempts.RejectionPart.the-variants.{Absent, Present}
 use Rattle.fitter.specs.declared.rejections.FitRejection.the-variants as reason
-use Rattle.fitter.specs.Judging.{judgedOf, keptOf}
-use Rattle.fitter.specs.Runs.{wrongRun, badRun, anyOf, iterationsOf, cappedOf}
+use Rattle.fitter.specs.Judging.{judgedFitOf, keptBest}
+use Rattle.fitter.specs.Runs.{hasWrongList, hasWrongCost, anyOf, iterationsOf, cappedOf}
 use Rattle.fitter.specs.declared.runs.Run.{Run}
 use Rattle.fitter.specs.declared.settling.AttemptAnswer.{AttemptAnswer}
 use Rattle.fitter.specs.declared.settling.Setup.{Setup}
@@ -28,22 +28,22 @@ use Rattle.fitter.specs.declared.surveys.Survey.{Survey}
 
 -- ---- the numbers that come back instead
 -- 7: a converged run's list is wrong
-abbrev pub wrongRuns : Bool → List Test
-wrongRuns wrong = test wrong 7 ∷ []
+abbrev pub wrongLists : Bool → List Test
+wrongLists wrong = test wrong 7 ∷ []
 
 -- 9: a converged run's cost is wrong
-abbrev pub badRuns : Bool → List Test
-badRuns bad = test bad 9 ∷ []
+abbrev pub wrongCosts : Bool → List Test
+wrongCosts bad = test bad 9 ∷ []
 
 -- `runs` is the number of runs, `room` the length of the shelf's table
 unfoldable pub setupTests : List ℕ → Setup → ℕ → Bool → Bool → ℕ → List Test
 setupTests bins setup runs wrong bad room =
     inOrder
-    (few (setup .peak ∷ setup .valley ∷ length bins ∷ [])
-    ∷ many (length bins ∷ setup .peak ∷ setup .valley ∷ setup .«window_end» ∷ runs ∷ [])
+    (belowTwo (setup .peak ∷ setup .valley ∷ length bins ∷ [])
+    ∷ aboveMost (length bins ∷ setup .peak ∷ setup .valley ∷ setup .«window_end» ∷ runs ∷ [])
     ∷ spectrumTests bins (setup .scale) (setup .«window_end»)
-    ∷ wrongRuns wrong
-    ∷ badRuns bad
+    ∷ wrongLists wrong
+    ∷ wrongCosts bad
     ∷ outsideLimit (setup .«mass_limit»)
     ∷ shortTable (setup .genome) (setup .«window_end») room
     ∷ [])
@@ -59,13 +59,13 @@ module _ (bins : List ℕ) (setup : Setup) (lists : List Float) (room : ℕ) (at
   -- 7 and 9 are over the whole table
   abbrev pub attemptTests : List Test
   attemptTests =
-      setupTests bins setup n (anyOf (λ (i : ℕ). wrongRun (length lists) wanted (at i)) n)
-      (anyOf (λ (i : ℕ). badRun (at i)) n) room
+      setupTests bins setup n (anyOf (λ (i : ℕ). hasWrongList (length lists) wanted (at i)) n)
+      (anyOf (λ (i : ℕ). hasWrongCost (at i)) n) room
 
   -- the run that is kept is the candidate; a run that did not converge stands for none
   abbrev pub candidateOf : Best → FitAttempt
   candidateOf best =
-      let judged = judgedOf bins setup lists room (best .run) in
+      let judged = judgedFitOf bins setup lists room (best .run) in
       cond (best .run .converged)
       (attemptOf (setup .error) (setup .genome) true (judged .fit) (judged .rejection) (iterationsOf at n)
       (cappedOf at n))
@@ -73,18 +73,18 @@ module _ (bins : List ℕ) (setup : Setup) (lists : List Float) (room : ℕ) (at
       (cappedOf at n))
 
   unfoldable pub attemptFrom : Reply FitAttempt
-  attemptFrom = chain attemptTests (give (candidateOf (keptOf bins setup lists room at n)))
+  attemptFrom = chain attemptTests (give (candidateOf (keptBest bins setup lists room at n)))
 
 -- the attempt beside a number
 abbrev pub emptyAttempt : FitAttempt
 emptyAttempt = attemptOf FreeSingletonWeibull NegativeBinomial false emptyFit Absent 0 0
 
-abbrev pub refusedOf : ℕ → AttemptAnswer
-refusedOf n = record { number = n; attempt = emptyAttempt }
+abbrev pub refusedAnswer : ℕ → AttemptAnswer
+refusedAnswer n = record { number = n; attempt = emptyAttempt }
 
 abbrev pub attemptAnswerOf : Reply FitAttempt → AttemptAnswer
-attemptAnswerOf (refuse n) = refusedOf n
-attemptAnswerOf (broken place) = refusedOf 3
+attemptAnswerOf (refuse n) = refusedAnswer n
+attemptAnswerOf (broken place) = refusedAnswer 3
 attemptAnswerOf (give a) = record { number = 0; attempt = a }
 
 -- from where on the shelf's table stands as found, by the answer's number: a refusal changes nothing, nor does a plain

@@ -10,7 +10,7 @@ use Rattle.meaning.specs.Reply.{Reply, give}
 use Rattle.models.specs.Refusals.{tableDemand}
 use Rattle.models.specs.Unpacking.{unpackOf}
 use Rattle.models.specs.declared.fit.SpectrumFit.{SpectrumFit}
-use Rattle.fitter.specs.Judging.{rejectionOf}
+use Rattle.fitter.specs.Judging.{rejectionOfJudgement}
 use Rattle.fitter.specs.Validation.{Judgement, validateOf}
 use Rattle.fitter.specs.declared.attempts.FitAttempt.{FitAttempt}
 use Rattle.fitter.specs.declared.attempts.RejectionPart.{RejectionPart}
@@ -40,7 +40,7 @@ pub record RunFit (bins : List ℕ) (setup : Setup) (lists : List Float) (run : 
   pub unpacked : (room : ℕ) → LongEnough setup room → unpackRun bins setup lists run room ≡ give fit
   pub verdict : Judgement
   pub validated : validateOf fit (setup .valley) (setup .peak) (setup .«mass_limit») ≡ give verdict
-  pub said : rejection ≡ rejectionOf verdict
+  pub said : rejection ≡ rejectionOfJudgement verdict
 
 -- an attempt's candidate is the fit of a run of the table
 pub record FromRun (bins : List ℕ) (setup : Setup) (lists : List Float) (at : ℕ → Run) (n : ℕ) (best : Best)

@@ -45,15 +45,15 @@ pointOf run = cond (run .converged) (Converged (run .cost) (run .place)) Missing
 unfoldable pub wrongPlace : ℕ → ℕ → ℕ → ℕ → Bool
 wrongPlace place n lent wanted = not (eqb n wanted) || ltb lent (place + n)
 
-unfoldable pub wrongRun : ℕ → ℕ → Run → Bool
-wrongRun lent wanted run = run .converged && wrongPlace (run .place) (run .length) lent wanted
+unfoldable pub hasWrongList : ℕ → ℕ → Run → Bool
+hasWrongList lent wanted run = run .converged && wrongPlace (run .place) (run .length) lent wanted
 
 -- ---- 9: a cost that is not finite or not above 0
 unfoldable pub badCost : Float → Bool
 badCost cost = not (finite cost) || le cost float.zero
 
-unfoldable pub badRun : Run → Bool
-badRun run = run .converged && badCost (run .cost)
+unfoldable pub hasWrongCost : Run → Bool
+hasWrongCost run = run .converged && badCost (run .cost)
 
 -- ---- a run's list: empty where it does not lie in the lent numbers, which is 7
 unfoldable pub listAt : List Float → ℕ → ℕ → List Float

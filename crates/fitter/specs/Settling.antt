@@ -12,8 +12,8 @@ use Rattle.models.specs.Unpacking.{emptyFit}
 use Rattle.fitter.specs.Attempts.{attemptOf, unrejected}
 use Rattle.fitter.specs.declared.attempts.RejectionPart.the-variants.{Absent, Present}
 use Rattle.fitter.specs.declared.rejections.FitRejection.the-variants as reason
-use Rattle.fitter.specs.Attempting.{surveyTests, refusedOf}
-use Rattle.fitter.specs.Judging.{heldOf, retriedOf}
+use Rattle.fitter.specs.Attempting.{surveyTests, refusedAnswer}
+use Rattle.fitter.specs.Retrying.{heldOf, retriedOf}
 use Rattle.fitter.specs.Surveys.{noBest, surveyOf}
 use Rattle.fitter.specs.declared.judging.Held.{Held}
 use Rattle.fitter.specs.declared.runs.Run.{Run}
@@ -44,8 +44,8 @@ settleOf bins setup runs survey lists room =
 abbrev pub withHeld : Settled → Held → Settled
 withHeld s held = record { number = s .number; unsettled = s .unsettled; setup = s .setup; held = held }
 
-abbrev pub failedOf : Setup → Survey → AttemptAnswer
-failedOf setup survey = record {
+abbrev pub failedAnswer : Setup → Survey → AttemptAnswer
+failedAnswer setup survey = record {
   number = 0;
   attempt =
       attemptOf (setup .error) (setup .genome) false emptyFit (Present reason.OptimisationFailed) (survey .iterations)
@@ -63,8 +63,8 @@ keptAnswer setup survey held = record {
 unfoldable pub finishOf : Survey → Settled → AttemptAnswer
 finishOf survey s =
     cond (eqb (s .number) 0)
-    (cond (s .held .best .run .converged) (keptAnswer (s .setup) survey (s .held)) (failedOf (s .setup) survey))
-    (refusedOf (s .number))
+    (cond (s .held .best .run .converged) (keptAnswer (s .setup) survey (s .held)) (failedAnswer (s .setup) survey))
+    (refusedAnswer (s .number))
 
 -- ---- the whole
 module _ (bins : List ℕ) (setup : Setup) (lists : List Float) (room : ℕ) (at : ℕ → Run) (n : ℕ) where

@@ -7,7 +7,7 @@ use lib.ListN.{length, getD}
 use lib.Ieee.{Float, neg, lt, le}
 use Rattle.meaning.specs.Fold.{fold}
 use Rattle.meaning.specs.Reply.{Reply, give, chain}
-use Rattle.meaning.specs.Rows.{inOrder, few, many}
+use Rattle.meaning.specs.Rows.{inOrder, belowTwo, aboveMost}
 use Rattle.routines.specs.Constants.{zero, two}
 use Rattle.routines.specs.Ops.{_⊕_, _⊗_, _⊘_, ofCount}
 use Rattle.routines.specs.Starts.{dec}
@@ -35,4 +35,5 @@ shareOf sample valley peak =
 unfoldable pub shelfShareOf : List ℕ → Float → ℕ → ℕ → Reply Float
 shelfShareOf bins scale valley peak =
     let limited = valley ∷ peak ∷ length bins ∷ [] in
-    chain (inOrder (few limited ∷ many limited ∷ [])) (give (shareOf (recovered (usedScaleOf scale) bins) valley peak))
+    chain (inOrder (belowTwo limited ∷ aboveMost limited ∷ []))
+    (give (shareOf (recovered (usedScaleOf scale) bins) valley peak))

@@ -10,7 +10,7 @@ use lib.Ieee.{Float, nan, neg, lt}
 use lib.Ieee.Scale.{finite}
 use Rattle.meaning.specs.Over.{over}
 use Rattle.meaning.specs.Reply.{Reply, give, Test, test, chain}
-use Rattle.meaning.specs.Rows.{inOrder, short}
+use Rattle.meaning.specs.Rows.{inOrder, tooShort}
 use Rattle.routines.specs.Constants.{zero, half, one, two, three}
 use Rattle.routines.specs.Ln.{lnOf}
 use Rattle.routines.specs.Ops.{_⊖_, _⊘_}
@@ -121,5 +121,6 @@ unfoldable pub startsOf :
 startsOf error genome pareto weibull seeds hint share shapes room =
     let starts = allStarts error genome (seeds ++ (hintOf hint ∷ [])) (tableOf error pareto weibull) share shapes in
     chain
-    (inOrder (wrongTables (length pareto) (length weibull) ∷ oddShapes (length shapes) ∷ short room (length starts) ∷ []))
+    (inOrder (wrongTables (length pareto) (length weibull) ∷ oddShapes (length shapes) ∷ tooShort room
+    (length starts) ∷ []))
     (give starts)

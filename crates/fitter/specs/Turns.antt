@@ -8,7 +8,7 @@ use lib.ListN.{length}
 use lib.Ieee.{Float}
 use Rattle.models.specs.Families.{listLengthOf}
 use Rattle.fitter.specs.Attempting.{standsFrom}
-use Rattle.fitter.specs.Judging.{tableFrom, retryStep}
+use Rattle.fitter.specs.Retrying.{tableFrom, retryStep}
 use Rattle.fitter.specs.Settling.{settleOf, withHeld}
 use Rattle.fitter.specs.Surveys.{noSurvey, surveyStep}
 use Rattle.fitter.specs.declared.runs.Run.{Run}

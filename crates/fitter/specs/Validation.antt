@@ -10,7 +10,7 @@ use lib.ListN.{getD}
 use lib.Ieee.{Float, nan, lt, le, ne}
 use lib.Ieee.Scale.{finite}
 use Rattle.meaning.specs.Reply.{Reply, refuse, broken, give, Test, test, chain, firstOf}
-use Rattle.meaning.specs.Rows.{inOrder, few, many, noWindow}
+use Rattle.meaning.specs.Rows.{inOrder, belowTwo, aboveMost, noWindow}
 use Rattle.routines.specs.Constants as float
 use Rattle.routines.specs.Constants.{half, one}
 use Rattle.routines.specs.Ln.{lnOf}
@@ -137,12 +137,12 @@ pub data Judgement : Type 0 where
   valid : Judgement
   rejected : ℕ → Judgement
 
-abbrev pub judged : ℕ → Judgement
-judged zero = valid
-judged (suc n) = rejected (suc n)
+abbrev pub judgementAt : ℕ → Judgement
+judgementAt zero = valid
+judgementAt (suc n) = rejected (suc n)
 
 unfoldable pub verdictOf : SpectrumFit → ℕ → ℕ → Float → Judgement
-verdictOf fit valley peak limit = judged (firstOf (rules fit valley peak limit))
+verdictOf fit valley peak limit = judgementAt (firstOf (rules fit valley peak limit))
 
 -- ---- the numbers that come back instead
 -- 9: the mass limit is not finite or is below 1
@@ -155,8 +155,8 @@ outsideLimit limit = test (badLimit limit) 9 ∷ []
 unfoldable pub validateTests : ℕ → ℕ → ℕ → Float → List Test
 validateTests end valley peak limit =
     inOrder
-    (few (valley ∷ peak ∷ [])
-    ∷ many (valley ∷ peak ∷ end ∷ [])
+    (belowTwo (valley ∷ peak ∷ [])
+    ∷ aboveMost (valley ∷ peak ∷ end ∷ [])
     ∷ noWindow end
     ∷ outsideLimit limit
     ∷ [])

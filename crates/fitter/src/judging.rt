@@ -4,7 +4,8 @@
 ghost use mathlib.Core.Path.{_≡_};
 ghost use lib.ListN.{length, drop};
 ghost use Rattle.fitter.specs.Attempts.{unrejected};
-ghost use Rattle.fitter.specs.Judging.{rejectionSaid, tableFrom, judgedOf, couldWin, retryStep};
+ghost use Rattle.fitter.specs.Judging.{judgedFitOf};
+ghost use Rattle.fitter.specs.Retrying.{rejectionOfVerdict, tableFrom, couldWin, retryStep};
 use crate::attempts::RejectionPart;
 use crate::rejections::FitRejection;
 use crate::runs::Run;
@@ -19,7 +20,7 @@ use models::fit::SpectrumFit;
 use models::unpacking::unpack;
 
 // A fit, and why it is not used; absent where it is valid.
-pub struct Judged {
+pub struct JudgedFit {
     pub fit: SpectrumFit,
     pub rejection: RejectionPart,
 }
@@ -27,12 +28,12 @@ pub struct Judged {
 // The run that is kept so far.
 pub struct Held {
     pub best: Best,
-    pub judged: Judged,
+    pub judged: JudgedFit,
 }
 
 // The validator's verdict on a fit of a run; it refuses none, and a fit that it refused would not be used.
-fn rejection_of(verdict: Verdict) -> RejectionPart
-    ensures { λ r. ⌜ r ≡ rejectionSaid verdict ⌝ }
+fn rejection_of_verdict(verdict: Verdict) -> RejectionPart
+    ensures { λ r. ⌜ r ≡ rejectionOfVerdict verdict ⌝ }
 {
     match verdict {
         Verdict::Valid => RejectionPart::Absent,
@@ -57,8 +58,8 @@ pub(crate) fn judge_run(
     run: Run,
     lists: &[f64],
     table: &mut [f64],
-) -> Judged
-    ensures { λ r. ⌜ r ≡ judgedOf (now (bins .entry)) setup (now (lists .entry)) (length (now (table .entry))) run ⌝ }
+) -> JudgedFit
+    ensures { λ r. ⌜ r ≡ judgedFitOf (now (bins .entry)) setup (now (lists .entry)) (length (now (table .entry))) run ⌝ }
     ensures { λ _. ⌜ drop (tableFrom setup) (now (table .exit)) ≡ drop (tableFrom setup) (now (table .entry)) ⌝ }
 {
     let error = setup.error;
@@ -78,8 +79,8 @@ pub(crate) fn judge_run(
     );
     let fit = answer.fit;
     let verdict = judge(fit, setup.valley, setup.peak, setup.mass_limit);
-    let rejection = rejection_of(verdict);
-    Judged {
+    let rejection = rejection_of_verdict(verdict);
+    JudgedFit {
         fit: fit,
         rejection: rejection,
     }

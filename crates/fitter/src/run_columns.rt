@@ -6,7 +6,7 @@ ghost use Prim.Native.Nat.{_<_};
 ghost use lib.ListN.{length, drop};
 ghost use Rattle.fitter.specs.Columns.{shorter, countOfRuns, runOf};
 ghost use Rattle.fitter.specs.Surveys.{surveyOf};
-ghost use Rattle.fitter.specs.Judging.{tableFrom, retriedOf};
+ghost use Rattle.fitter.specs.Retrying.{tableFrom, retriedOf};
 use crate::judging::Held;
 use crate::judging::retry_run;
 use crate::runs::Run;

@@ -6,13 +6,13 @@ ghost use mathlib.Core.Path.{_≡_};
 ghost use lib.ListN.{length, drop};
 ghost use mathlib.Core.List.{[], _∷_};
 ghost use Rattle.meaning.specs.Reply.{test, firstOf};
-ghost use Rattle.fitter.specs.Attempting.{surveyTests, standsFrom, refusedOf};
-ghost use Rattle.fitter.specs.Settling.{noHeld, failedOf, keptAnswer, withHeld, settleOf, finishOf};
+ghost use Rattle.fitter.specs.Attempting.{surveyTests, standsFrom, refusedAnswer};
+ghost use Rattle.fitter.specs.Settling.{noHeld, failedAnswer, keptAnswer, withHeld, settleOf, finishOf};
 use crate::attempts::FitAttempt;
 use crate::attempts::RejectionPart;
 use crate::attempts::make_attempt;
 use crate::judging::Held;
-use crate::judging::Judged;
+use crate::judging::JudgedFit;
 use crate::judging::is_unrejected;
 use crate::judging::judge_run;
 use crate::rejections::FitRejection;
@@ -95,7 +95,7 @@ pub(crate) fn attempt_refusal(
 
 // A number, beside the empty attempt.
 pub(crate) fn refused(number: u8) -> AttemptAnswer
-    ensures { λ r. ⌜ r ≡ refusedOf number ⌝ }
+    ensures { λ r. ⌜ r ≡ refusedAnswer number ⌝ }
 {
     AttemptAnswer {
         number,
@@ -113,7 +113,7 @@ pub(crate) fn refused(number: u8) -> AttemptAnswer
 
 // No run converged.
 pub(crate) fn failed(setup: Setup, survey: Survey) -> AttemptAnswer
-    ensures { λ r. ⌜ r ≡ failedOf setup survey ⌝ }
+    ensures { λ r. ⌜ r ≡ failedAnswer setup survey ⌝ }
 {
     let error = setup.error;
     let genome = setup.genome;
@@ -170,7 +170,7 @@ pub(crate) fn no_held() -> Held
             run: no_run(),
             position: 0,
         },
-        judged: Judged {
+        judged: JudgedFit {
             fit: empty_fit(),
             rejection: RejectionPart::Absent,
         },

@@ -6,7 +6,7 @@ ghost use mathlib.Core.Path.{_≡_};
 ghost use Prim.Native.Nat.{_<_};
 ghost use lib.ListN.{length, drop};
 ghost use Rattle.fitter.specs.Settling.{finishOf};
-ghost use Rattle.fitter.specs.Judging.{tableFrom};
+ghost use Rattle.fitter.specs.Retrying.{tableFrom};
 ghost use Rattle.fitter.specs.Runs.{runFrom};
 ghost use Rattle.fitter.specs.Turns.{emptySettled, beginOf, secondFrom, firstStands, firstTurn, secondTurn};
 ghost use Rattle.fitter.specs.Turns.{turnOf, turnStands};

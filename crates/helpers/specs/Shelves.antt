@@ -8,7 +8,7 @@ use Rattle.meaning.specs.Fold.{fold}
 use Rattle.meaning.specs.Over.{over}
 use Rattle.meaning.specs.Reply.{Reply, give, chain}
 use Rattle.meaning.specs.Lent.{onGive}
-use Rattle.meaning.specs.Rows.{short, windowTests}
+use Rattle.meaning.specs.Rows.{tooShort, windowTests}
 use Rattle.routines.specs.Constants.{one}
 use Rattle.routines.specs.Lgamma.{lgammaOf}
 use Rattle.routines.specs.Ln.{lnOf}
@@ -58,7 +58,7 @@ lastOf trials top = toUnsigned 64 (minOf trials (ofCount top))
 unfoldable pub shelfLogTableOf : Float → ℕ → ℕ → Reply ℕ
 shelfLogTableOf mean top room =
     let last = lastOf (shelfTrialsOf mean) top in
-    chain (windowTests top ++ short room (suc last)) (give (suc last))
+    chain (windowTests top ++ tooShort room (suc last)) (give (suc last))
 
 -- what stands in the slice afterwards
 unfoldable pub tableAfter : Float → Shelf → ℕ → List Float → List Float

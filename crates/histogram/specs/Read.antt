@@ -3,7 +3,7 @@ use Prim.Native.Nat.{ℕ}
 use mathlib.Core.List.{List}
 use lib.ListN.{length, take}
 use Rattle.meaning.specs.Reply.{Reply, refuse, broken, give, chain}
-use Rattle.meaning.specs.Rows.{short}
+use Rattle.meaning.specs.Rows.{tooShort}
 use Rattle.histogram.specs.declared.reader.FileRead.{FileRead}
 use Rattle.histogram.specs.declared.reader.FileRead.the-variants.{Bins, Broken, Refused}
 use Rattle.histogram.specs.File.{readOf}
@@ -12,7 +12,7 @@ use Rattle.histogram.specs.File.{readOf}
 abbrev pub fitsIn : ℕ → Reply (List ℕ) → Reply (List ℕ)
 fitsIn room (refuse n) = refuse n
 fitsIn room (broken place) = broken place
-fitsIn room (give xs) = chain (short room (length xs)) (give xs)
+fitsIn room (give xs) = chain (tooShort room (length xs)) (give xs)
 
 unfoldable pub readHistogramOf : List ℕ → ℕ → Reply (List ℕ)
 readHistogramOf file room = fitsIn room (readOf file)

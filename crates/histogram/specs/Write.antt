@@ -5,12 +5,13 @@ use mathlib.Core.List.{List, [], _∷_}
 use lib.Dec.{ltb}
 use lib.ListN.{length}
 use Rattle.meaning.specs.Reply.{Reply, give, chain, test}
-use Rattle.meaning.specs.Rows.{inOrder, few, short}
+use Rattle.meaning.specs.Rows.{inOrder, belowTwo, tooShort}
 use Rattle.histogram.specs.File.{mostBins, writeOf}
 
 -- into a slice of so many bytes
 unfoldable pub writeHistogramOf : List ℕ → ℕ → Reply (List ℕ)
 writeHistogramOf xs room =
     chain
-    (inOrder (few (length xs ∷ []) ∷ (test (ltb mostBins (length xs)) 2 ∷ []) ∷ short room (length (writeOf xs)) ∷ []))
+    (inOrder (belowTwo (length xs ∷ []) ∷ (test (ltb mostBins (length xs)) 2 ∷ []) ∷ tooShort room
+    (length (writeOf xs)) ∷ []))
     (give (writeOf xs))

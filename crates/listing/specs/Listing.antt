@@ -7,7 +7,7 @@ use Prim.Native.String.{String, [] as none, _∷_ as _then_}
 use mathlib.Core.List.{List, [], _∷_, _++_}
 use lib.ListN.{length}
 use Rattle.meaning.specs.Reply.{Reply, refuse, broken, give, chain}
-use Rattle.meaning.specs.Rows.{inOrder, few, many, short}
+use Rattle.meaning.specs.Rows.{inOrder, belowTwo, aboveMost, tooShort}
 use Rattle.listing.specs.Decimal.{decimalOf}
 use Rattle.histogram.specs.File.{mostBins, readOf}
 
@@ -53,8 +53,9 @@ longestListing = 10 + 16 * mostBins
 -- ---- the calls: 1 for fewer than 2 bins, 2 for more than 65,535, 10 where the bytes are too few
 unfoldable pub listHistogramOf : List ℕ → ℕ → Reply (List ℕ)
 listHistogramOf xs room =
-    chain (inOrder (few (length xs ∷ []) ∷ many (length xs ∷ []) ∷ short room (length (listingOf xs)) ∷ []))
+    chain (inOrder
+    (belowTwo (length xs ∷ []) ∷ aboveMost (length xs ∷ []) ∷ tooShort room (length (listingOf xs)) ∷ []))
     (give (listingOf xs))
 
 unfoldable pub listRefusalOf : ℕ → ℕ → Reply (List ℕ)
-listRefusalOf place room = chain (short room (length (refusalOf place))) (give (refusalOf place))
+listRefusalOf place room = chain (tooShort room (length (refusalOf place))) (give (refusalOf place))

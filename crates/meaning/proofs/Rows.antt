@@ -9,7 +9,7 @@ use native.Mathlib.Omega.{arith}
 use borrow.Author.Tests.{ltb-false, eqb-false, lt-ltb, le-ltb}
 use lib.Dec.{ltb, eqb}
 use Rattle.meaning.specs.Reply.{test, firstOf}
-use Rattle.meaning.specs.Rows.{most, few, many, noWindow, outside, short, windowTests, inOrder}
+use Rattle.meaning.specs.Rows.{most, belowTwo, aboveMost, noWindow, outside, tooShort, windowTests, inOrder}
 use Rattle.meaning.proofs.Chains.{parts}
 
 -- a row of one test
@@ -27,36 +27,36 @@ Each P [] = Unit {0}
 Each P (n ∷ ns) = P n × Each P ns
 
 -- ---- 1
-pub few-clear : (ns : List ℕ) → Each (λ (n : ℕ). 2 ≤ n) ns → 0 ≡ firstOf (few ns)
-few-clear [] h = refl
-few-clear (n ∷ ns) h = rw (le-ltb n 2 (h .0)) (few-clear ns (h .1))
+pub below-two-clear : (ns : List ℕ) → Each (λ (n : ℕ). 2 ≤ n) ns → 0 ≡ firstOf (belowTwo ns)
+below-two-clear [] h = refl
+below-two-clear (n ∷ ns) h = rw (le-ltb n 2 (h .0)) (below-two-clear ns (h .1))
 
-pub few-found : (ns : List ℕ) → Some (λ (n : ℕ). n < 2) ns → 1 ≡ firstOf (few ns)
-few-found [] h = absurd h
-few-found (n ∷ ns) (inl h) = rw (lt-ltb n 2 h)
-few-found (n ∷ ns) (inr h) = either (ltb n 2) (few-found ns h)
+pub below-two-found : (ns : List ℕ) → Some (λ (n : ℕ). n < 2) ns → 1 ≡ firstOf (belowTwo ns)
+below-two-found [] h = absurd h
+below-two-found (n ∷ ns) (inl h) = rw (lt-ltb n 2 h)
+below-two-found (n ∷ ns) (inr h) = either (ltb n 2) (below-two-found ns h)
   where
-    either : (b : Bool) → 1 ≡ firstOf (few ns) → 1 ≡ firstOf (test b 1 ∷ few ns)
+    either : (b : Bool) → 1 ≡ firstOf (belowTwo ns) → 1 ≡ firstOf (test b 1 ∷ belowTwo ns)
     either true e = refl
     either false e = e
 
 -- ---- 2
-pub many-passed : (ns : List ℕ) → 0 ≡ firstOf (many ns) → Each (λ (n : ℕ). n ≤ most) ns
-many-passed [] e = tt
-many-passed (n ∷ ns) e =
-    let both = parts (test (ltb most n) 2 ∷ []) (many ns) refl e in
-    (ltb-false most n (test-passed (ltb most n) 2 (omega arith) (both .0)), many-passed ns (both .1))
+pub above-most-passed : (ns : List ℕ) → 0 ≡ firstOf (aboveMost ns) → Each (λ (n : ℕ). n ≤ most) ns
+above-most-passed [] e = tt
+above-most-passed (n ∷ ns) e =
+    let both = parts (test (ltb most n) 2 ∷ []) (aboveMost ns) refl e in
+    (ltb-false most n (test-passed (ltb most n) 2 (omega arith) (both .0)), above-most-passed ns (both .1))
 
-pub many-clear : (ns : List ℕ) → Each (λ (n : ℕ). n ≤ most) ns → 0 ≡ firstOf (many ns)
-many-clear [] h = refl
-many-clear (n ∷ ns) h = rw (le-ltb most n (h .0)) (many-clear ns (h .1))
+pub above-most-clear : (ns : List ℕ) → Each (λ (n : ℕ). n ≤ most) ns → 0 ≡ firstOf (aboveMost ns)
+above-most-clear [] h = refl
+above-most-clear (n ∷ ns) h = rw (le-ltb most n (h .0)) (above-most-clear ns (h .1))
 
-pub many-found : (ns : List ℕ) → Some (λ (n : ℕ). most < n) ns → 2 ≡ firstOf (many ns)
-many-found [] h = absurd h
-many-found (n ∷ ns) (inl h) = rw (lt-ltb most n h)
-many-found (n ∷ ns) (inr h) = either (ltb most n) (many-found ns h)
+pub above-most-found : (ns : List ℕ) → Some (λ (n : ℕ). most < n) ns → 2 ≡ firstOf (aboveMost ns)
+above-most-found [] h = absurd h
+above-most-found (n ∷ ns) (inl h) = rw (lt-ltb most n h)
+above-most-found (n ∷ ns) (inr h) = either (ltb most n) (above-most-found ns h)
   where
-    either : (b : Bool) → 2 ≡ firstOf (many ns) → 2 ≡ firstOf (test b 2 ∷ many ns)
+    either : (b : Bool) → 2 ≡ firstOf (aboveMost ns) → 2 ≡ firstOf (test b 2 ∷ aboveMost ns)
     either true e = refl
     either false e = e
 
@@ -73,11 +73,11 @@ outside-passed end bins e =
     (no-window-passed end (both .0), ltb-false bins end (test-passed (ltb bins end) 5 (omega arith) (both .1)))
 
 -- ---- 10
-pub short-passed : (room need : ℕ) → 0 ≡ firstOf (short room need) → need ≤ room
-short-passed room need e = ltb-false room need (test-passed (ltb room need) 10 (omega arith) e)
+pub too-short-passed : (room need : ℕ) → 0 ≡ firstOf (tooShort room need) → need ≤ room
+too-short-passed room need e = ltb-false room need (test-passed (ltb room need) 10 (omega arith) e)
 
 -- ---- 2 and 5
 pub window-passed : (end : ℕ) → 0 ≡ firstOf (windowTests end) → (end ≤ most) × (1 ≤ end)
 window-passed end e =
-    let both = parts (many (end ∷ [])) (inOrder (noWindow end ∷ [])) refl e in
-    (many-passed (end ∷ []) (both .0) .0, no-window-passed end (both .1))
+    let both = parts (aboveMost (end ∷ [])) (inOrder (noWindow end ∷ [])) refl e in
+    (above-most-passed (end ∷ []) (both .0) .0, no-window-passed end (both .1))

@@ -16,14 +16,14 @@ abbrev pub most : ℕ
 most = 65535
 
 -- 1: peak, valley or the number of bins is below 2
-abbrev pub few : List ℕ → List Test
-few [] = []
-few (n ∷ ns) = test (ltb n 2) 1 ∷ few ns
+abbrev pub belowTwo : List ℕ → List Test
+belowTwo [] = []
+belowTwo (n ∷ ns) = test (ltb n 2) 1 ∷ belowTwo ns
 
 -- 2: bins, peak, valley, a count, a window end or the number of runs is above 65,535
-abbrev pub many : List ℕ → List Test
-many [] = []
-many (n ∷ ns) = test (ltb most n) 2 ∷ many ns
+abbrev pub aboveMost : List ℕ → List Test
+aboveMost [] = []
+aboveMost (n ∷ ns) = test (ltb most n) 2 ∷ aboveMost ns
 
 -- 5: the window end is 0
 abbrev pub noWindow : ℕ → List Test
@@ -34,9 +34,9 @@ abbrev pub outside : ℕ → ℕ → List Test
 outside end bins = noWindow end ++ (test (ltb bins end) 5 ∷ [])
 
 -- 10: a lent buffer is too short
-abbrev pub short : ℕ → ℕ → List Test
-short room need = test (ltb room need) 10 ∷ []
+abbrev pub tooShort : ℕ → ℕ → List Test
+tooShort room need = test (ltb room need) 10 ∷ []
 
 -- 2 and 5: what a call that takes a window end and no bins refuses it for
 abbrev pub windowTests : ℕ → List Test
-windowTests end = inOrder (many (end ∷ []) ∷ noWindow end ∷ [])
+windowTests end = inOrder (aboveMost (end ∷ []) ∷ noWindow end ∷ [])

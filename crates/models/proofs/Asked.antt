@@ -8,9 +8,9 @@ use borrow.Author.Tests.{le-ltb, ne-eqb}
 use lib.ListN.{length}
 use lib.Ieee.{Float}
 use Rattle.meaning.specs.Reply.{firstOf}
-use Rattle.meaning.specs.Rows.{most, few, many, windowTests, inOrder}
+use Rattle.meaning.specs.Rows.{most, belowTwo, aboveMost, windowTests, inOrder}
 use Rattle.meaning.proofs.Chains.{goes-on}
-use Rattle.meaning.proofs.Rows.{few-clear, many-clear}
+use Rattle.meaning.proofs.Rows.{below-two-clear, above-most-clear}
 use Rattle.models.specs.Refusals.{spectrumTests, binsTests, shortTable, tableTests}
 use Rattle.models.specs.declared.families.GenomeModel.{GenomeModel}
 
@@ -24,8 +24,8 @@ spectrum-number bins scale end l h k n e =
     let number = firstOf (spectrumTests bins scale end) in
     e
     ∙ sym
-    (goes-on (few lows) (inOrder (many highs ∷ spectrum ∷ [])) refl (few-clear lows (l, tt)) number
-    (goes-on (many highs) spectrum refl (many-clear highs (h, (k, tt))) number refl))
+    (goes-on (belowTwo lows) (inOrder (aboveMost highs ∷ spectrum ∷ [])) refl (below-two-clear lows (l, tt)) number
+    (goes-on (aboveMost highs) spectrum refl (above-most-clear highs (h, (k, tt))) number refl))
 
 pub table-number : (genome : GenomeModel) (end room : ℕ) → 1 ≤ end → end ≤ most
     → (n : ℕ) → n ≡ firstOf (tableTests genome end room) → n ≡ firstOf (shortTable genome end room)

@@ -13,7 +13,7 @@ use store.Seg.{take-pre}
 use Rattle.meaning.specs.Over.{over}
 use Rattle.meaning.specs.Reply.{Reply, refuse, broken, give, test, chain}
 use Rattle.meaning.specs.Lent.{onGive}
-use Rattle.meaning.specs.Rows.{most, short, windowTests}
+use Rattle.meaning.specs.Rows.{most, tooShort, windowTests}
 use Rattle.meaning.proofs.Overs.{over-none, over-length}
 use Rattle.meaning.proofs.Replies.{gave-answer}
 use Rattle.meaning.specs.Answers.{writtenSays}
@@ -48,7 +48,7 @@ all-entries s mean top = table-length (shelfTrialsOf mean) (s .alpha) (s .beta) 
 
 items-are : (mean : Float) (top room n : ℕ) → shelfLogTableOf mean top room ≡ give n → items mean top ≡ n
 unfolding shelfLogTableOf
-items-are mean top room n g = gave-answer (items mean top) n (windowTests top ++ short room (items mean top)) g
+items-are mean top room n g = gave-answer (items mean top) n (windowTests top ++ tooShort room (items mean top)) g
 
 module _ (mean : Float) (top : ℕ) (held : List Float) (shelf : ShelfPart) (s : Shelf) (p : shelf ≡ Present s) where
   abbrev entries : List Float

@@ -8,9 +8,9 @@ use native.Mathlib.Omega.{arith}
 use lib.ListN.{length}
 use lib.Ieee.{Float}
 use Rattle.meaning.specs.Reply.{Reply, refuse, give, Test, chain, firstOf}
-use Rattle.meaning.specs.Rows.{most, inOrder, few, many, outside}
+use Rattle.meaning.specs.Rows.{most, inOrder, belowTwo, aboveMost, outside}
 use Rattle.meaning.proofs.Chains.{parts, chain-refused, chain-passed}
-use Rattle.meaning.proofs.Rows.{test-passed, many-passed, outside-passed, short-passed}
+use Rattle.meaning.proofs.Rows.{test-passed, above-most-passed, outside-passed, too-short-passed}
 use Rattle.routines.specs.Ops.{ofCount}
 use Rattle.models.specs.Costs.{costWith, tableWith, costAt, tableAt, costOf, costTable}
 use Rattle.models.specs.Masses.{entriesOf}
@@ -54,17 +54,17 @@ passed bins scale end peak error genome listed room z =
     let buffer = shortTable genome end room ∷ [] in
     let list = wrongList listed error genome ∷ buffer in
     let spectrum = spectrumTests bins scale end ∷ list in
-    let above = many (length bins ∷ peak ∷ end ∷ []) ∷ spectrum in
-    let fews = parts (few (peak ∷ length bins ∷ [])) (inOrder above) refl z in
-    let manys = parts (many (length bins ∷ peak ∷ end ∷ [])) (inOrder spectrum) refl (fews .1) in
+    let above = aboveMost (length bins ∷ peak ∷ end ∷ []) ∷ spectrum in
+    let fews = parts (belowTwo (peak ∷ length bins ∷ [])) (inOrder above) refl z in
+    let manys = parts (aboveMost (length bins ∷ peak ∷ end ∷ [])) (inOrder spectrum) refl (fews .1) in
     let spectra = parts (spectrumTests bins scale end) (inOrder list) (unfold spectrumTests in refl) (manys .1) in
     let lists = parts (wrongList listed error genome) (inOrder buffer) refl (spectra .1) in
-    let (bins-most, (peak-most, (end-most, none))) = many-passed (length bins ∷ peak ∷ end ∷ []) (manys .0) in
+    let (bins-most, (peak-most, (end-most, none))) = above-most-passed (length bins ∷ peak ∷ end ∷ []) (manys .0) in
     record {
       peak-few = peak-most;
       end-few = end-most;
       spectrum = spectrum-passed bins scale end (spectra .0);
-      roomed = short-passed room (tableDemand genome end) (lists .1);
+      roomed = too-short-passed room (tableDemand genome end) (lists .1);
     }
 
 -- ---- what cost answers

@@ -16,11 +16,11 @@ use lib.Ieee.{Float, inf}
 use Rattle.meaning.specs.Lent.{onGive, laid}
 use Rattle.meaning.specs.Over.{over}
 use Rattle.meaning.specs.Reply.{Reply, refuse, give, Test, test, chain, firstOf}
-use Rattle.meaning.specs.Rows.{most, short, windowTests}
+use Rattle.meaning.specs.Rows.{most, tooShort, windowTests}
 use Rattle.meaning.proofs.Chains.{parts, gave-passed}
 use Rattle.meaning.proofs.Overs.{over-none, over-length, over-next}
 use Rattle.meaning.proofs.Replies.{gave-answer}
-use Rattle.meaning.proofs.Rows.{window-passed, short-passed}
+use Rattle.meaning.proofs.Rows.{window-passed, too-short-passed}
 use Rattle.routines.specs.Constants.{one}
 use Rattle.routines.specs.Lgamma.{lgammaOf}
 use Rattle.routines.specs.Ln.{lnOf}
@@ -165,9 +165,10 @@ module _ (end : ℕ) (held xs : List Float) (e : prepareOf end (length held) ≡
   unfolding prepareOf
   filled =
       let rows = readyRows (end + 2) in
-      let tests = windowTests end ++ short (length held) (readyDemand end) in
-      let both = parts (windowTests end) (short (length held) (readyDemand end)) refl (gave-passed rows xs tests e) in
-      let room : 2 * (end + 2) ≤ length held = short-passed (length held) (readyDemand end) (both .1) in
+      let tests = windowTests end ++ tooShort (length held) (readyDemand end) in
+      let both = parts (windowTests end) (tooShort (length held) (readyDemand end)) refl
+      (gave-passed rows xs tests e) in
+      let room : 2 * (end + 2) ≤ length held = too-short-passed (length held) (readyDemand end) (both .1) in
       let same : give xs ≡ give rows = ap give (sym (gave-answer rows xs tests e)) in
       let l : length rows ≡ 2 * (end + 2) = rows-length (end + 2) in
       let k : length (over rows held) ≡ length held = over-length rows held (omega arith) in
@@ -206,7 +207,7 @@ module _ (bins : List ℕ) (scale : Float) (end peak : ℕ) (error : ErrorModel)
         → answer room ≡ chain (tests room) (chain (test b 10 ∷ []) (give value))
     unfolding preparedCostOf preparedTests
     answer-is room b h =
-        chain-split (tests room) (short (length ready) (readyDemand end)) (give value)
+        chain-split (tests room) (tooShort (length ready) (readyDemand end)) (give value)
         ∙ ap (λ (t : Bool). chain (tests room) (chain (test t 10 ∷ []) (give value))) h
 
     -- ---- what cost_prepared answers

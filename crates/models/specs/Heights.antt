@@ -5,7 +5,7 @@ use mathlib.Core.List.{List, [], _∷_, _++_}
 use lib.ListN.{getD}
 use lib.Ieee.{Float, nan}
 use Rattle.meaning.specs.Reply.{Reply, refuse, give, chain}
-use Rattle.meaning.specs.Rows.{many, short}
+use Rattle.meaning.specs.Rows.{aboveMost, tooShort}
 use Rattle.routines.specs.Exp.{expOf}
 use Rattle.routines.specs.Ops.{_⊖_, _⊗_, ofCount}
 use Rattle.helpers.specs.Lobes.{lnDnbinomOf}
@@ -38,7 +38,7 @@ heightsSays (At h) = give h
 heightsSays (Refused n) = refuse n
 
 unfoldable pub componentHeightsOf : SpectrumFit → ℕ → Reply Heights
-componentHeightsOf fit count = chain (many (count ∷ [])) (give (heightsAt fit (ofCount count)))
+componentHeightsOf fit count = chain (aboveMost (count ∷ [])) (give (heightsAt fit (ofCount count)))
 
 -- ---- at each count from 1 on, three numbers for each
 abbrev pub heightRow : Heights → List Float
@@ -51,4 +51,5 @@ heightRows h (suc n) = heightRows h n ++ heightRow (h (suc n))
 -- `room` is the lent slice's length
 unfoldable pub heightsToOf : SpectrumFit → ℕ → ℕ → Reply (List Float)
 heightsToOf fit last room =
-    chain (many (last ∷ []) ++ short room (3 * last)) (give (heightRows (λ (k : ℕ). heightsAt fit (ofCount k)) last))
+    chain (aboveMost (last ∷ []) ++ tooShort room (3 * last))
+    (give (heightRows (λ (k : ℕ). heightsAt fit (ofCount k)) last))

@@ -5,7 +5,7 @@ use mathlib.Core.List.{List, [], _∷_}
 use lib.ListN.{length, getD}
 use lib.Ieee.{Float, nan, neg}
 use Rattle.meaning.specs.Reply.{Reply, refuse, give, chain}
-use Rattle.meaning.specs.Rows.{inOrder, few, many}
+use Rattle.meaning.specs.Rows.{inOrder, belowTwo, aboveMost}
 use Rattle.routines.specs.Constants.{zero, half, one}
 use Rattle.routines.specs.Exp.{expOf}
 use Rattle.routines.specs.Ops.{_⊕_, _⊖_, _⊗_, _⊘_, ofCount}
@@ -100,5 +100,5 @@ paramsSays (Refused n) = refuse n
 
 unfoldable pub paramsAnswerOf : ErrorModel → GenomeModel → ℕ → List Float → Reply Params
 paramsAnswerOf error genome peak list =
-    chain (inOrder (few (peak ∷ []) ∷ many (peak ∷ []) ∷ wrongList (length list) error genome ∷ []))
+    chain (inOrder (belowTwo (peak ∷ []) ∷ aboveMost (peak ∷ []) ∷ wrongList (length list) error genome ∷ []))
     (give (paramsOf error genome (ofCount peak) list))

@@ -8,7 +8,7 @@ use lib.ListN.{length}
 use lib.Ieee.{Float, inf, neg}
 use Rattle.meaning.specs.Lent.{onGive}
 use Rattle.meaning.specs.Reply.{Reply, give, Test, chain}
-use Rattle.meaning.specs.Rows.{inOrder, short, windowTests}
+use Rattle.meaning.specs.Rows.{inOrder, tooShort, windowTests}
 use Rattle.routines.specs.Constants.{one}
 use Rattle.routines.specs.Lgamma.{lgammaOf}
 use Rattle.routines.specs.Ln.{lnOf}
@@ -35,7 +35,7 @@ readyDemand end = 2 * (end + 2)
 
 -- what is written to the front of a slice of `room` entries
 unfoldable pub prepareOf : ℕ → ℕ → Reply (List Float)
-prepareOf end room = chain (windowTests end ++ short room (readyDemand end)) (give (readyRows (end + 2)))
+prepareOf end room = chain (windowTests end ++ tooShort room (readyDemand end)) (give (readyRows (end + 2)))
 
 -- ---- the cost over a slice, whatever it holds
 unfoldable pub evaluatedAt : List ℕ → Float → ℕ → Params → List Float → List Float → Float
@@ -56,7 +56,7 @@ preparedCostAt bins scale end p ready = costReady bins scale end p ready (entrie
 -- cost's tests, and 10 for a slice that is too short: `filled` is its length
 unfoldable pub preparedTests : List ℕ → Float → ℕ → ℕ → ErrorModel → GenomeModel → ℕ → ℕ → ℕ → List Test
 preparedTests bins scale end peak error genome listed room filled =
-    inOrder (fitTests bins scale end peak error genome listed room ∷ short filled (readyDemand end) ∷ [])
+    inOrder (fitTests bins scale end peak error genome listed room ∷ tooShort filled (readyDemand end) ∷ [])
 
 unfoldable pub preparedCostOf : List ℕ → Float → ℕ → ℕ → ErrorModel → GenomeModel → List Float → List Float → ℕ
     → Reply Float

@@ -8,7 +8,7 @@ use lib.Dec.{eqb}
 use lib.ListN.{length}
 use lib.Ieee.{Float}
 use Rattle.meaning.specs.Reply.{Test, test}
-use Rattle.meaning.specs.Rows.{inOrder, few, many, outside, short, windowTests}
+use Rattle.meaning.specs.Rows.{inOrder, belowTwo, aboveMost, outside, tooShort, windowTests}
 use Rattle.models.specs.Families.{listLengthOf}
 use Rattle.models.specs.Recovery.{usedScaleOf}
 use Rattle.models.specs.Spectra.{allZeroOf, noneRecoveredOf}
@@ -34,7 +34,7 @@ tableDemand NegativeBinomial end = 0
 tableDemand ShelfNegativeBinomial end = end + 1
 
 abbrev pub shortTable : GenomeModel → ℕ → ℕ → List Test
-shortTable genome end room = short room (tableDemand genome end)
+shortTable genome end room = tooShort room (tableDemand genome end)
 
 -- 4, 5 and 6: the spectrum in a window
 unfoldable pub spectrumTests : List ℕ → Float → ℕ → List Test
@@ -43,7 +43,7 @@ spectrumTests bins scale end = inOrder (allZero bins ∷ outside end (length bin
 -- ---- what the layers above ask on their own: of bins and a window end, and of a lent table
 unfoldable pub binsTests : List ℕ → Float → ℕ → List Test
 binsTests bins scale end =
-    inOrder (few (length bins ∷ []) ∷ many (length bins ∷ end ∷ []) ∷ spectrumTests bins scale end ∷ [])
+    inOrder (belowTwo (length bins ∷ []) ∷ aboveMost (length bins ∷ end ∷ []) ∷ spectrumTests bins scale end ∷ [])
 
 abbrev pub tableTests : GenomeModel → ℕ → ℕ → List Test
 tableTests genome end room = inOrder (windowTests end ∷ shortTable genome end room ∷ [])
@@ -53,8 +53,8 @@ tableTests genome end room = inOrder (windowTests end ∷ shortTable genome end 
 unfoldable pub fitTests : List ℕ → Float → ℕ → ℕ → ErrorModel → GenomeModel → ℕ → ℕ → List Test
 fitTests bins scale end peak error genome listed room =
     inOrder
-    (few (peak ∷ length bins ∷ [])
-    ∷ many (length bins ∷ peak ∷ end ∷ [])
+    (belowTwo (peak ∷ length bins ∷ [])
+    ∷ aboveMost (length bins ∷ peak ∷ end ∷ [])
     ∷ spectrumTests bins scale end
     ∷ wrongList listed error genome
     ∷ shortTable genome end room

@@ -6,9 +6,9 @@ use mathlib.Core.List.{List, [], _∷_}
 use native.Mathlib.Omega.{arith}
 use lib.ListN.{length}
 use Rattle.meaning.specs.Reply.{firstOf}
-use Rattle.meaning.specs.Rows.{most, inOrder, few, many, short}
+use Rattle.meaning.specs.Rows.{most, inOrder, belowTwo, aboveMost, tooShort}
 use Rattle.meaning.proofs.Chains.{parts}
-use Rattle.meaning.proofs.Rows.{test-passed, many-passed, short-passed}
+use Rattle.meaning.proofs.Rows.{test-passed, above-most-passed, too-short-passed}
 use Rattle.models.specs.Prepared.{readyDemand}
 use Rattle.models.specs.Refusals.{spectrumTests, tableDemand, shortTable}
 use Rattle.models.proofs.Passed.{spectrum-passed}
@@ -26,14 +26,14 @@ pub record RunsPassed (p : Problem) (runs : ℕ) (lent : Lent) : Type 0 where
 pub runs-passed : (p : Problem) (runs : ℕ) (lent : Lent) → 0 ≡ firstOf (shortRuns p runs lent) → RunsPassed p runs lent
 unfolding shortRuns
 runs-passed p runs lent z =
-    let last = short (lent .stopped) runs ∷ [] in
-    let next = short (lent .iterations) runs ∷ last in
-    let one = parts (short (lent .simplexes) (runs * (widthOf p * widthOf p))) (inOrder next) refl z in
-    let two = parts (short (lent .iterations) runs) (inOrder last) refl (one .1) in
+    let last = tooShort (lent .stopped) runs ∷ [] in
+    let next = tooShort (lent .iterations) runs ∷ last in
+    let one = parts (tooShort (lent .simplexes) (runs * (widthOf p * widthOf p))) (inOrder next) refl z in
+    let two = parts (tooShort (lent .iterations) runs) (inOrder last) refl (one .1) in
     record {
-      simplexes-room = short-passed (lent .simplexes) (runs * (widthOf p * widthOf p)) (one .0);
-      iterations-room = short-passed (lent .iterations) runs (two .0);
-      stopped-room = short-passed (lent .stopped) runs (two .1);
+      simplexes-room = too-short-passed (lent .simplexes) (runs * (widthOf p * widthOf p)) (one .0);
+      iterations-room = too-short-passed (lent .iterations) runs (two .0);
+      stopped-room = too-short-passed (lent .stopped) runs (two .1);
     }
 
 pub record SearchPassed (bins : List ℕ) (p : Problem) (runs : ℕ) (wrong : Bool) (lent : Lent) : Type 0 where
@@ -53,24 +53,24 @@ search-passed bins p runs wrong lent z =
     let lows = p .peak ∷ length bins ∷ [] in
     let highs = length bins ∷ p .peak ∷ end ∷ runs ∷ [] in
     let last = shortRuns p runs lent ∷ [] in
-    let ready = short (lent .ready) (readyDemand end) ∷ last in
+    let ready = tooShort (lent .ready) (readyDemand end) ∷ last in
     let table = shortTable (p .genome) end (lent .table) ∷ ready in
     let wrongs = wrongStarts wrong ∷ table in
     let spectrum = spectrumTests bins (p .scale) end ∷ wrongs in
-    let fews = parts (few lows) (inOrder (many highs ∷ spectrum)) refl z in
-    let manys = parts (many highs) (inOrder spectrum) refl (fews .1) in
+    let fews = parts (belowTwo lows) (inOrder (aboveMost highs ∷ spectrum)) refl z in
+    let manys = parts (aboveMost highs) (inOrder spectrum) refl (fews .1) in
     let spectra = parts (spectrumTests bins (p .scale) end) (inOrder wrongs) (unfold spectrumTests in refl) (manys .1) in
     let starts = parts (wrongStarts wrong) (inOrder table) refl (spectra .1) in
     let tables = parts (shortTable (p .genome) end (lent .table)) (inOrder ready) refl (starts .1) in
-    let readies = parts (short (lent .ready) (readyDemand end)) (inOrder last) refl (tables .1) in
+    let readies = parts (tooShort (lent .ready) (readyDemand end)) (inOrder last) refl (tables .1) in
     let runs-only = parts (shortRuns p runs lent) [] (unfold shortRuns in refl) (readies .1) in
-    let (bins-most, (peak-most, (end-most, (runs-most, none)))) = many-passed highs (manys .0) in
+    let (bins-most, (peak-most, (end-most, (runs-most, none)))) = above-most-passed highs (manys .0) in
     record {
       end-few = end-most;
       end-some = spectrum-passed bins (p .scale) end (spectra .0) .end-some;
       runs-few = runs-most;
       none-wrong = test-passed wrong 7 (omega arith) (starts .0);
-      table-room = short-passed (lent .table) (tableDemand (p .genome) end) (tables .0);
-      ready-room = short-passed (lent .ready) (readyDemand end) (readies .0);
+      table-room = too-short-passed (lent .table) (tableDemand (p .genome) end) (tables .0);
+      ready-room = too-short-passed (lent .ready) (readyDemand end) (readies .0);
       each-run = runs-passed p runs lent (runs-only .0);
     }

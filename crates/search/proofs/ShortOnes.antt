@@ -9,9 +9,9 @@ use native.Mathlib.Omega.{arith}
 use borrow.Author.Tests.{ltb-false, lt-ltb, le-ltb}
 use lib.Dec.{ltb}
 use Rattle.meaning.specs.Reply.{test, firstOf}
-use Rattle.meaning.specs.Rows.{most, inOrder, many, short}
+use Rattle.meaning.specs.Rows.{most, inOrder, aboveMost, tooShort}
 use Rattle.meaning.proofs.Chains.{parts}
-use Rattle.meaning.proofs.Rows.{Some, Each, test-passed, many-passed, short-passed}
+use Rattle.meaning.proofs.Rows.{Some, Each, test-passed, above-most-passed, too-short-passed}
 use Rattle.search.specs.Reporting.{shortOnes, reportTests}
 use Rattle.search.specs.declared.reporting.Columns.{Columns}
 
@@ -50,10 +50,10 @@ pub report-passed : (w runs : ℕ) (c : Columns) → 0 ≡ firstOf (reportTests 
 unfolding reportTests
 report-passed w runs c z =
     let last = shortOnes (rooms c) runs ∷ [] in
-    let manys = parts (many (runs ∷ [])) (inOrder (short (c .simplexes) (runs * (w * w)) ∷ last)) refl z in
-    let wide = parts (short (c .simplexes) (runs * (w * w))) (inOrder last) refl (manys .1) in
+    let manys = parts (aboveMost (runs ∷ [])) (inOrder (tooShort (c .simplexes) (runs * (w * w)) ∷ last)) refl z in
+    let wide = parts (tooShort (c .simplexes) (runs * (w * w))) (inOrder last) refl (manys .1) in
     record {
-      runs-few = many-passed (runs ∷ []) (manys .0) .0;
-      simplexes-room = short-passed (c .simplexes) (runs * (w * w)) (wide .0);
+      runs-few = above-most-passed (runs ∷ []) (manys .0) .0;
+      simplexes-room = too-short-passed (c .simplexes) (runs * (w * w)) (wide .0);
       each-room = ones-passed runs (rooms c) (wide .1);
     }

@@ -10,7 +10,7 @@ use lib.Ieee.{Float}
 use Rattle.meaning.specs.Lent.{onGive}
 use Rattle.meaning.specs.Over.{over}
 use Rattle.meaning.specs.Reply.{Reply, refuse, broken, give, firstOf}
-use Rattle.meaning.specs.Rows.{most, short, inOrder}
+use Rattle.meaning.specs.Rows.{most, tooShort, inOrder}
 use Rattle.meaning.proofs.Overs.{over-stands}
 use Rattle.meaning.proofs.Chains.{parts, gave-passed}
 use Rattle.routines.specs.Ops.{ofCount}
@@ -61,7 +61,7 @@ module _ (bins : List ℕ) (scale : Float) (end peak : ℕ) (error : ErrorModel)
       let z = gave-passed _ v (preparedTests bins scale end peak error genome (length list) room (length ready)) e in
       let both =
       parts (fitTests bins scale end peak error genome (length list) room)
-      (inOrder (short (length ready) (readyDemand end) ∷ [])) refl z in
+      (inOrder (tooShort (length ready) (readyDemand end) ∷ [])) refl z in
       passed bins scale end peak error genome (length list) room (both .0) .end-few
 
   pub prepared-stands : (held : List Float)

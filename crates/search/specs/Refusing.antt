@@ -6,7 +6,7 @@ use mathlib.Core.Bool.{Bool}
 use mathlib.Core.List.{List, [], _∷_}
 use lib.ListN.{length}
 use Rattle.meaning.specs.Reply.{Test, test}
-use Rattle.meaning.specs.Rows.{inOrder, few, many, short}
+use Rattle.meaning.specs.Rows.{inOrder, belowTwo, aboveMost, tooShort}
 use Rattle.models.specs.Prepared.{readyDemand}
 use Rattle.models.specs.Refusals.{spectrumTests, shortTable}
 use Rattle.search.specs.Prices.{widthOf}
@@ -21,19 +21,19 @@ wrongStarts wrong = test wrong 7 ∷ []
 unfoldable pub shortRuns : Problem → ℕ → Lent → List Test
 shortRuns p runs lent =
     inOrder
-    (short (lent .simplexes) (runs * (widthOf p * widthOf p))
-    ∷ short (lent .iterations) runs
-    ∷ short (lent .stopped) runs
+    (tooShort (lent .simplexes) (runs * (widthOf p * widthOf p))
+    ∷ tooShort (lent .iterations) runs
+    ∷ tooShort (lent .stopped) runs
     ∷ [])
 
 unfoldable pub searchTests : List ℕ → Problem → ℕ → Bool → Lent → List Test
 searchTests bins p runs wrong lent =
     inOrder
-    (few (p .peak ∷ length bins ∷ [])
-    ∷ many (length bins ∷ p .peak ∷ p .«window_end» ∷ runs ∷ [])
+    (belowTwo (p .peak ∷ length bins ∷ [])
+    ∷ aboveMost (length bins ∷ p .peak ∷ p .«window_end» ∷ runs ∷ [])
     ∷ spectrumTests bins (p .scale) (p .«window_end»)
     ∷ wrongStarts wrong
     ∷ shortTable (p .genome) (p .«window_end») (lent .table)
-    ∷ short (lent .ready) (readyDemand (p .«window_end»))
+    ∷ tooShort (lent .ready) (readyDemand (p .«window_end»))
     ∷ shortRuns p runs lent
     ∷ [])

@@ -12,7 +12,7 @@ use lib.Ieee.Scale.{finite}
 use Rattle.meaning.specs.Flags.{isSet}
 use Rattle.meaning.specs.Fold.{fold}
 use Rattle.meaning.specs.Reply.{Reply, give, Test, test, chain}
-use Rattle.meaning.specs.Rows.{inOrder, many, short}
+use Rattle.meaning.specs.Rows.{inOrder, aboveMost, tooShort}
 use Rattle.models.specs.Families.{listLengthOf}
 use Rattle.models.specs.declared.families.ErrorModel.{ErrorModel}
 use Rattle.models.specs.declared.families.GenomeModel.{GenomeModel}
@@ -61,8 +61,8 @@ shortOnes (room ∷ rooms) need = test (ltb room need) 10 ∷ shortOnes rooms ne
 unfoldable pub reportTests : ℕ → ℕ → Columns → List Test
 reportTests w runs c =
     inOrder
-    (many (runs ∷ [])
-    ∷ short (c .simplexes) (runs * (w * w))
+    (aboveMost (runs ∷ [])
+    ∷ tooShort (c .simplexes) (runs * (w * w))
     ∷ shortOnes
     (c .iterations ∷ c .stopped ∷ c .converged ∷ c .costs ∷ c .places ∷ c .lengths ∷ c .caps ∷ []) runs
     ∷ [])

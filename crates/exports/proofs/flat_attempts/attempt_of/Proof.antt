@@ -1,5 +1,5 @@
 -- `exports::flat_attempts::attempt_of` meets its contract. Assumes nothing.
-use Rattle.exports.specs.FlatAttempts.{attemptFrom}
+use Rattle.exports.specs.FlatAttempts.{attemptOfFlat}
 use borrow.Author.Needs.{needs}
 use Rattle.exports.proofs.flat_attempts.attempt_of.Statement.{statement}
 use Rattle.exports.proofs.flat_attempts.attempt_of.Tie as tie
@@ -20,7 +20,7 @@ make-attempt-requires : tie.Need-make-attempt-requires
 make-attempt-requires c κs = search needs
 
 returns : tie.Need-returns
-unfolding attemptFrom
+unfolding attemptOfFlat
 returns c =
     let rejected = c .before .before in
     let fitted = rejected .before in

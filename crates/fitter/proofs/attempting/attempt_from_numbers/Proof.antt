@@ -4,7 +4,7 @@ use mathlib.Core.Path.{_≡_, ap, _∙_}
 use borrow.Author.Needs.{needs}
 use lib.ListN.{length}
 use Rattle.fitter.specs.Columns.{countOfRuns, runOf}
-use Rattle.fitter.specs.Judging.{retriedOf}
+use Rattle.fitter.specs.Retrying.{retriedOf}
 use Rattle.fitter.specs.Settling.{withHeld, finishOf, surveyed, settled}
 use Rattle.fitter.specs.declared.runs.Run.{Run}
 use Rattle.fitter.proofs.Answered.{survey-is, settled-is, one-pass, two-passes, one-stands, two-stand}

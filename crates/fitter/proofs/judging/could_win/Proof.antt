@@ -1,6 +1,6 @@
 -- `fitter::judging::could_win` meets its contract. Assumes nothing.
 use mathlib.Core.Path.{sym, _∙_}
-use Rattle.fitter.specs.Judging.{couldWin}
+use Rattle.fitter.specs.Retrying.{couldWin}
 use borrow.Author.Needs.{needs}
 use Rattle.fitter.proofs.judging.could_win.Statement.{statement}
 use Rattle.fitter.proofs.judging.could_win.Tie as tie

@@ -14,8 +14,8 @@ unpack-requires c κs = search needs
 judge-requires : tie.Need-judge-requires
 judge-requires c κs = search needs
 
-rejection-of-requires : tie.Need-rejection-of-requires
-rejection-of-requires c κs = search needs
+rejection-of-verdict-requires : tie.Need-rejection-of-verdict-requires
+rejection-of-verdict-requires c κs = search needs
 
 same-length : tie.Need-same-length
 same-length c = search needs
@@ -28,7 +28,7 @@ returns c =
     let a = listed .before .before .before .before .args in
     let u = a .setup in (
       judged-is (a .bins .now) u (a .lists .now) _ (a .run) _ _ (judged .judge .result) _ (listed .list-at .ensures)
-          (unpacked .unpack .ensures .0) (judged .judge .ensures) (c .rejection-of .ensures),
+          (unpacked .unpack .ensures .0) (judged .judge .ensures) (c .rejection-of-verdict .ensures),
       unpacked-stands (a .bins .now) (u .scale) (u .«window_end») (u .peak) (u .error) (u .genome) _ (a .run .cost)
           (a .run .iterations) (a .table .now) _ (unpacked .unpack .ensures .1),
     )
@@ -40,6 +40,6 @@ judge-run-spec =
     list-at-requires
     unpack-requires
     judge-requires
-    rejection-of-requires
+    rejection-of-verdict-requires
     same-length
     returns)

@@ -4,9 +4,9 @@ use mathlib.Core.Bool.{Bool, true, false}
 use borrow.Author.Needs.{needs}
 use lib.ListN.{length}
 use Rattle.fitter.specs.Attempts.{unrejected}
-use Rattle.fitter.specs.Judging.{judgedOf}
+use Rattle.fitter.specs.Judging.{judgedFitOf}
 use Rattle.fitter.specs.Surveys.{bestOf}
-use Rattle.fitter.specs.declared.judging.Judged.{Judged}
+use Rattle.fitter.specs.declared.judging.JudgedFit.{JudgedFit}
 use Rattle.fitter.proofs.Judgements.{passed-by, looked-at, from-not, from-not-not}
 use Rattle.fitter.proofs.judging.retry_run.Statement.{statement}
 use Rattle.fitter.proofs.judging.retry_run.Tie as tie
@@ -71,10 +71,10 @@ module _ (u : tie.After-is-unrejected) where
   from = start (point .before .before)
 
   verdict : (b : Bool) → u .is-unrejected .result ≡ b
-      → unrejected (judgedOf (from .args .bins .now) (from .args .setup) (from .args .lists .now)
+      → unrejected (judgedFitOf (from .args .bins .now) (from .args .setup) (from .args .lists .now)
       (length (from .args .table .now)) (from .args .run) .rejection) ≡ b
   verdict b e =
-      sym (ap (λ (j : Judged). unrejected (j .rejection)) (judged .judge-run .ensures .0))
+      sym (ap (λ (j : JudgedFit). unrejected (j .rejection)) (judged .judge-run .ensures .0))
       ∙ sym (u .is-unrejected .ensures) ∙ e
 
 returns-3 : tie.Need-returns-3
@@ -99,7 +99,7 @@ returns-4 c =
     let g = point u .point .given in
     let p = point u .before .before in
     let a = from u .args in (
-      ap (λ (j : Judged). record { best = bestOf (a .position) (a .run); judged = j }) (judged u .judge-run .ensures .0)
+      ap (λ (j : JudgedFit). record { best = bestOf (a .position) (a .run); judged = j }) (judged u .judge-run .ensures .0)
           ∙ looked-at (a .bins .now) (a .setup) (a .lists .now) _ (a .position) (a .run) (a .held) (g .0 .0) (g .0 .1 .0)
           true true (sym (g .1) ∙ p .run-point .ensures)
           (sym (win u .could-win .ensures) ∙ from-not-not (judged u .before .before .if1 .left))

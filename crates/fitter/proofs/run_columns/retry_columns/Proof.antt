@@ -6,7 +6,7 @@ use borrow.Author.Needs.{needs}
 use lib.ListN.{length, drop}
 use Rattle.meaning.proofs.Loops.{Folded, begins, goes-on, ends}
 use Rattle.fitter.specs.Columns.{runOf}
-use Rattle.fitter.specs.Judging.{tableFrom, retryStep, retriedOf}
+use Rattle.fitter.specs.Retrying.{tableFrom, retryStep, retriedOf}
 use Rattle.fitter.specs.declared.judging.Held.{Held}
 use Rattle.fitter.specs.declared.runs.Run.{Run}
 use Rattle.fitter.proofs.run_columns.retry_columns.Statement.{statement}

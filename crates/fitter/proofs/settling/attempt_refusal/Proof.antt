@@ -9,14 +9,14 @@ use borrow.Author.Needs.{needs}
 use borrow.Author.Tests.{ltb-true, ltb-false}
 use lib.ListN.{length}
 use Rattle.meaning.specs.Reply.{Test, test, firstOf}
-use Rattle.meaning.specs.Rows.{most, inOrder, few, many}
+use Rattle.meaning.specs.Rows.{most, inOrder, belowTwo, aboveMost}
 use Rattle.meaning.proofs.Chains.{stops, goes-on}
-use Rattle.meaning.proofs.Rows.{Some, few-clear, few-found, many-clear, many-found}
+use Rattle.meaning.proofs.Rows.{Some, below-two-clear, below-two-found, above-most-clear, above-most-found}
 use Rattle.models.specs.Refusals.{spectrumTests, shortTable}
 use Rattle.models.proofs.Asked.{spectrum-number, table-number}
 use Rattle.models.proofs.Passed.{spectrum-passed}
 use Rattle.fitter.specs.Validation.{outsideLimit}
-use Rattle.fitter.specs.Attempting.{wrongRuns, badRuns, setupTests, surveyTests}
+use Rattle.fitter.specs.Attempting.{wrongLists, wrongCosts, setupTests, surveyTests}
 use Rattle.fitter.proofs.settling.attempt_refusal.Statement.{statement}
 use Rattle.fitter.proofs.settling.attempt_refusal.Tie as tie
 
@@ -43,7 +43,7 @@ module _ (s : tie.Start) where
   runs = test (s .args .survey .wrong) 7 ∷ test (s .args .survey .bad) 9 ∷ []
 
   abbrev after-spectrum : List (List Test)
-  after-spectrum = wrongRuns (s .args .survey .wrong) ∷ badRuns (s .args .survey .bad) ∷ after-bad
+  after-spectrum = wrongLists (s .args .survey .wrong) ∷ wrongCosts (s .args .survey .bad) ∷ after-bad
 
   abbrev after-high : List (List Test)
   after-high = spectrum ∷ after-spectrum
@@ -67,15 +67,16 @@ returns c =
     ⊎-elim (λ t. inl (t .taken))
     (⊎-elim (λ t. inr (inl (ltb-true _ _ (t .1 .taken)))) (λ t. inr (inr (inl (ltb-true _ _ (t .2 .taken))))))
     (c .if1 .came) in
-    stops (few (lows s)) (inOrder (many (highs s) ∷ after-high s)) 1 (few-found (lows s) which) (omega arith)
+    stops (belowTwo (lows s)) (inOrder (aboveMost (highs s) ∷ after-high s)) 1 (below-two-found (lows s) which)
+    (omega arith)
 
-past-low : (c : tie.Else3) → Number (start-low c) (many (highs (start-low c)) ∷ after-high (start-low c))
+past-low : (c : tie.Else3) → Number (start-low c) (aboveMost (highs (start-low c)) ∷ after-high (start-low c))
 unfolding setupTests
 past-low c =
     let s = start-low c in
-    let none = few-clear (lows s)
+    let none = below-two-clear (lows s)
     (c .before .before .if1 .left, (ltb-false _ _ (c .before .if2 .left), (ltb-false _ _ (c .if3 .left), tt))) in
-    goes-on (few (lows s)) (inOrder (many (highs s) ∷ after-high s)) refl none
+    goes-on (belowTwo (lows s)) (inOrder (aboveMost (highs s) ∷ after-high s)) refl none
 
 -- ---- 2
 returns-2 : tie.Need-returns-2
@@ -89,7 +90,7 @@ returns-2 c =
     (λ t. inr (inr (inr (inr (inl (ltb-true _ _ (t .4 .taken))))))))))
     (c .if4 .came) in
     past-low (c .before) 2
-    (stops (many (highs s)) (inOrder (after-high s)) 2 (many-found (highs s) which) (omega arith))
+    (stops (aboveMost (highs s)) (inOrder (after-high s)) 2 (above-most-found (highs s) which) (omega arith))
 
 abbrev low : tie.Else8 → tie.Else3
 low c = c .before .before .before .before .before
@@ -100,7 +101,7 @@ past-high c n h =
     let e7 = c .before in
     let e6 = e7 .before in
     let e5 = e6 .before in
-    let none = many-clear (highs s) (
+    let none = above-most-clear (highs s) (
       e5 .before .if4 .left,
       (
         ltb-false _ _ (e5 .if5 .left),
@@ -110,7 +111,7 @@ past-high c n h =
         ),
       ),
     ) in
-    past-low (low c) n (goes-on (many (highs s)) (inOrder (after-high s)) refl none n h)
+    past-low (low c) n (goes-on (aboveMost (highs s)) (inOrder (after-high s)) refl none n h)
 
 -- ---- 4, 5 and 6
 spectrum-refusal-requires : tie.Need-spectrum-refusal-requires

@@ -4,7 +4,7 @@ use Prim.Native.Nat.{ℕ, zero, suc}
 use mathlib.Core.Path.{_≡_, sym, ap, _∙_}
 use mathlib.Core.List.{List, [], _∷_}
 use Rattle.meaning.specs.Reply.{give, Test, firstOf}
-use Rattle.fitter.specs.Validation.{rules, judged, verdictOf}
+use Rattle.fitter.specs.Validation.{rules, judgementAt, verdictOf}
 use Rattle.fitter.proofs.Either.{applies, passes}
 use borrow.Author.Needs.{needs}
 use Rattle.fitter.proofs.validation.judge.Statement.{statement}
@@ -24,8 +24,8 @@ module _ (s : tie.Start) where
   abbrev Past : ℕ → Type 0
   Past k = firstOf all ≡ firstOf (from k all)
 
-  said : {n : ℕ} → firstOf all ≡ n → give (judged n) ≡ give (judged (firstOf all))
-  said e = ap (λ (k : ℕ). give (judged k)) (sym e)
+  said : {n : ℕ} → firstOf all ≡ n → give (judgementAt n) ≡ give (judgementAt (firstOf all))
+  said e = ap (λ (k : ℕ). give (judgementAt k)) (sym e)
 
 -- ---- 1
 returns : tie.Need-returns

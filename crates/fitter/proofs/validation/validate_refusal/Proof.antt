@@ -8,9 +8,9 @@ use native.Mathlib.Omega.{arith}
 use borrow.Author.Needs.{needs}
 use borrow.Author.Tests.{eq-eqb, ne-eqb}
 use Rattle.meaning.specs.Reply.{Test, firstOf}
-use Rattle.meaning.specs.Rows.{most, inOrder, few, many, noWindow}
+use Rattle.meaning.specs.Rows.{most, inOrder, belowTwo, aboveMost, noWindow}
 use Rattle.meaning.proofs.Chains.{stops, goes-on}
-use Rattle.meaning.proofs.Rows.{Some, few-clear, few-found, many-clear, many-found}
+use Rattle.meaning.proofs.Rows.{Some, below-two-clear, below-two-found, above-most-clear, above-most-found}
 use Rattle.fitter.specs.Validation.{outsideLimit, validateTests}
 use Rattle.fitter.proofs.validation.validate_refusal.Statement.{statement}
 use Rattle.fitter.proofs.validation.validate_refusal.Tie as tie
@@ -30,7 +30,7 @@ module _ (s : tie.Start) where
   window = noWindow (s .args .window-end) ∷ limit
 
   abbrev high : List (List Test)
-  high = many highs ∷ window
+  high = aboveMost highs ∷ window
 
   abbrev all : List Test
   all = let a = s .args in validateTests (a .window-end) (a .valley) (a .peak) (a .mass-limit)
@@ -42,7 +42,7 @@ module _ (s : tie.Start) where
 -- ---- 1
 too-low : (s : tie.Start) → Some (λ (n : ℕ). n < 2) (lows s) → 1 ≡ firstOf (all s)
 unfolding validateTests
-too-low s which = stops (few (lows s)) (inOrder (high s)) 1 (few-found (lows s) which) (omega arith)
+too-low s which = stops (belowTwo (lows s)) (inOrder (high s)) 1 (below-two-found (lows s) which) (omega arith)
 
 returns : tie.Need-returns
 returns c = too-low (c .before) (inl (c .if1 .taken))
@@ -57,13 +57,14 @@ past-low : (c : tie.Else2) → Number (start c) (high (start c))
 unfolding validateTests
 past-low c =
     let s = start c in
-    goes-on (few (lows s)) (inOrder (high s)) refl (few-clear (lows s) (c .before .if1 .left, (c .if2 .left, tt)))
+    goes-on (belowTwo (lows s)) (inOrder (high s)) refl
+    (below-two-clear (lows s) (c .before .if1 .left, (c .if2 .left, tt)))
 
 -- ---- 2
 too-high : (c : tie.Else2) → Some (λ (n : ℕ). most < n) (highs (start c)) → 2 ≡ firstOf (all (start c))
 too-high c which =
     let s = start c in
-    past-low c 2 (stops (many (highs s)) (inOrder (window s)) 2 (many-found (highs s) which) (omega arith))
+    past-low c 2 (stops (aboveMost (highs s)) (inOrder (window s)) 2 (above-most-found (highs s) which) (omega arith))
 
 returns-3 : tie.Need-returns-3
 returns-3 c = too-high (c .before) (inl (c .if3 .taken))
@@ -80,8 +81,8 @@ low c = c .before .before .before
 past-high : (c : tie.Else5) → Number (start (low c)) (window (start (low c)))
 past-high c n h =
     let s = start (low c) in
-    let none = many-clear (highs s) (c .before .before .if3 .left, (c .before .if4 .left, (c .if5 .left, tt))) in
-    past-low (low c) n (goes-on (many (highs s)) (inOrder (window s)) refl none n h)
+    let none = above-most-clear (highs s) (c .before .before .if3 .left, (c .before .if4 .left, (c .if5 .left, tt))) in
+    past-low (low c) n (goes-on (aboveMost (highs s)) (inOrder (window s)) refl none n h)
 
 -- ---- 5
 returns-6 : tie.Need-returns-6

@@ -11,9 +11,9 @@ use borrow.Author.Tests.{eq-eqb, ne-eqb, ltb-true, ltb-false}
 use lib.Dec.{eqb}
 use lib.ListN.{length}
 use Rattle.meaning.specs.Reply.{Test, firstOf}
-use Rattle.meaning.specs.Rows.{most, inOrder, few, many}
+use Rattle.meaning.specs.Rows.{most, inOrder, belowTwo, aboveMost}
 use Rattle.meaning.proofs.Chains.{stops, goes-on}
-use Rattle.meaning.proofs.Rows.{Some, few-clear, few-found, many-clear, many-found}
+use Rattle.meaning.proofs.Rows.{Some, below-two-clear, below-two-found, above-most-clear, above-most-found}
 use Rattle.models.specs.Refusals.{spectrumTests, wrongList, shortTable, fitTests}
 use Rattle.models.proofs.refusals.fit_refusal.Statement.{statement}
 use Rattle.models.proofs.refusals.fit_refusal.Tie as tie
@@ -30,10 +30,10 @@ module _ (s : tie.Start) where
   highs = bins ∷ s .args .peak ∷ s .args .window-end ∷ []
 
   abbrev low : List Test
-  low = few lows
+  low = belowTwo lows
 
   abbrev high : List Test
-  high = many highs
+  high = aboveMost highs
 
   abbrev spectrum : List Test
   spectrum = let a = s .args in spectrumTests (a .bins .now) (a .scale) (a .window-end)
@@ -69,13 +69,13 @@ returns c =
     let s = c .before .before in
     let which : Some (λ (n : ℕ). n < 2) (lows s) =
     ⊎-elim (λ t. inl (t .taken)) (λ t. inr (inl (ltb-true _ _ (t .1 .taken)))) (c .if1 .came) in
-    stops (low s) (inOrder (high s ∷ after-high s)) 1 (few-found (lows s) which) (omega arith)
+    stops (low s) (inOrder (high s ∷ after-high s)) 1 (below-two-found (lows s) which) (omega arith)
 
 past-low : (c : tie.Else2) → Number (start-low c) (high (start-low c) ∷ after-high (start-low c))
 unfolding fitTests
 past-low c =
     let s = start-low c in
-    let none = few-clear (lows s) (c .before .if1 .left, (ltb-false _ _ (c .if2 .left), tt)) in
+    let none = below-two-clear (lows s) (c .before .if1 .left, (ltb-false _ _ (c .if2 .left), tt)) in
     goes-on (low s) (inOrder (high s ∷ after-high s)) refl none
 
 -- ---- 2
@@ -86,7 +86,7 @@ returns-2 c =
     ⊎-elim (λ t. inl (t .taken))
     (⊎-elim (λ t. inr (inl (ltb-true _ _ (t .1 .taken)))) (λ t. inr (inr (inl (ltb-true _ _ (t .2 .taken))))))
     (c .if3 .came) in
-    past-low (c .before) 2 (stops (high s) (inOrder (after-high s)) 2 (many-found (highs s) which) (omega arith))
+    past-low (c .before) 2 (stops (high s) (inOrder (after-high s)) 2 (above-most-found (highs s) which) (omega arith))
 
 abbrev start-high : tie.Else5 → tie.Start
 start-high c = start-low (c .before .before .before)
@@ -94,7 +94,7 @@ start-high c = start-low (c .before .before .before)
 past-high : (c : tie.Else5) → Number (start-high c) (after-high (start-high c))
 past-high c n h =
     let s = start-high c in
-    let none = many-clear (highs s)
+    let none = above-most-clear (highs s)
     (c .before .before .if3 .left, (ltb-false _ _ (c .before .if4 .left), (ltb-false _ _ (c .if5 .left), tt))) in
     past-low (c .before .before .before) n (goes-on (high s) (inOrder (after-high s)) refl none n h)
 

@@ -10,9 +10,9 @@ use borrow.Author.Needs.{needs}
 use borrow.Author.Tests.{lt-ltb, le-ltb, ltb-true, ltb-false}
 use lib.ListN.{length}
 use Rattle.meaning.specs.Reply.{Test, firstOf}
-use Rattle.meaning.specs.Rows.{most, inOrder, few, many, short}
+use Rattle.meaning.specs.Rows.{most, inOrder, belowTwo, aboveMost, tooShort}
 use Rattle.meaning.proofs.Chains.{stops, goes-on}
-use Rattle.meaning.proofs.Rows.{Some, few-clear, few-found, many-clear, many-found}
+use Rattle.meaning.proofs.Rows.{Some, below-two-clear, below-two-found, above-most-clear, above-most-found}
 use Rattle.models.specs.Prepared.{readyDemand}
 use Rattle.models.specs.Refusals.{spectrumTests, shortTable}
 use Rattle.models.proofs.Asked.{spectrum-number, table-number}
@@ -39,7 +39,7 @@ module _ (s : tie.Start) where
   table = let p = s .args .problem in shortTable (p .genome) (p .«window_end») (s .args .lent .table)
 
   abbrev ready : List Test
-  ready = let a = s .args in short (a .lent .ready) (readyDemand (a .problem .«window_end»))
+  ready = let a = s .args in tooShort (a .lent .ready) (readyDemand (a .problem .«window_end»))
 
   abbrev runs : List (List Test)
   runs = let a = s .args in shortRuns (a .problem) (a .runs) (a .lent) ∷ []
@@ -73,14 +73,15 @@ returns c =
     let s = c .before .before .before in
     let which : Some (λ (n : ℕ). n < 2) (lows s) =
     ⊎-elim (λ t. inl (t .taken)) (λ t. inr (inl (ltb-true _ _ (t .1 .taken)))) (c .if1 .came) in
-    stops (few (lows s)) (inOrder (many (highs s) ∷ after-high s)) 1 (few-found (lows s) which) (omega arith)
+    stops (belowTwo (lows s)) (inOrder (aboveMost (highs s) ∷ after-high s)) 1 (below-two-found (lows s) which)
+    (omega arith)
 
-past-low : (c : tie.Else2) → Number (start-low c) (many (highs (start-low c)) ∷ after-high (start-low c))
+past-low : (c : tie.Else2) → Number (start-low c) (aboveMost (highs (start-low c)) ∷ after-high (start-low c))
 unfolding searchTests
 past-low c =
     let s = start-low c in
-    let none = few-clear (lows s) (c .before .if1 .left, (ltb-false _ _ (c .if2 .left), tt)) in
-    goes-on (few (lows s)) (inOrder (many (highs s) ∷ after-high s)) refl none
+    let none = below-two-clear (lows s) (c .before .if1 .left, (ltb-false _ _ (c .if2 .left), tt)) in
+    goes-on (belowTwo (lows s)) (inOrder (aboveMost (highs s) ∷ after-high s)) refl none
 
 -- ---- 2
 returns-2 : tie.Need-returns-2
@@ -92,7 +93,8 @@ returns-2 c =
     (⊎-elim (λ t. inr (inr (inl (ltb-true _ _ (t .4 .taken)))))
     (λ t. inr (inr (inr (inl (ltb-true _ _ (t .5 .taken))))))))
     (c .if3 .came) in
-    past-low (c .before) 2 (stops (many (highs s)) (inOrder (after-high s)) 2 (many-found (highs s) which) (omega arith))
+    past-low (c .before) 2
+    (stops (aboveMost (highs s)) (inOrder (after-high s)) 2 (above-most-found (highs s) which) (omega arith))
 
 abbrev low : tie.Else6 → tie.Else2
 low c = c .before .before .before .before .before .before
@@ -106,9 +108,9 @@ past-high c n h =
     let e5 = c .before in
     let e4 = e5 .before .before in
     let e3 = e4 .before .before in
-    let none = many-clear (highs s)
+    let none = above-most-clear (highs s)
     (e3 .if3 .left, (ltb-false _ _ (e4 .if4 .left), (ltb-false _ _ (e5 .if5 .left), (ltb-false _ _ (c .if6 .left), tt)))) in
-    past-low (low c) n (goes-on (many (highs s)) (inOrder (after-high s)) refl none n h)
+    past-low (low c) n (goes-on (aboveMost (highs s)) (inOrder (after-high s)) refl none n h)
 
 -- ---- 4, 5 and 6
 spectrum-refusal-requires : tie.Need-spectrum-refusal-requires

@@ -8,9 +8,9 @@ use native.Mathlib.Nat.{mul-le-mul}
 use native.Mathlib.Omega.{arith}
 use borrow.Author.Tests.{lt-ltb, le-ltb, ltb-true, ltb-false}
 use Rattle.meaning.specs.Reply.{Test, firstOf}
-use Rattle.meaning.specs.Rows.{inOrder, many, short}
+use Rattle.meaning.specs.Rows.{inOrder, aboveMost, tooShort}
 use Rattle.meaning.proofs.Chains.{stops, goes-on}
-use Rattle.meaning.proofs.Rows.{Some, Each, many-clear, many-found}
+use Rattle.meaning.proofs.Rows.{Some, Each, above-most-clear, above-most-found}
 use Rattle.search.specs.Reporting.{shortOnes, reportTests}
 use Rattle.search.proofs.ShortOnes.{rooms, ones-clear, ones-found}
 use Rattle.search.proofs.Widths.{runs-few}
@@ -23,7 +23,7 @@ module _ (s : tie.Start) where
   ones = shortOnes (rooms (s .args .lent)) (s .args .runs) ∷ []
 
   abbrev wide : List Test
-  wide = let a = s .args in short (a .lent .simplexes) (a .runs * (a .w * a .w))
+  wide = let a = s .args in tooShort (a .lent .simplexes) (a .runs * (a .w * a .w))
 
   -- the number of these last rows is that of all
   abbrev Number : List (List Test) → Type 0
@@ -34,15 +34,16 @@ returns : tie.Need-returns
 unfolding reportTests
 returns c =
     let s = c .before in
-    stops (many (s .args .runs ∷ [])) (inOrder (wide s ∷ ones s)) 2 (many-found (s .args .runs ∷ []) (inl (c .if1 .taken)))
+    stops (aboveMost (s .args .runs ∷ [])) (inOrder (wide s ∷ ones s)) 2
+    (above-most-found (s .args .runs ∷ []) (inl (c .if1 .taken)))
     (omega arith)
 
 past-many : (c : tie.Else1) → Number (c .before) (wide (c .before) ∷ ones (c .before))
 unfolding reportTests
 past-many c =
     let s = c .before in
-    let none = many-clear (s .args .runs ∷ []) (c .if1 .left, tt) in
-    goes-on (many (s .args .runs ∷ [])) (inOrder (wide s ∷ ones s)) refl none
+    let none = above-most-clear (s .args .runs ∷ []) (c .if1 .left, tt) in
+    goes-on (aboveMost (s .args .runs ∷ [])) (inOrder (wide s ∷ ones s)) refl none
 
 -- ---- 10 of the simplexes
 few : (s : tie.Start) → s .args .w * s .args .w ≤ 144

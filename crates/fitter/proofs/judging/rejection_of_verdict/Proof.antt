@@ -1,7 +1,7 @@
--- `fitter::judging::rejection_of` meets its contract. Assumes nothing.
+-- `fitter::judging::rejection_of_verdict` meets its contract. Assumes nothing.
 use borrow.Author.Needs.{needs}
-use Rattle.fitter.proofs.judging.rejection_of.Statement.{statement}
-use Rattle.fitter.proofs.judging.rejection_of.Tie as tie
+use Rattle.fitter.proofs.judging.rejection_of_verdict.Statement.{statement}
+use Rattle.fitter.proofs.judging.rejection_of_verdict.Tie as tie
 
 enum-told : tie.Need-enum-told
 enum-told c = search needs
@@ -21,6 +21,6 @@ returns-2 c = rw (c .before .verdict .given .1)
 returns-3 : tie.Need-returns-3
 returns-3 c = rw (c .enum-told2 .given .1)
 
-pub rejection-of-spec : {M : Type 1} → statement M
-rejection-of-spec =
+pub rejection-of-verdict-spec : {M : Type 1} → statement M
+rejection-of-verdict-spec =
     tie.close (tie.spec enum-told enum-known-verdict enum-told-2 returns returns-2 returns-3)
