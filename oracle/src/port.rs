@@ -219,7 +219,7 @@ calls! {
     error_mode = fog_error_mode(fit: Fit) -> Count;
     component_heights = fog_component_heights(fit: Fit, count: usize) -> Heights;
     validate_fit = fog_validate_fit(fit: Fit, valley: usize, peak: usize, mass_limit: f64) -> Verdict;
-    is_valid = fog_is_valid(attempt: Attempt) -> bool;
+    is_valid = fog_is_valid(attempt: Attempt) -> u8;
     select_fit = fog_select_fit(first: Attempt, second: Attempt, third: Attempt, fourth: Attempt) -> Selected;
 }
 

@@ -150,7 +150,7 @@ fn both_orders() -> Vec<Own> {
                 let later = 1 + d.below(runs - 1) as usize;
                 let earlier = d.below(later as u64) as usize;
                 let (nine, seven) = if nine_first { (earlier, later) } else { (later, earlier) };
-                (t.converged[nine], t.converged[seven]) = (true, true);
+                (t.converged[nine], t.converged[seven]) = (1, 1);
                 t.costs[nine] = d.pick(&[f64::NAN, 0.0, -1.0]);
                 t.lengths[seven] = d.pick(&[12, 100]);
                 t

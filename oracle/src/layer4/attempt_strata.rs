@@ -123,7 +123,7 @@ fn kept() -> Vec<Own> {
             let tied = tied(t, |run| run.rule > 0);
             !ranked(t).iter().any(valid) && tied.iter().any(|&rule| rule != tied[0])
         }),
-        passed("none converged", 1_000, changed(|_, t| t.converged.fill(false)), |t| !t.runs().is_empty() && ranked(t).is_empty()),
+        passed("none converged", 1_000, changed(|_, t| t.converged.fill(0)), |t| !t.runs().is_empty() && ranked(t).is_empty()),
         passed(
             "no runs",
             500,
@@ -237,11 +237,31 @@ fn totals() -> Vec<Own> {
             move |t| sum(t).abs_diff(most) <= 1,
         ),
         passed("iterations of any size", 500, changed(|d, t| t.iterations.iter_mut().for_each(|n| *n = d.word() >> d.below(64))), |_| true),
-        passed("capped runs, converged and not", 1_000, changed(|d, t| t.caps.iter_mut().for_each(|cap| *cap = !d.one_in(4))), |t| {
-            let capped = |converged: bool| t.runs().iter().any(|run| run.capped && run.converged == converged);
-            capped(true) && capped(false)
-        }),
+        passed(
+            "capped runs, converged and not",
+            1_000,
+            changed(|d, t| t.caps.iter_mut().for_each(|cap| *cap = (!d.one_in(4)).into())),
+            |t| {
+                let capped = |converged: bool| t.runs().iter().any(|run| run.capped && run.converged == converged);
+                capped(true) && capped(false)
+            },
+        ),
     ]
+}
+
+// ---- a flag's bytes
+
+/// Every yes is a byte of 2 to 255.
+fn bytes() -> Vec<Own> {
+    let other = |d: &mut Draw, flag: &mut u8| *flag = if *flag == 0 { 0 } else { 2 + d.below(254) as u8 };
+    let draw = changed(move |d, t| {
+        t.converged.iter_mut().for_each(|flag| other(d, flag));
+        t.caps.iter_mut().for_each(|flag| other(d, flag));
+    });
+    vec![passed("converged and capped, by bytes of 2 to 255", 1_000, draw, |t| {
+        let some = |flags: &[u8]| flags.iter().any(|&flag| flag != 0);
+        some(&t.converged) && some(&t.caps) && t.converged.iter().chain(&t.caps).all(|&flag| flag != 1)
+    })]
 }
 
 // ---- what a run that did not converge may have
@@ -256,7 +276,7 @@ fn passed_over(name: &str, wanted: u64, spoil: fn(&mut Draw, &RunTable, Run) -> 
         t
     };
     over(name, wanted, draw, |t| {
-        let converged = t.clone().then(|t| t.converged.fill(true));
+        let converged = t.clone().then(|t| t.converged.fill(1));
         t.refusal().is_none() && matches!(converged.refusal(), Some(7 | 9))
     })
 }
@@ -303,5 +323,5 @@ fn ignored() -> Vec<Own> {
 }
 
 pub fn strata() -> Vec<Own> {
-    [kept(), reasons(), totals(), ignored()].into_iter().flatten().collect()
+    [kept(), reasons(), totals(), ignored(), bytes()].into_iter().flatten().collect()
 }

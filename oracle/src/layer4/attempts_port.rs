@@ -1,6 +1,6 @@
 //! The port's attempts over a run table, through the two forms of its C interface.
 
-use super::{Run, RunTable};
+use super::RunTable;
 use crate::port::Attempt;
 
 #[repr(C)]
@@ -24,12 +24,12 @@ struct Setup {
 /// A run as a struct.
 #[repr(C)]
 struct FlatRun {
-    converged: bool,
+    converged: u8,
     cost: f64,
     place: usize,
     length: usize,
     iterations: u64,
-    hit_cap: bool,
+    hit_cap: u8,
 }
 
 extern "C" {
@@ -43,7 +43,7 @@ extern "C" {
         error: u8,
         genome: u8,
         mass_limit: f64,
-        converged: *const bool,
+        converged: *const u8,
         converged_length: usize,
         costs: *const f64,
         costs_length: usize,
@@ -53,7 +53,7 @@ extern "C" {
         lengths_length: usize,
         iterations: *const u64,
         iterations_length: usize,
-        caps: *const bool,
+        caps: *const u8,
         caps_length: usize,
         lists: *const f64,
         lists_length: usize,
@@ -108,14 +108,14 @@ pub fn attempt_from_numbers(t: &RunTable, table: &mut [f64]) -> AttemptAnswer {
 }
 
 impl FlatRun {
-    fn of(run: Run) -> FlatRun {
+    fn of(t: &RunTable, i: usize) -> FlatRun {
         FlatRun {
-            converged: run.converged,
-            cost: run.cost,
-            place: run.place as usize,
-            length: run.length as usize,
-            iterations: run.iterations,
-            hit_cap: run.capped,
+            converged: t.converged[i],
+            cost: t.costs[i],
+            place: t.places[i] as usize,
+            length: t.lengths[i] as usize,
+            iterations: t.iterations[i],
+            hit_cap: t.caps[i],
         }
     }
 }
@@ -123,7 +123,7 @@ impl FlatRun {
 /// The same over run structs.
 pub fn attempt_from(t: &RunTable, table: &mut [f64]) -> AttemptAnswer {
     let (p, room) = (&t.problem, table.len());
-    let runs: Vec<FlatRun> = t.runs().into_iter().map(FlatRun::of).collect();
+    let runs: Vec<FlatRun> = (0..t.runs().len()).map(|i| FlatRun::of(t, i)).collect();
     let setup = Setup {
         scale: p.scale,
         window_end: p.window_end as usize,

@@ -10,12 +10,13 @@ pub struct RunTable {
     pub problem: Problem,
     pub valley: u64,
     pub mass_limit: f64,
-    pub converged: Vec<bool>,
+    /// A byte for each flag: 0 is no, and any other yes.
+    pub converged: Vec<u8>,
     pub costs: Vec<f64>,
     pub places: Vec<u64>,
     pub lengths: Vec<u64>,
     pub iterations: Vec<u64>,
-    pub caps: Vec<bool>,
+    pub caps: Vec<u8>,
 }
 
 /// One row of the table.
@@ -61,7 +62,7 @@ impl RunTable {
             at += 1 + column.len();
             column
         };
-        let flags = |column: Vec<u64>| column.into_iter().map(|word| word != 0).collect();
+        let flags = |column: Vec<u64>| column.into_iter().map(|word| word as u8).collect();
         RunTable {
             problem,
             valley: w[1],
@@ -88,12 +89,12 @@ impl RunTable {
 
     pub fn run(&self, i: usize) -> Run {
         Run {
-            converged: self.converged[i],
+            converged: self.converged[i] != 0,
             cost: self.costs[i],
             place: self.places[i],
             length: self.lengths[i],
             iterations: self.iterations[i],
-            capped: self.caps[i],
+            capped: self.caps[i] != 0,
         }
     }
 
@@ -171,27 +172,27 @@ impl RunTable {
     }
 
     pub fn push_row(&mut self, run: Run) {
-        self.converged.push(run.converged);
+        self.converged.push(run.converged.into());
         self.costs.push(run.cost);
         self.places.push(run.place);
         self.lengths.push(run.length);
         self.iterations.push(run.iterations);
-        self.caps.push(run.capped);
+        self.caps.push(run.capped.into());
     }
 
     pub fn put(&mut self, i: usize, run: Run) {
-        self.converged[i] = run.converged;
+        self.converged[i] = run.converged.into();
         self.costs[i] = run.cost;
         self.places[i] = run.place;
         self.lengths[i] = run.length;
         self.iterations[i] = run.iterations;
-        self.caps[i] = run.capped;
+        self.caps[i] = run.capped.into();
     }
 
     /// One of the runs, now converged.
     pub fn one(&mut self, d: &mut Draw) -> usize {
         let i = d.below(self.costs.len() as u64) as usize;
-        self.converged[i] = true;
+        self.converged[i] = 1;
         i
     }
 

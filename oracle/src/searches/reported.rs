@@ -139,7 +139,7 @@ impl Reported {
             r.iterations.push(if d.one_in(2) { about } else { d.below(cap) });
             r.stopped.push(if d.one_in(2) { 0 } else { d.below(256) as u8 });
         }
-        let flags = |d: &mut Draw| (0..n).map(|_| d.below(2) as u8).collect::<Vec<u8>>();
+        let flags = |d: &mut Draw| (0..n).map(|_| d.below(256) as u8).collect::<Vec<u8>>();
         (r.converged, r.caps) = (flags(d), flags(d));
         r.costs = (0..n).map(|_| d.any()).collect();
         (r.places, r.lengths) = ((0..n).map(|_| d.word()).collect(), (0..n).map(|_| d.word()).collect());
@@ -155,7 +155,7 @@ impl Reported {
             column.extend((0..more(d)).map(|_| d.word()));
         }
         for column in [&mut self.stopped, &mut self.converged, &mut self.caps] {
-            column.extend((0..more(d)).map(|_| d.below(2) as u8));
+            column.extend((0..more(d)).map(|_| d.below(256) as u8));
         }
     }
 }
