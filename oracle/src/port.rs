@@ -39,7 +39,7 @@ pub struct Logs3 {
 #[repr(C)]
 #[derive(Clone, Copy)]
 pub struct Lobe {
-    pub poisson: bool,
+    pub poisson: u8,
     pub mean: f64,
     pub rate: f64,
     pub size: f64,

@@ -3,6 +3,7 @@ use Prim.Native.Nat.{ℕ}
 use mathlib.Core.List.{List}
 use lib.ListN.{getD}
 use lib.Ieee.{Float}
+use Rattle.meaning.specs.Flags.{isSet, byteOf}
 use Rattle.routines.specs.Constants as constants
 use Rattle.routines.specs.declared.tables.Power.{Power}
 use Rattle.helpers.specs.declared.hoists.Lobe.{Lobe}
@@ -25,10 +26,10 @@ abbrev pub ofLogs3 : Logs3 → FlatLogs3
 ofLogs3 l = record { first = l .first; second = l .second; third = l .third }
 
 abbrev pub ofLobe : Lobe → FlatLobe
-ofLobe l = record { poisson = l .poisson; mean = l .mean; rate = l .rate; size = l .size; gamma = l .gamma; start = l .start; slope = l .slope }
+ofLobe l = record { poisson = byteOf (l .poisson); mean = l .mean; rate = l .rate; size = l .size; gamma = l .gamma; start = l .start; slope = l .slope }
 
 abbrev pub toLobe : FlatLobe → Lobe
-toLobe l = record { poisson = l .poisson; mean = l .mean; rate = l .rate; size = l .size; gamma = l .gamma; start = l .start; slope = l .slope }
+toLobe l = record { poisson = isSet (l .poisson); mean = l .mean; rate = l .rate; size = l .size; gamma = l .gamma; start = l .start; slope = l .slope }
 
 abbrev pub ofShelfLogs : ShelfLogs → FlatPair
 ofShelfLogs l = record { first = l .rest; second = l .share }

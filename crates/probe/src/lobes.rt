@@ -7,10 +7,13 @@ use helpers::hoists::Lobe;
 use helpers::hoists::density;
 use helpers::hoists::lobe_of;
 use helpers::lobes::ln_dpois;
+use meaning::flags::byte_of;
+use meaning::flags::is_set;
 
 #[repr(C)]
 pub struct FlatLobe {
-    pub poisson: bool,
+    // 0, or any other byte.
+    pub poisson: u8,
     pub mean: f64,
     pub rate: f64,
     pub size: f64,
@@ -23,7 +26,7 @@ fn to_lobe(lobe: FlatLobe) -> Lobe
     ensures { λ r. ⌜ r ≡ toLobe lobe ⌝ }
 {
     Lobe {
-        poisson: lobe.poisson,
+        poisson: is_set(lobe.poisson),
         mean: lobe.mean,
         rate: lobe.rate,
         size: lobe.size,
@@ -46,7 +49,7 @@ pub extern "C" fn fog_lobe_of(mean: f64, dispersion: f64) -> FlatLobe
 {
     let lobe = lobe_of(mean, dispersion);
     FlatLobe {
-        poisson: lobe.poisson,
+        poisson: byte_of(lobe.poisson),
         mean: lobe.mean,
         rate: lobe.rate,
         size: lobe.size,

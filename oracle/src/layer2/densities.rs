@@ -101,7 +101,7 @@ fn prepared_freely(d: &mut Draw) -> Vec<u64> {
 
 fn port_lobe(w: &[u64]) -> port::Lobe {
     port::Lobe {
-        poisson: w[0] != 0,
+        poisson: w[0] as u8,
         mean: float(w, 1),
         rate: float(w, 2),
         size: float(w, 3),
