@@ -1,7 +1,8 @@
 # Writes the #[repr(C)] structs and the C functions of some Rattle or Rust text again in C, to be compiled behind fogatise.h.
-# The struct FlatFitAnswer of src/, and FitAnswer of the Rust wrapper, is fog_fit_answer in the header, and LentRun is fog_run: it is laid out a
-# second time, and static assertions hold sizes, and the place and the type of each field by its name, against the header's. A function is
-# declared a second time, which a C compiler refuses where its type is another. A bool has no C type here: C has bytes.
+# The struct FlatFitAnswer of src/, and FitAnswer of the Rust wrapper, is fog_fit_answer in the header, and LentRun is
+# fog_run: it is laid out a second time, and static assertions hold sizes, and the place and the type of each field by its
+# name, against the header's. A function is declared a second time, which a C compiler refuses where its type is another.
+# A bool has no C type here: C has bytes.
 function flat(name) {
     sub(/^(Flat|Lent)/, "", name)
     gsub(/[A-Z]/, "_&", name)

@@ -68,9 +68,9 @@ typedef struct {
 } columns;
 
 static fog_attempt_answer attempted(const state *s, const columns *c) {
-    return fog_attempt_from_numbers(bins, BINS, 1.0, BINS, 5, PEAK, FOG_SINGLETON_PARETO, FOG_NEGATIVE_BINOMIAL, 1.1, c->converged, RUNS, c->costs,
-                                    RUNS, c->places, RUNS, c->lengths, RUNS, s->iterations, RUNS, c->caps, RUNS, s->simplexes, RUNS * SQUARE,
-                                    table, 1);
+    return fog_attempt_from_numbers(bins, BINS, 1.0, BINS, 5, PEAK, FOG_SINGLETON_PARETO, FOG_NEGATIVE_BINOMIAL, 1.1,
+                                    c->converged, RUNS, c->costs, RUNS, c->places, RUNS, c->lengths, RUNS, s->iterations,
+                                    RUNS, c->caps, RUNS, s->simplexes, RUNS * SQUARE, table, 1);
 }
 
 static fog_attempt_answer over_structs(const state *s, const columns *c) {
@@ -101,9 +101,10 @@ static int every_byte(const state *s, const columns *reported) {
 static int reports(const state *s, size_t length) {
     columns c = {{5, 5}, {7, 7}, {0.0, 0.0}, {0, 0}, {0, 0}};
     const fog_written answer = fog_report_searches(FOG_SINGLETON_PARETO, FOG_NEGATIVE_BINOMIAL, RUNS, s->simplexes, RUNS * SQUARE, s->iterations,
-                                                   RUNS, s->stopped, RUNS, c.converged, RUNS, c.costs, RUNS, c.places, RUNS, c.lengths, RUNS,
-                                                   c.caps, length);
-    if (length < RUNS) return is(answer, FOG_TOO_SHORT, 0) && c.converged[0] == 5 && c.caps[0] == 7 && c.costs[0] == 0.0 && c.places[0] == 0;
+                                                   RUNS, s->stopped, RUNS, c.converged, RUNS, c.costs, RUNS, c.places, RUNS,
+                                                   c.lengths, RUNS, c.caps, length);
+    if (length < RUNS)
+        return is(answer, FOG_TOO_SHORT, 0) && c.converged[0] == 5 && c.caps[0] == 7 && c.costs[0] == 0.0 && c.places[0] == 0;
 
     /* Both have stopped, and the test leaves the best row in front. */
     for (size_t i = 0; i < RUNS; i++)
@@ -111,7 +112,8 @@ static int reports(const state *s, size_t length) {
             || c.costs[i] != s->simplexes[i * SQUARE])
             return 0;
     const double least = c.costs[0] < c.costs[1] ? c.costs[0] : c.costs[1];
-    return is(answer, 0, RUNS) && attempts(attempted(s, &c), least, 0, s) && attempts(over_structs(s, &c), least, 0, s) && every_byte(s, &c);
+    return is(answer, 0, RUNS) && attempts(attempted(s, &c), least, 0, s) && attempts(over_structs(s, &c), least, 0, s)
+        && every_byte(s, &c);
 }
 
 /* How many of the search's answers are others. */
