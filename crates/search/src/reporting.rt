@@ -1,4 +1,4 @@
-// The runs of a search as a run table: five of the columns that `attempts::attempting::attempt_from_numbers` takes. The
+// The runs of a search as a run table: five of the columns that `fitter::attempting::attempt_from_numbers` takes. The
 // sixth is the search's own `iterations`, and `simplexes` are the `lists` that the places speak of.
 ghost use mathlib.Core.Path.{_≡_};
 ghost use Prim.Native.Nat.{ℕ, _-_, _*_, _<_, _≤_};
