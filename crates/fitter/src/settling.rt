@@ -94,7 +94,7 @@ pub(crate) fn attempt_refusal(
 }
 
 // A number, beside the empty attempt.
-pub(crate) fn refused(number: u8) -> AttemptAnswer
+pub(crate) fn refused_answer(number: u8) -> AttemptAnswer
     ensures { λ r. ⌜ r ≡ refusedAnswer number ⌝ }
 {
     AttemptAnswer {
@@ -112,7 +112,7 @@ pub(crate) fn refused(number: u8) -> AttemptAnswer
 }
 
 // No run converged.
-pub(crate) fn failed(setup: Setup, survey: Survey) -> AttemptAnswer
+pub(crate) fn failed_answer(setup: Setup, survey: Survey) -> AttemptAnswer
     ensures { λ r. ⌜ r ≡ failedAnswer setup survey ⌝ }
 {
     let error = setup.error;
@@ -132,7 +132,7 @@ pub(crate) fn failed(setup: Setup, survey: Survey) -> AttemptAnswer
 }
 
 // The run that is kept.
-pub(crate) fn kept(setup: Setup, survey: Survey, held: Held) -> AttemptAnswer
+pub(crate) fn kept_answer(setup: Setup, survey: Survey, held: Held) -> AttemptAnswer
     ensures { λ r. ⌜ r ≡ keptAnswer setup survey held ⌝ }
 {
     let error = setup.error;
@@ -243,10 +243,10 @@ pub(crate) fn finish(s: Settled, survey: Survey) -> AttemptAnswer
     let best = held.best;
     let run = best.run;
     if s.number != 0 {
-        return refused(s.number);
+        return refused_answer(s.number);
     }
     if run.converged {
-        return kept(setup, survey, held);
+        return kept_answer(setup, survey, held);
     }
-    failed(setup, survey)
+    failed_answer(setup, survey)
 }

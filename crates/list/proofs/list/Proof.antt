@@ -45,41 +45,14 @@ part : (c : tie.After-read) → (n c ≤ length (filled (reader c))) × (take (n
 unfolding mostBins
 part c = let h = reader c in front (file h) _ (filled h) mostBins (n c) (read c) (holds c .most) (h .read-histogram .ensures .1)
 
-slice-aggregate-read-histogram : tie.Need-slice-aggregate-read-histogram
-slice-aggregate-read-histogram c = search needs
-
-read-histogram-requires : tie.Need-read-histogram-requires
-read-histogram-requires c κs = search needs
-
-enum-known-read : tie.Need-enum-known-read
-enum-known-read c = search needs
-
 array-share-prefix-bins : tie.Need-array-share-prefix-bins
 array-share-prefix-bins c = part (c .before) .0
 
 slice-aggregate-list-histogram : tie.Need-slice-aggregate-list-histogram
 slice-aggregate-list-histogram c = let a = c .before .before in sym (length-take-le (n a) (filled (reader a)) (part a .0))
 
-list-histogram-requires : tie.Need-list-histogram-requires
-list-histogram-requires c κs = search needs
-
-items-requires : tie.Need-items-requires
-items-requires c κs = search needs
-
-enum-known-read-2 : tie.Need-enum-known-read-2
-enum-known-read-2 c = search needs
-
-list-refusal-requires : tie.Need-list-refusal-requires
-list-refusal-requires c κs = search needs
-
-items-requires-2 : tie.Need-items-requires-2
-items-requires-2 c κs = search needs
-
 enum-told : tie.Need-enum-told
 enum-told c = search needs
-
-same-length : tie.Need-same-length
-same-length c = search needs
 
 returns : tie.Need-returns
 returns c =
@@ -88,9 +61,6 @@ returns c =
     let h = reader a in
     lists-bins (file h) (start h .args .text .now) (p .list-histogram .last .1 .0) (p .list-histogram .result) (start h .pre) (c .items .result) (c .items .ensures)
     (take (n a) (filled h)) (read a .xs) (part a .1) (read a .is) (holds a) (p .list-histogram .ensures .0) (p .list-histogram .ensures .1)
-
-same-length-2 : tie.Need-same-length-2
-same-length-2 c = search needs
 
 returns-2 : tie.Need-returns-2
 unfolding mostBins
@@ -113,20 +83,7 @@ returns-3 c =
 pub list-spec : {M : Type 1} → statement M
 list-spec =
     tie.close
-    (tie.spec
-    slice-aggregate-read-histogram
-    read-histogram-requires
-    enum-known-read
-    array-share-prefix-bins
-    slice-aggregate-list-histogram
-    list-histogram-requires
-    items-requires
-    enum-known-read-2
-    list-refusal-requires
-    items-requires-2
-    enum-told
-    same-length
-    returns
-    same-length-2
-    returns-2
+    (tie.spec (λ c. search needs) (λ c κs. search needs) (λ c. search needs) array-share-prefix-bins
+    slice-aggregate-list-histogram (λ c κs. search needs) (λ c κs. search needs) (λ c. search needs)
+    (λ c κs. search needs) (λ c κs. search needs) enum-told (λ c. search needs) returns (λ c. search needs) returns-2
     returns-3)

@@ -21,12 +21,6 @@ loop-holds c = (omega arith, refl)
 mul-power : tie.Need-mul-power Inv-loop μ-loop
 mul-power c = omega (arith, power-small (c .before .loop .k) 14 (omega arith))
 
-add-k : tie.Need-add-k Inv-loop μ-loop
-add-k c = search needs
-
-loop-less : tie.Need-loop-less Inv-loop μ-loop
-loop-less c = search needs
-
 loop-again : tie.Need-loop-again Inv-loop μ-loop
 loop-again c =
     let l = c .before in
@@ -37,4 +31,5 @@ returns : tie.Need-returns Inv-loop μ-loop
 returns c = let l = c .before in l .loop .inv .1 ∙ ap (λ k. 10 ^ k) (omega arith)
 
 pub power-of-ten-spec : {M : Type 1} → statement M
-power-of-ten-spec = tie.close (tie.spec Inv-loop μ-loop loop-holds mul-power add-k loop-less loop-again returns)
+power-of-ten-spec =
+    tie.close (tie.spec Inv-loop μ-loop loop-holds mul-power (λ c. search needs) (λ c. search needs) loop-again returns)

@@ -45,20 +45,11 @@ number c =
 short : (c : tie.Else3) → (let f = first (c .before .before) in length (whole f) + length (places f) ≤ 15)
 short c = rw length-append at (number c .most)
 
-add-is-few : tie.Need-add-is-few
-add-is-few c = search needs
-
-is-few-requires : tie.Need-is-few-requires
-is-few-requires c κs = search needs
-
 returns : tie.Need-returns
 returns c =
     let f = c .before in
     let no = sym (f .is-few .ensures) ∙ not-true _ (c .if1 .taken) in
     sym (refused (whole f) (places f) no refl refl refl)
-
-all-digits-requires : tie.Need-all-digits-requires
-all-digits-requires c κs = search needs
 
 returns-2 : tie.Need-returns-2
 returns-2 c =
@@ -66,9 +57,6 @@ returns-2 c =
     let f = d .before .before in
     let no = sym (d .all-digits .ensures) ∙ not-true _ (c .if2 .taken) in
     sym (refused (whole f) (places f) (few-enough (d .before)) no refl refl)
-
-all-digits-requires-2 : tie.Need-all-digits-requires-2
-all-digits-requires-2 c κs = search needs
 
 returns-3 : tie.Need-returns-3
 returns-3 c =
@@ -93,14 +81,8 @@ value-of-requires-2 c κs =
     let v = value-small (whole f ++ places f) (n .digits) (n .most) in
     (behind e, rw (c .value-of .ensures, ← value-join 0 (whole f) (places f)) v)
 
-from-u64-requires : tie.Need-from-u64-requires
-from-u64-requires c κs = search needs
-
 power-of-ten-requires : tie.Need-power-of-ten-requires
 power-of-ten-requires c κs = let s = short (c .before .before .before) in omega arith
-
-from-u64-requires-2 : tie.Need-from-u64-requires-2
-from-u64-requires-2 c κs = search needs
 
 returns-4 : tie.Need-returns-4
 returns-4 c =
@@ -120,17 +102,6 @@ returns-4 c =
 pub quotient-spec : {M : Type 1} → statement M
 quotient-spec =
     tie.close
-    (tie.spec
-    add-is-few
-    is-few-requires
-    returns
-    all-digits-requires
-    returns-2
-    all-digits-requires-2
-    returns-3
-    value-of-requires
-    value-of-requires-2
-    from-u64-requires
-    power-of-ten-requires
-    from-u64-requires-2
-    returns-4)
+    (tie.spec (λ c. search needs) (λ c κs. search needs) returns (λ c κs. search needs) returns-2
+    (λ c κs. search needs) returns-3 value-of-requires value-of-requires-2 (λ c κs. search needs)
+    power-of-ten-requires (λ c κs. search needs) returns-4)

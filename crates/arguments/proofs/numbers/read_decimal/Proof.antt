@@ -11,33 +11,6 @@ use Rattle.arguments.proofs.Words.{front, back, plain, rest}
 use Rattle.arguments.proofs.numbers.read_decimal.Statement.{statement}
 use Rattle.arguments.proofs.numbers.read_decimal.Tie as tie
 
-point-at-requires : tie.Need-point-at-requires
-point-at-requires c κs = search needs
-
-add-behind : tie.Need-add-behind
-add-behind c = search needs
-
-sub-quotient : tie.Need-sub-quotient
-sub-quotient c = search needs
-
-part-quotient-start : tie.Need-part-quotient-start
-part-quotient-start c = search needs
-
-part-quotient-end : tie.Need-part-quotient-end
-part-quotient-end c = search needs
-
-sub-quotient-2 : tie.Need-sub-quotient-2
-sub-quotient-2 c = search needs
-
-part-quotient-start-2 : tie.Need-part-quotient-start-2
-part-quotient-start-2 c = search needs
-
-part-quotient-end-2 : tie.Need-part-quotient-end-2
-part-quotient-end-2 c = search needs
-
-quotient-requires : tie.Need-quotient-requires
-quotient-requires c κs = search needs
-
 returns : tie.Need-returns
 unfolding readDecimalOf
 returns c =
@@ -49,18 +22,6 @@ returns c =
     let whole = ap (λ (j : ℕ). take j word) (sub-zero k) ∙ front word k e (t .if1 .taken) in
     let places = rest word (k + 1) ∙ back word k e (t .if1 .taken) in
     c .quotient .ensures ∙ (λ i. quotientOf (whole i) (places i))
-
-sub-quotient-3 : tie.Need-sub-quotient-3
-sub-quotient-3 c = search needs
-
-part-quotient-start-3 : tie.Need-part-quotient-start-3
-part-quotient-start-3 c = search needs
-
-part-quotient-end-3 : tie.Need-part-quotient-end-3
-part-quotient-end-3 c = search needs
-
-quotient-requires-2 : tie.Need-quotient-requires-2
-quotient-requires-2 c κs = search needs
 
 returns-2 : tie.Need-returns-2
 unfolding readDecimalOf
@@ -77,19 +38,6 @@ returns-2 c =
 pub read-decimal-spec : {M : Type 1} → statement M
 read-decimal-spec =
     tie.close
-    (tie.spec
-    point-at-requires
-    add-behind
-    sub-quotient
-    part-quotient-start
-    part-quotient-end
-    sub-quotient-2
-    part-quotient-start-2
-    part-quotient-end-2
-    quotient-requires
-    returns
-    sub-quotient-3
-    part-quotient-start-3
-    part-quotient-end-3
-    quotient-requires-2
-    returns-2)
+    (tie.spec (λ c κs. search needs) (λ c. search needs) (λ c. search needs) (λ c. search needs) (λ c. search needs)
+    (λ c. search needs) (λ c. search needs) (λ c. search needs) (λ c κs. search needs) returns (λ c. search needs)
+    (λ c. search needs) (λ c. search needs) (λ c κs. search needs) returns-2)

@@ -27,17 +27,11 @@ digits c = let d = c .before in sym (d .all-digits .ensures) ∙ not-false _ (c 
 number : (c : tie.Else2) → Number (word (c .before .before .before))
 number c = let e = c .before .before in number-is (word (e .before)) (λ i. few-enough e i && digits c i)
 
-is-few-requires : tie.Need-is-few-requires
-is-few-requires c κs = search needs
-
 returns : tie.Need-returns
 returns c =
     let f = c .before in
     let no = sym (f .is-few .ensures) ∙ not-true _ (c .if1 .taken) in
     sym (not-whole (word f) (λ i. no i && allDigits (word f)))
-
-all-digits-requires : tie.Need-all-digits-requires
-all-digits-requires c κs = search needs
 
 returns-2 : tie.Need-returns-2
 returns-2 c =
@@ -58,5 +52,4 @@ returns-3 c =
 
 pub read-whole-spec : {M : Type 1} → statement M
 read-whole-spec =
-    tie.close
-    (tie.spec is-few-requires returns all-digits-requires returns-2 value-of-requires returns-3)
+    tie.close (tie.spec (λ c κs. search needs) returns (λ c κs. search needs) returns-2 value-of-requires returns-3)

@@ -47,23 +47,11 @@ loop-holds c = (omega arith, c .before .pre .0, refl)
 mul-value : tie.Need-mul-value Inv-loop μ-loop
 mul-value c = let b = bound c in omega arith
 
-shared-slice-read-wide : tie.Need-shared-slice-read-wide Inv-loop μ-loop
-shared-slice-read-wide c = search needs
-
 sub-wide : tie.Need-sub-wide Inv-loop μ-loop
 sub-wide c = let d = digit (c .before) in d .0
 
-wide-requires : tie.Need-wide-requires Inv-loop μ-loop
-wide-requires c κs = search needs
-
 add-value : tie.Need-add-value Inv-loop μ-loop
 add-value c = let b = bound (c .before .before) in let e = c .wide .ensures in omega arith
-
-add-k : tie.Need-add-k Inv-loop μ-loop
-add-k c = search needs
-
-loop-less : tie.Need-loop-less Inv-loop μ-loop
-loop-less c = search needs
 
 loop-again : tie.Need-loop-again Inv-loop μ-loop
 loop-again c =
@@ -88,16 +76,5 @@ returns c =
 pub value-of-spec : {M : Type 1} → statement M
 value-of-spec =
     tie.close
-    (tie.spec
-    Inv-loop
-    μ-loop
-    loop-holds
-    mul-value
-    shared-slice-read-wide
-    sub-wide
-    wide-requires
-    add-value
-    add-k
-    loop-less
-    loop-again
-    returns)
+    (tie.spec Inv-loop μ-loop loop-holds mul-value (λ c. search needs) sub-wide (λ c κs. search needs) add-value
+    (λ c. search needs) (λ c. search needs) loop-again returns)

@@ -12,17 +12,8 @@ Inv-loop text bytes k₀ k = k ≤ length bytes
 abbrev μ-loop : tie.MeasureT-loop
 μ-loop text bytes k₀ k = length bytes - k
 
-write-all-requires : tie.Need-write-all-requires Inv-loop μ-loop
-write-all-requires c κs = search needs
-
 loop-holds : tie.Need-loop-holds Inv-loop μ-loop
 loop-holds c = omega arith
-
-shared-slice-read-byte : tie.Need-shared-slice-read-byte Inv-loop μ-loop
-shared-slice-read-byte c = search needs
-
-byte-requires : tie.Need-byte-requires Inv-loop μ-loop
-byte-requires c κs = search needs
 
 add-k : tie.Need-add-k Inv-loop μ-loop
 add-k c = omega arith
@@ -33,24 +24,8 @@ loop-less c = omega arith
 loop-again : tie.Need-loop-again Inv-loop μ-loop
 loop-again c = omega arith
 
-end-requires : tie.Need-end-requires Inv-loop μ-loop
-end-requires c κs = search needs
-
-returns : tie.Need-returns Inv-loop μ-loop
-returns c = search needs
-
 pub bytes-spec : {M : Type 1} → statement M
 bytes-spec =
     tie.close
-    (tie.spec
-    Inv-loop
-    μ-loop
-    write-all-requires
-    loop-holds
-    shared-slice-read-byte
-    byte-requires
-    add-k
-    loop-less
-    loop-again
-    end-requires
-    returns)
+    (tie.spec Inv-loop μ-loop (λ c κs. search needs) loop-holds (λ c. search needs) (λ c κs. search needs) add-k
+    loop-less loop-again (λ c κs. search needs) (λ c. search needs))

@@ -3,11 +3,8 @@ use borrow.Author.Needs.{needs}
 use Rattle.exports.proofs.costs.flat_fit_answer.Statement.{statement}
 use Rattle.exports.proofs.costs.flat_fit_answer.Tie as tie
 
-flat-fit-requires : tie.Need-flat-fit-requires
-flat-fit-requires c κs = search needs
-
 returns : tie.Need-returns
 returns c = rw (c .flat-fit .ensures)
 
 pub flat-fit-answer-spec : {M : Type 1} → statement M
-flat-fit-answer-spec = tie.close (tie.spec flat-fit-requires returns)
+flat-fit-answer-spec = tie.close (tie.spec (λ c κs. search needs) returns)

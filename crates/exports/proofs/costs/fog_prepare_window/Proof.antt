@@ -3,20 +3,10 @@ use borrow.Author.Needs.{needs}
 use Rattle.exports.proofs.costs.fog_prepare_window.Statement.{statement}
 use Rattle.exports.proofs.costs.fog_prepare_window.Tie as tie
 
-prepare-window-requires : tie.Need-prepare-window-requires
-prepare-window-requires c κs = search needs
-
-flat-written-requires : tie.Need-flat-written-requires
-flat-written-requires c κs = search needs
-
-same-length : tie.Need-same-length
-same-length c = search needs
-
 returns : tie.Need-returns
 returns c =
     let call = c .before .before .before .prepare-window .ensures in
     (rw (c .flat-written .ensures, call .0), call .1)
 
 pub fog-prepare-window-spec : {M : Type 1} → statement M
-fog-prepare-window-spec =
-    tie.close (tie.spec prepare-window-requires flat-written-requires same-length returns)
+fog-prepare-window-spec = tie.close (tie.spec (λ c κs. search needs) (λ c κs. search needs) (λ c. search needs) returns)

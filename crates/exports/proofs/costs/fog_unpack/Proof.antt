@@ -3,21 +3,6 @@ use borrow.Author.Needs.{needs}
 use Rattle.exports.proofs.costs.fog_unpack.Statement.{statement}
 use Rattle.exports.proofs.costs.fog_unpack.Tie as tie
 
-error-of-requires : tie.Need-error-of-requires
-error-of-requires c κs = search needs
-
-genome-of-requires : tie.Need-genome-of-requires
-genome-of-requires c κs = search needs
-
-unpack-requires : tie.Need-unpack-requires
-unpack-requires c κs = search needs
-
-flat-fit-answer-requires : tie.Need-flat-fit-answer-requires
-flat-fit-answer-requires c κs = search needs
-
-same-length : tie.Need-same-length
-same-length c = search needs
-
 returns : tie.Need-returns
 returns c =
     let call = c .before .before .before in
@@ -26,4 +11,6 @@ returns c =
 
 pub fog-unpack-spec : {M : Type 1} → statement M
 fog-unpack-spec =
-    tie.close (tie.spec error-of-requires genome-of-requires unpack-requires flat-fit-answer-requires same-length returns)
+    tie.close
+    (tie.spec (λ c κs. search needs) (λ c κs. search needs) (λ c κs. search needs) (λ c κs. search needs)
+    (λ c. search needs) returns)

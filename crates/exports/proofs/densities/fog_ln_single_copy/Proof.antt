@@ -3,14 +3,8 @@ use borrow.Author.Needs.{needs}
 use Rattle.exports.proofs.densities.fog_ln_single_copy.Statement.{statement}
 use Rattle.exports.proofs.densities.fog_ln_single_copy.Tie as tie
 
-part-of-requires : tie.Need-part-of-requires
-part-of-requires c κs = search needs
-
-ln-single-copy-requires : tie.Need-ln-single-copy-requires
-ln-single-copy-requires c κs = search needs
-
 returns : tie.Need-returns
 returns c = rw (c .ln-single-copy .ensures, c .before .part-of .ensures)
 
 pub fog-ln-single-copy-spec : {M : Type 1} → statement M
-fog-ln-single-copy-spec = tie.close (tie.spec part-of-requires ln-single-copy-requires returns)
+fog-ln-single-copy-spec = tie.close (tie.spec (λ c κs. search needs) (λ c κs. search needs) returns)

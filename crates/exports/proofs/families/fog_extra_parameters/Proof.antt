@@ -3,15 +3,8 @@ use borrow.Author.Needs.{needs}
 use Rattle.exports.proofs.families.fog_extra_parameters.Statement.{statement}
 use Rattle.exports.proofs.families.fog_extra_parameters.Tie as tie
 
-genome-of-requires : tie.Need-genome-of-requires
-genome-of-requires c κs = search needs
-
-extra-parameters-requires : tie.Need-extra-parameters-requires
-extra-parameters-requires c κs = search needs
-
 returns : tie.Need-returns
 returns c = rw (c .extra-parameters .ensures, c .before .genome-of .ensures)
 
 pub fog-extra-parameters-spec : {M : Type 1} → statement M
-fog-extra-parameters-spec =
-    tie.close (tie.spec genome-of-requires extra-parameters-requires returns)
+fog-extra-parameters-spec = tie.close (tie.spec (λ c κs. search needs) (λ c κs. search needs) returns)

@@ -3,14 +3,8 @@ use borrow.Author.Needs.{needs}
 use Rattle.exports.proofs.families.fog_parameter_count.Statement.{statement}
 use Rattle.exports.proofs.families.fog_parameter_count.Tie as tie
 
-error-of-requires : tie.Need-error-of-requires
-error-of-requires c κs = search needs
-
-parameter-count-requires : tie.Need-parameter-count-requires
-parameter-count-requires c κs = search needs
-
 returns : tie.Need-returns
 returns c = rw (c .parameter-count .ensures, c .before .error-of .ensures)
 
 pub fog-parameter-count-spec : {M : Type 1} → statement M
-fog-parameter-count-spec = tie.close (tie.spec error-of-requires parameter-count-requires returns)
+fog-parameter-count-spec = tie.close (tie.spec (λ c κs. search needs) (λ c κs. search needs) returns)

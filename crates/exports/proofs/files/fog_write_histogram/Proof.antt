@@ -3,15 +3,6 @@ use borrow.Author.Needs.{needs}
 use Rattle.exports.proofs.files.fog_write_histogram.Statement.{statement}
 use Rattle.exports.proofs.files.fog_write_histogram.Tie as tie
 
-write-histogram-requires : tie.Need-write-histogram-requires
-write-histogram-requires c κs = search needs
-
-flat-written-requires : tie.Need-flat-written-requires
-flat-written-requires c κs = search needs
-
-same-length : tie.Need-same-length
-same-length c = search needs
-
 returns : tie.Need-returns
 returns c =
     let call = c .before .before .before in
@@ -19,4 +10,4 @@ returns c =
 
 pub fog-write-histogram-spec : {M : Type 1} → statement M
 fog-write-histogram-spec =
-    tie.close (tie.spec write-histogram-requires flat-written-requires same-length returns)
+    tie.close (tie.spec (λ c κs. search needs) (λ c κs. search needs) (λ c. search needs) returns)

@@ -3,11 +3,8 @@ use borrow.Author.Needs.{needs}
 use Rattle.exports.proofs.fits.errors_of.Statement.{statement}
 use Rattle.exports.proofs.fits.errors_of.Tie as tie
 
-shape-of-requires : tie.Need-shape-of-requires
-shape-of-requires c κs = search needs
-
 returns : tie.Need-returns
 returns c = rw (c .shape-of .ensures)
 
 pub errors-of-spec : {M : Type 1} → statement M
-errors-of-spec = tie.close (tie.spec shape-of-requires returns)
+errors-of-spec = tie.close (tie.spec (λ c κs. search needs) returns)

@@ -3,14 +3,8 @@ use borrow.Author.Needs.{needs}
 use Rattle.exports.proofs.fits.flat_errors.Statement.{statement}
 use Rattle.exports.proofs.fits.flat_errors.Tie as tie
 
-shape-there-requires : tie.Need-shape-there-requires
-shape-there-requires c κs = search needs
-
-shape-number-requires : tie.Need-shape-number-requires
-shape-number-requires c κs = search needs
-
 returns : tie.Need-returns
 returns c = rw (c .shape-number .ensures, c .before .shape-there .ensures)
 
 pub flat-errors-spec : {M : Type 1} → statement M
-flat-errors-spec = tie.close (tie.spec shape-there-requires shape-number-requires returns)
+flat-errors-spec = tie.close (tie.spec (λ c κs. search needs) (λ c κs. search needs) returns)

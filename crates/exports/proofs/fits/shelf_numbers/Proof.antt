@@ -6,9 +6,6 @@ use Rattle.exports.proofs.fits.shelf_numbers.Tie as tie
 enum-told : tie.Need-enum-told
 enum-told c = search needs
 
-enum-known-shelf : tie.Need-enum-known-shelf
-enum-known-shelf c = search needs
-
 returns : tie.Need-returns
 returns c = rw (c .enum-told .given .1)
 
@@ -16,4 +13,4 @@ returns-2 : tie.Need-returns-2
 returns-2 c = rw (c .before .shelf .given .1)
 
 pub shelf-numbers-spec : {M : Type 1} → statement M
-shelf-numbers-spec = tie.close (tie.spec enum-told enum-known-shelf returns returns-2)
+shelf-numbers-spec = tie.close (tie.spec enum-told (λ c. search needs) returns returns-2)

@@ -4,9 +4,6 @@ use borrow.Author.Needs.{needs}
 use Rattle.exports.proofs.flat_attempts.flat_selected.Statement.{statement}
 use Rattle.exports.proofs.flat_attempts.flat_selected.Tie as tie
 
-flat-fit-requires : tie.Need-flat-fit-requires
-flat-fit-requires c κs = search needs
-
 returns : tie.Need-returns
 unfolding ofSelected
 returns c = rw (c .if1 .taken, c .before .flat-fit .ensures)
@@ -16,4 +13,4 @@ unfolding ofSelected
 returns-2 c = rw (c .if1 .left, c .before .flat-fit .ensures)
 
 pub flat-selected-spec : {M : Type 1} → statement M
-flat-selected-spec = tie.close (tie.spec flat-fit-requires returns returns-2)
+flat-selected-spec = tie.close (tie.spec (λ c κs. search needs) returns returns-2)

@@ -3,24 +3,6 @@ use borrow.Author.Needs.{needs}
 use Rattle.exports.proofs.flat_attempts.fog_select_fit.Statement.{statement}
 use Rattle.exports.proofs.flat_attempts.fog_select_fit.Tie as tie
 
-attempt-of-requires : tie.Need-attempt-of-requires
-attempt-of-requires c κs = search needs
-
-attempt-of-requires-2 : tie.Need-attempt-of-requires-2
-attempt-of-requires-2 c κs = search needs
-
-attempt-of-requires-3 : tie.Need-attempt-of-requires-3
-attempt-of-requires-3 c κs = search needs
-
-attempt-of-requires-4 : tie.Need-attempt-of-requires-4
-attempt-of-requires-4 c κs = search needs
-
-select-fit-requires : tie.Need-select-fit-requires
-select-fit-requires c κs = search needs
-
-flat-selected-requires : tie.Need-flat-selected-requires
-flat-selected-requires c κs = search needs
-
 returns : tie.Need-returns
 returns c =
     let four = c .before .before in
@@ -38,11 +20,5 @@ returns c =
 pub fog-select-fit-spec : {M : Type 1} → statement M
 fog-select-fit-spec =
     tie.close
-    (tie.spec
-    attempt-of-requires
-    attempt-of-requires-2
-    attempt-of-requires-3
-    attempt-of-requires-4
-    select-fit-requires
-    flat-selected-requires
-    returns)
+    (tie.spec (λ c κs. search needs) (λ c κs. search needs) (λ c κs. search needs) (λ c κs. search needs)
+    (λ c κs. search needs) (λ c κs. search needs) returns)

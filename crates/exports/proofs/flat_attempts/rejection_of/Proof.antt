@@ -7,11 +7,8 @@ use Rattle.exports.proofs.flat_attempts.rejection_of.Tie as tie
 returns : tie.Need-returns
 returns c = rw (eq-eqb _ _ (c .if1 .taken))
 
-reason-of-requires : tie.Need-reason-of-requires
-reason-of-requires c κs = search needs
-
 returns-2 : tie.Need-returns-2
 returns-2 c = rw (ne-eqb _ _ (c .before .if1 .left), c .reason-of .ensures)
 
 pub rejection-of-spec : {M : Type 1} → statement M
-rejection-of-spec = tie.close (tie.spec returns reason-of-requires returns-2)
+rejection-of-spec = tie.close (tie.spec returns (λ c κs. search needs) returns-2)

@@ -3,14 +3,8 @@ use borrow.Author.Needs.{needs}
 use Rattle.exports.proofs.flat_cutoffs.flat_cutoff.Statement.{statement}
 use Rattle.exports.proofs.flat_cutoffs.flat_cutoff.Tie as tie
 
-enum-known-answer : tie.Need-enum-known-answer
-enum-known-answer c = search needs
-
 enum-told : tie.Need-enum-told
 enum-told c = search needs
-
-enum-known-answer-2 : tie.Need-enum-known-answer-2
-enum-known-answer-2 c = search needs
 
 returns : tie.Need-returns
 returns c = rw (c .before .answer .given .1)
@@ -22,5 +16,4 @@ returns-3 : tie.Need-returns-3
 returns-3 c = rw (c .before .answer2 .given .1)
 
 pub flat-cutoff-spec : {M : Type 1} → statement M
-flat-cutoff-spec =
-    tie.close (tie.spec enum-known-answer enum-told enum-known-answer-2 returns returns-2 returns-3)
+flat-cutoff-spec = tie.close (tie.spec (λ c. search needs) enum-told (λ c. search needs) returns returns-2 returns-3)

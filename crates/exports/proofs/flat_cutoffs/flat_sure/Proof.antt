@@ -3,23 +3,8 @@ use borrow.Author.Needs.{needs}
 use Rattle.exports.proofs.flat_cutoffs.flat_sure.Statement.{statement}
 use Rattle.exports.proofs.flat_cutoffs.flat_sure.Tie as tie
 
-enum-known-answer : tie.Need-enum-known-answer
-enum-known-answer c = search needs
-
-or-zero-requires : tie.Need-or-zero-requires
-or-zero-requires c κs = search needs
-
-enum-known-answer-2 : tie.Need-enum-known-answer-2
-enum-known-answer-2 c = search needs
-
-or-zero-requires-2 : tie.Need-or-zero-requires-2
-or-zero-requires-2 c κs = search needs
-
 enum-told : tie.Need-enum-told
 enum-told c = search needs
-
-enum-known-answer-3 : tie.Need-enum-known-answer-3
-enum-known-answer-3 c = search needs
 
 returns : tie.Need-returns
 returns c = rw (c .before .before .answer .given .1, c .or-zero .ensures)
@@ -36,14 +21,5 @@ returns-4 c = rw (c .before .answer3 .given .1)
 pub flat-sure-spec : {M : Type 1} → statement M
 flat-sure-spec =
     tie.close
-    (tie.spec
-    enum-known-answer
-    or-zero-requires
-    enum-known-answer-2
-    or-zero-requires-2
-    enum-told
-    enum-known-answer-3
-    returns
-    returns-2
-    returns-3
-    returns-4)
+    (tie.spec (λ c. search needs) (λ c κs. search needs) (λ c. search needs) (λ c κs. search needs) enum-told
+    (λ c. search needs) returns returns-2 returns-3 returns-4)

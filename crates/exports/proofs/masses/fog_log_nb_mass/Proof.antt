@@ -3,14 +3,8 @@ use borrow.Author.Needs.{needs}
 use Rattle.exports.proofs.masses.fog_log_nb_mass.Statement.{statement}
 use Rattle.exports.proofs.masses.fog_log_nb_mass.Tie as tie
 
-log-nb-mass-requires : tie.Need-log-nb-mass-requires
-log-nb-mass-requires c κs = search needs
-
-flat-number-requires : tie.Need-flat-number-requires
-flat-number-requires c κs = search needs
-
 returns : tie.Need-returns
 returns c = rw (c .flat-number .ensures, c .before .log-nb-mass .ensures)
 
 pub fog-log-nb-mass-spec : {M : Type 1} → statement M
-fog-log-nb-mass-spec = tie.close (tie.spec log-nb-mass-requires flat-number-requires returns)
+fog-log-nb-mass-spec = tie.close (tie.spec (λ c κs. search needs) (λ c κs. search needs) returns)

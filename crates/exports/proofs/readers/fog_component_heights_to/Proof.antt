@@ -3,18 +3,6 @@ use borrow.Author.Needs.{needs}
 use Rattle.exports.proofs.readers.fog_component_heights_to.Statement.{statement}
 use Rattle.exports.proofs.readers.fog_component_heights_to.Tie as tie
 
-fit-of-requires : tie.Need-fit-of-requires
-fit-of-requires c κs = search needs
-
-component-heights-to-requires : tie.Need-component-heights-to-requires
-component-heights-to-requires c κs = search needs
-
-flat-written-requires : tie.Need-flat-written-requires
-flat-written-requires c κs = search needs
-
-same-length : tie.Need-same-length
-same-length c = search needs
-
 returns : tie.Need-returns
 returns c =
     let call = c .before .before .before in
@@ -26,4 +14,4 @@ returns c =
 pub fog-component-heights-to-spec : {M : Type 1} → statement M
 fog-component-heights-to-spec =
     tie.close
-    (tie.spec fit-of-requires component-heights-to-requires flat-written-requires same-length returns)
+    (tie.spec (λ c κs. search needs) (λ c κs. search needs) (λ c κs. search needs) (λ c. search needs) returns)

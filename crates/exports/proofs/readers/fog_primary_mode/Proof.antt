@@ -3,14 +3,8 @@ use borrow.Author.Needs.{needs}
 use Rattle.exports.proofs.readers.fog_primary_mode.Statement.{statement}
 use Rattle.exports.proofs.readers.fog_primary_mode.Tie as tie
 
-fit-of-requires : tie.Need-fit-of-requires
-fit-of-requires c κs = search needs
-
-primary-mode-requires : tie.Need-primary-mode-requires
-primary-mode-requires c κs = search needs
-
 returns : tie.Need-returns
 returns c = rw (c .primary-mode .ensures, c .before .fit-of .ensures)
 
 pub fog-primary-mode-spec : {M : Type 1} → statement M
-fog-primary-mode-spec = tie.close (tie.spec fit-of-requires primary-mode-requires returns)
+fog-primary-mode-spec = tie.close (tie.spec (λ c κs. search needs) (λ c κs. search needs) returns)

@@ -3,14 +3,8 @@ use borrow.Author.Needs.{needs}
 use Rattle.exports.proofs.readers.fog_repeat_mode.Statement.{statement}
 use Rattle.exports.proofs.readers.fog_repeat_mode.Tie as tie
 
-fit-of-requires : tie.Need-fit-of-requires
-fit-of-requires c κs = search needs
-
-repeat-mode-requires : tie.Need-repeat-mode-requires
-repeat-mode-requires c κs = search needs
-
 returns : tie.Need-returns
 returns c = rw (c .repeat-mode .ensures, c .before .fit-of .ensures)
 
 pub fog-repeat-mode-spec : {M : Type 1} → statement M
-fog-repeat-mode-spec = tie.close (tie.spec fit-of-requires repeat-mode-requires returns)
+fog-repeat-mode-spec = tie.close (tie.spec (λ c κs. search needs) (λ c κs. search needs) returns)

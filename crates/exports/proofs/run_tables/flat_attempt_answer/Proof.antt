@@ -4,12 +4,9 @@ use borrow.Author.Needs.{needs}
 use Rattle.exports.proofs.run_tables.flat_attempt_answer.Statement.{statement}
 use Rattle.exports.proofs.run_tables.flat_attempt_answer.Tie as tie
 
-flat-attempt-requires : tie.Need-flat-attempt-requires
-flat-attempt-requires c κs = search needs
-
 returns : tie.Need-returns
 unfolding sayAttempt
 returns c = rw (c .flat-attempt .ensures)
 
 pub flat-attempt-answer-spec : {M : Type 1} → statement M
-flat-attempt-answer-spec = tie.close (tie.spec flat-attempt-requires returns)
+flat-attempt-answer-spec = tie.close (tie.spec (λ c κs. search needs) returns)

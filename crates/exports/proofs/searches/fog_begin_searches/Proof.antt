@@ -16,30 +16,6 @@ use Rattle.exports.specs.Flat.{sayWritten}
 use Rattle.exports.proofs.searches.fog_begin_searches.Statement.{statement}
 use Rattle.exports.proofs.searches.fog_begin_searches.Tie as tie
 
-problem-of-requires : tie.Need-problem-of-requires
-problem-of-requires c κs = search needs
-
-begin-searches-requires : tie.Need-begin-searches-requires
-begin-searches-requires c κs = search needs
-
-flat-written-requires : tie.Need-flat-written-requires
-flat-written-requires c κs = search needs
-
-same-length : tie.Need-same-length
-same-length c = search needs
-
-same-length-2 : tie.Need-same-length-2
-same-length-2 c = search needs
-
-same-length-3 : tie.Need-same-length-3
-same-length-3 c = search needs
-
-same-length-4 : tie.Need-same-length-4
-same-length-4 c = search needs
-
-same-length-5 : tie.Need-same-length-5
-same-length-5 c = search needs
-
 -- what stands in the shelf's table, at a problem and at another that is the same
 stands : (answer : Problem → Reply ℕ) (p q : Problem) (before after : List Float) → p ≡ q
     → drop (stoodFrom p (answer p)) after ≡ drop (stoodFrom p (answer p)) before
@@ -87,13 +63,5 @@ returns c =
 pub fog-begin-searches-spec : {M : Type 1} → statement M
 fog-begin-searches-spec =
     tie.close
-    (tie.spec
-    problem-of-requires
-    begin-searches-requires
-    flat-written-requires
-    same-length
-    same-length-2
-    same-length-3
-    same-length-4
-    same-length-5
-    returns)
+    (tie.spec (λ c κs. search needs) (λ c κs. search needs) (λ c κs. search needs) (λ c. search needs)
+    (λ c. search needs) (λ c. search needs) (λ c. search needs) (λ c. search needs) returns)

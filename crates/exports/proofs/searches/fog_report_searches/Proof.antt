@@ -13,33 +13,6 @@ use Rattle.exports.specs.Flat.{sayWritten}
 use Rattle.exports.proofs.searches.fog_report_searches.Statement.{statement}
 use Rattle.exports.proofs.searches.fog_report_searches.Tie as tie
 
-error-of-requires : tie.Need-error-of-requires
-error-of-requires c κs = search needs
-
-genome-of-requires : tie.Need-genome-of-requires
-genome-of-requires c κs = search needs
-
-report-searches-requires : tie.Need-report-searches-requires
-report-searches-requires c κs = search needs
-
-flat-written-requires : tie.Need-flat-written-requires
-flat-written-requires c κs = search needs
-
-same-length : tie.Need-same-length
-same-length c = search needs
-
-same-length-2 : tie.Need-same-length-2
-same-length-2 c = search needs
-
-same-length-3 : tie.Need-same-length-3
-same-length-3 c = search needs
-
-same-length-4 : tie.Need-same-length-4
-same-length-4 c = search needs
-
-same-length-5 : tie.Need-same-length-5
-same-length-5 c = search needs
-
 abbrev called : tie.After-flat-written → tie.After-report-searches
 called c = c .before .before .before .before .before .before .before .before .before .before .before
 
@@ -83,14 +56,5 @@ returns c =
 pub fog-report-searches-spec : {M : Type 1} → statement M
 fog-report-searches-spec =
     tie.close
-    (tie.spec
-    error-of-requires
-    genome-of-requires
-    report-searches-requires
-    flat-written-requires
-    same-length
-    same-length-2
-    same-length-3
-    same-length-4
-    same-length-5
-    returns)
+    (tie.spec (λ c κs. search needs) (λ c κs. search needs) (λ c κs. search needs) (λ c κs. search needs)
+    (λ c. search needs) (λ c. search needs) (λ c. search needs) (λ c. search needs) (λ c. search needs) returns)

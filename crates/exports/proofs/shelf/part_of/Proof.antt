@@ -7,11 +7,8 @@ use Rattle.exports.proofs.shelf.part_of.Tie as tie
 returns : tie.Need-returns
 returns c = rw (eq-eqb _ _ (c .if1 .taken))
 
-shelf-of-requires : tie.Need-shelf-of-requires
-shelf-of-requires c κs = search needs
-
 returns-2 : tie.Need-returns-2
 returns-2 c = rw (ne-eqb _ _ (c .before .if1 .left), c .shelf-of .ensures)
 
 pub part-of-spec : {M : Type 1} → statement M
-part-of-spec = tie.close (tie.spec returns shelf-of-requires returns-2)
+part-of-spec = tie.close (tie.spec returns (λ c κs. search needs) returns-2)

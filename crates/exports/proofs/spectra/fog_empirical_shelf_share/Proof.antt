@@ -3,15 +3,8 @@ use borrow.Author.Needs.{needs}
 use Rattle.exports.proofs.spectra.fog_empirical_shelf_share.Statement.{statement}
 use Rattle.exports.proofs.spectra.fog_empirical_shelf_share.Tie as tie
 
-empirical-shelf-share-requires : tie.Need-empirical-shelf-share-requires
-empirical-shelf-share-requires c κs = search needs
-
-flat-number-requires : tie.Need-flat-number-requires
-flat-number-requires c κs = search needs
-
 returns : tie.Need-returns
 returns c = rw (c .flat-number .ensures, c .before .empirical-shelf-share .ensures)
 
 pub fog-empirical-shelf-share-spec : {M : Type 1} → statement M
-fog-empirical-shelf-share-spec =
-    tie.close (tie.spec empirical-shelf-share-requires flat-number-requires returns)
+fog-empirical-shelf-share-spec = tie.close (tie.spec (λ c κs. search needs) (λ c κs. search needs) returns)

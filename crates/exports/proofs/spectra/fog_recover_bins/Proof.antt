@@ -3,20 +3,10 @@ use borrow.Author.Needs.{needs}
 use Rattle.exports.proofs.spectra.fog_recover_bins.Statement.{statement}
 use Rattle.exports.proofs.spectra.fog_recover_bins.Tie as tie
 
-recover-bins-requires : tie.Need-recover-bins-requires
-recover-bins-requires c κs = search needs
-
-flat-written-requires : tie.Need-flat-written-requires
-flat-written-requires c κs = search needs
-
-same-length : tie.Need-same-length
-same-length c = search needs
-
 returns : tie.Need-returns
 returns c =
     let call = c .before .before .before in
     (rw (c .flat-written .ensures, call .recover-bins .ensures .0), call .recover-bins .ensures .1)
 
 pub fog-recover-bins-spec : {M : Type 1} → statement M
-fog-recover-bins-spec =
-    tie.close (tie.spec recover-bins-requires flat-written-requires same-length returns)
+fog-recover-bins-spec = tie.close (tie.spec (λ c κs. search needs) (λ c κs. search needs) (λ c. search needs) returns)

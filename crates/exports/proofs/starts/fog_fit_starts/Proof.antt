@@ -3,21 +3,6 @@ use borrow.Author.Needs.{needs}
 use Rattle.exports.proofs.starts.fog_fit_starts.Statement.{statement}
 use Rattle.exports.proofs.starts.fog_fit_starts.Tie as tie
 
-error-of-requires : tie.Need-error-of-requires
-error-of-requires c κs = search needs
-
-genome-of-requires : tie.Need-genome-of-requires
-genome-of-requires c κs = search needs
-
-fit-starts-requires : tie.Need-fit-starts-requires
-fit-starts-requires c κs = search needs
-
-flat-written-requires : tie.Need-flat-written-requires
-flat-written-requires c κs = search needs
-
-same-length : tie.Need-same-length
-same-length c = search needs
-
 returns : tie.Need-returns
 returns c =
     let call = c .before .before .before in
@@ -29,10 +14,5 @@ returns c =
 pub fog-fit-starts-spec : {M : Type 1} → statement M
 fog-fit-starts-spec =
     tie.close
-    (tie.spec
-    error-of-requires
-    genome-of-requires
-    fit-starts-requires
-    flat-written-requires
-    same-length
-    returns)
+    (tie.spec (λ c κs. search needs) (λ c κs. search needs) (λ c κs. search needs) (λ c κs. search needs)
+    (λ c. search needs) returns)

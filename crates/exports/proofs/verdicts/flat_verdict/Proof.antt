@@ -6,15 +6,6 @@ use Rattle.exports.proofs.verdicts.flat_verdict.Tie as tie
 enum-told : tie.Need-enum-told
 enum-told c = search needs
 
-enum-known-verdict : tie.Need-enum-known-verdict
-enum-known-verdict c = search needs
-
-reason-number-requires : tie.Need-reason-number-requires
-reason-number-requires c κs = search needs
-
-enum-known-verdict-2 : tie.Need-enum-known-verdict-2
-enum-known-verdict-2 c = search needs
-
 returns : tie.Need-returns
 returns c = rw (c .enum-told .given .1)
 
@@ -27,11 +18,4 @@ returns-3 c = rw (c .before .verdict2 .given .1)
 pub flat-verdict-spec : {M : Type 1} → statement M
 flat-verdict-spec =
     tie.close
-    (tie.spec
-    enum-told
-    enum-known-verdict
-    reason-number-requires
-    enum-known-verdict-2
-    returns
-    returns-2
-    returns-3)
+    (tie.spec enum-told (λ c. search needs) (λ c κs. search needs) (λ c. search needs) returns returns-2 returns-3)

@@ -11,27 +11,6 @@ use Rattle.fitter.proofs.Answered.{survey-is, settled-is, one-pass, two
 use Rattle.fitter.proofs.attempting.attempt_from_numbers.Statement.{statement}
 use Rattle.fitter.proofs.attempting.attempt_from_numbers.Tie as tie
 
-run-count-requires : tie.Need-run-count-requires
-run-count-requires c κs = search needs
-
-list-length-requires : tie.Need-list-length-requires
-list-length-requires c κs = search needs
-
-survey-columns-requires : tie.Need-survey-columns-requires
-survey-columns-requires c κs = search needs
-
-settle-requires : tie.Need-settle-requires
-settle-requires c κs = search needs
-
-retry-columns-requires : tie.Need-retry-columns-requires
-retry-columns-requires c κs = search needs
-
-with-held-requires : tie.Need-with-held-requires
-with-held-requires c κs = search needs
-
-finish-requires : tie.Need-finish-requires
-finish-requires c κs = search needs
-
 -- ---- behind the first pass
 module _ (t : tie.After-settle) where
   abbrev first : tie.After-survey-columns
@@ -96,9 +75,6 @@ returns c =
           (t .settle .ensures .1) _ _ _ done (u .if1 .taken) (r .retry-columns .ensures .1),
     )
 
-finish-requires-2 : tie.Need-finish-requires-2
-finish-requires-2 c κs = search needs
-
 same-length-2 : tie.Need-same-length-2
 same-length-2 c = let t = c .before .before .before .before in t .settle .kept .1 .1 .1 .1 .1 .0
 
@@ -117,16 +93,6 @@ returns-2 c =
 pub attempt-from-numbers-spec : {M : Type 1} → statement M
 attempt-from-numbers-spec =
     tie.close
-    (tie.spec
-    run-count-requires
-    list-length-requires
-    survey-columns-requires
-    settle-requires
-    retry-columns-requires
-    with-held-requires
-    finish-requires
-    same-length
-    returns
-    finish-requires-2
-    same-length-2
-    returns-2)
+    (tie.spec (λ c κs. search needs) (λ c κs. search needs) (λ c κs. search needs) (λ c κs. search needs)
+    (λ c κs. search needs) (λ c κs. search needs) (λ c κs. search needs) same-length returns (λ c κs. search needs)
+    same-length-2 returns-2)

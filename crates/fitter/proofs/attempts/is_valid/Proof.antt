@@ -7,9 +7,6 @@ use Rattle.fitter.proofs.attempts.is_valid.Tie as tie
 enum-told : tie.Need-enum-told
 enum-told c = search needs
 
-enum-told-2 : tie.Need-enum-told-2
-enum-told-2 c = search needs
-
 returns : tie.Need-returns
 unfolding validOf
 returns c = rw (c .enum-told .given .1)
@@ -19,4 +16,4 @@ unfolding validOf
 returns-2 c = rw (c .enum-told2 .given .1)
 
 pub is-valid-spec : {M : Type 1} → statement M
-is-valid-spec = tie.close (tie.spec enum-told enum-told-2 returns returns-2)
+is-valid-spec = tie.close (tie.spec enum-told (λ c. search needs) returns returns-2)

@@ -7,9 +7,6 @@ use borrow.Author.Needs.{needs}
 use Rattle.fitter.proofs.fit_rules.bad_mass.Statement.{statement}
 use Rattle.fitter.proofs.fit_rules.bad_mass.Tie as tie
 
-is-finite-requires : tie.Need-is-finite-requires
-is-finite-requires c κs = search needs
-
 returns : tie.Need-returns
 unfolding badMass round ofBits
 returns c = rw (ap not (sym (c .before .is-finite .ensures)) ∙ c .if1 .taken) (c .if1 .taken)
@@ -19,4 +16,4 @@ unfolding badMass round ofBits
 returns-2 c = rw (ap not (sym (c .before .is-finite .ensures)) ∙ c .if1 .left)
 
 pub bad-mass-spec : {M : Type 1} → statement M
-bad-mass-spec = tie.close (tie.spec is-finite-requires returns returns-2)
+bad-mass-spec = tie.close (tie.spec (λ c κs. search needs) returns returns-2)

@@ -4,18 +4,10 @@ use borrow.Author.Needs.{needs}
 use Rattle.fitter.proofs.fit_rules.component_mass_exceeded.Statement.{statement}
 use Rattle.fitter.proofs.fit_rules.component_mass_exceeded.Tie as tie
 
-excess-requires : tie.Need-excess-requires
-excess-requires c κs = search needs
-
-ln-requires : tie.Need-ln-requires
-ln-requires c κs = search needs
-
-above-or-nan-requires : tie.Need-above-or-nan-requires
-above-or-nan-requires c κs = search needs
-
 returns : tie.Need-returns
 unfolding componentMassExceeded
 returns c = rw (c .above-or-nan .ensures, c .before .ln .ensures, c .before .before .excess .ensures)
 
 pub component-mass-exceeded-spec : {M : Type 1} → statement M
-component-mass-exceeded-spec = tie.close (tie.spec excess-requires ln-requires above-or-nan-requires returns)
+component-mass-exceeded-spec =
+    tie.close (tie.spec (λ c κs. search needs) (λ c κs. search needs) (λ c κs. search needs) returns)

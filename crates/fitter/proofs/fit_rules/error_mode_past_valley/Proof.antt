@@ -7,12 +7,6 @@ use borrow.Author.Needs.{needs}
 use Rattle.fitter.proofs.fit_rules.error_mode_past_valley.Statement.{statement}
 use Rattle.fitter.proofs.fit_rules.error_mode_past_valley.Tie as tie
 
-error-mode-requires : tie.Need-error-mode-requires
-error-mode-requires c κs = search needs
-
-mode-past-requires : tie.Need-mode-past-requires
-mode-past-requires c κs = search needs
-
 returns : tie.Need-returns
 unfolding errorModePastValley
 returns c =
@@ -20,4 +14,4 @@ returns c =
     c .mode-past .ensures ∙ ap (λ (mode : Reply ℕ). modePast mode (a .valley)) (c .before .error-mode .ensures)
 
 pub error-mode-past-valley-spec : {M : Type 1} → statement M
-error-mode-past-valley-spec = tie.close (tie.spec error-mode-requires mode-past-requires returns)
+error-mode-past-valley-spec = tie.close (tie.spec (λ c κs. search needs) (λ c κs. search needs) returns)

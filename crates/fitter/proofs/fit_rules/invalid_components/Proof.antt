@@ -9,24 +9,6 @@ use borrow.Author.Needs.{needs}
 use Rattle.fitter.proofs.fit_rules.invalid_components.Statement.{statement}
 use Rattle.fitter.proofs.fit_rules.invalid_components.Tie as tie
 
-bad-weight-requires : tie.Need-bad-weight-requires
-bad-weight-requires c κs = search needs
-
-bad-weight-requires-2 : tie.Need-bad-weight-requires-2
-bad-weight-requires-2 c κs = search needs
-
-bad-weight-requires-3 : tie.Need-bad-weight-requires-3
-bad-weight-requires-3 c κs = search needs
-
-bad-mean-requires : tie.Need-bad-mean-requires
-bad-mean-requires c κs = search needs
-
-bad-dispersion-requires : tie.Need-bad-dispersion-requires
-bad-dispersion-requires c κs = search needs
-
-bad-shelf-requires : tie.Need-bad-shelf-requires
-bad-shelf-requires c κs = search needs
-
 -- ---- the first so many tests
 abbrev one : SpectrumFit → Bool
 one fit = badWeight (fit .«w_error»)
@@ -100,16 +82,5 @@ returns-6 c = rw (not-five (c .before)) (c .bad-shelf .ensures)
 pub invalid-components-spec : {M : Type 1} → statement M
 invalid-components-spec =
     tie.close
-    (tie.spec
-    bad-weight-requires
-    returns
-    bad-weight-requires-2
-    returns-2
-    bad-weight-requires-3
-    returns-3
-    bad-mean-requires
-    returns-4
-    bad-dispersion-requires
-    returns-5
-    bad-shelf-requires
-    returns-6)
+    (tie.spec (λ c κs. search needs) returns (λ c κs. search needs) returns-2 (λ c κs. search needs) returns-3
+    (λ c κs. search needs) returns-4 (λ c κs. search needs) returns-5 (λ c κs. search needs) returns-6)

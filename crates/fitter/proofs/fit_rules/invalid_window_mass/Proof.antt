@@ -11,24 +11,6 @@ use borrow.Author.Needs.{needs}
 use Rattle.fitter.proofs.fit_rules.invalid_window_mass.Statement.{statement}
 use Rattle.fitter.proofs.fit_rules.invalid_window_mass.Tie as tie
 
-array-read-bad-mass : tie.Need-array-read-bad-mass
-array-read-bad-mass c = search needs
-
-array-read-bad-mass-2 : tie.Need-array-read-bad-mass-2
-array-read-bad-mass-2 c = search needs
-
-array-read-bad-mass-3 : tie.Need-array-read-bad-mass-3
-array-read-bad-mass-3 c = search needs
-
-bad-mass-requires : tie.Need-bad-mass-requires
-bad-mass-requires c κs = search needs
-
-bad-mass-requires-2 : tie.Need-bad-mass-requires-2
-bad-mass-requires-2 c κs = search needs
-
-bad-mass-requires-3 : tie.Need-bad-mass-requires-3
-bad-mass-requires-3 c κs = search needs
-
 -- ---- the first so many tests
 abbrev one : SpectrumFit → Bool
 one fit = badMass (getD (fit .«component_log_window_masses») 0 nan)
@@ -63,13 +45,5 @@ returns-3 c = rw (not-two (c .before)) (c .bad-mass3 .ensures)
 pub invalid-window-mass-spec : {M : Type 1} → statement M
 invalid-window-mass-spec =
     tie.close
-    (tie.spec
-    array-read-bad-mass
-    bad-mass-requires
-    returns
-    array-read-bad-mass-2
-    bad-mass-requires-2
-    returns-2
-    array-read-bad-mass-3
-    bad-mass-requires-3
-    returns-3)
+    (tie.spec (λ c. search needs) (λ c κs. search needs) returns (λ c. search needs) (λ c κs. search needs) returns-2
+    (λ c. search needs) (λ c κs. search needs) returns-3)

@@ -9,15 +9,6 @@ use borrow.Author.Needs.{needs}
 use Rattle.fitter.proofs.fit_rules.non_finite_likelihood.Statement.{statement}
 use Rattle.fitter.proofs.fit_rules.non_finite_likelihood.Tie as tie
 
-is-finite-requires : tie.Need-is-finite-requires
-is-finite-requires c κs = search needs
-
-is-finite-requires-2 : tie.Need-is-finite-requires-2
-is-finite-requires-2 c κs = search needs
-
-is-finite-requires-3 : tie.Need-is-finite-requires-3
-is-finite-requires-3 c κs = search needs
-
 -- ---- the first test, and the first two
 abbrev one : SpectrumFit → Bool
 one fit = not (finite (fit .«log_likelihood»))
@@ -46,10 +37,4 @@ returns-3 c = rw (not-two (c .before)) (ap not (c .is-finite3 .ensures))
 pub non-finite-likelihood-spec : {M : Type 1} → statement M
 non-finite-likelihood-spec =
     tie.close
-    (tie.spec
-    is-finite-requires
-    returns
-    is-finite-requires-2
-    returns-2
-    is-finite-requires-3
-    returns-3)
+    (tie.spec (λ c κs. search needs) returns (λ c κs. search needs) returns-2 (λ c κs. search needs) returns-3)

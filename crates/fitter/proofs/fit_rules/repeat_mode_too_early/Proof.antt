@@ -4,15 +4,9 @@ use borrow.Author.Needs.{needs}
 use Rattle.fitter.proofs.fit_rules.repeat_mode_too_early.Statement.{statement}
 use Rattle.fitter.proofs.fit_rules.repeat_mode_too_early.Tie as tie
 
-repeat-mode-requires : tie.Need-repeat-mode-requires
-repeat-mode-requires c κs = search needs
-
-primary-mode-requires : tie.Need-primary-mode-requires
-primary-mode-requires c κs = search needs
-
 returns : tie.Need-returns
 unfolding repeatModeTooEarly
 returns c = rw (c .primary-mode .ensures, c .before .repeat-mode .ensures)
 
 pub repeat-mode-too-early-spec : {M : Type 1} → statement M
-repeat-mode-too-early-spec = tie.close (tie.spec repeat-mode-requires primary-mode-requires returns)
+repeat-mode-too-early-spec = tie.close (tie.spec (λ c κs. search needs) (λ c κs. search needs) returns)

@@ -5,9 +5,6 @@ use borrow.Author.Needs.{needs}
 use Rattle.fitter.proofs.judging.could_win.Statement.{statement}
 use Rattle.fitter.proofs.judging.could_win.Tie as tie
 
-is-unrejected-requires : tie.Need-is-unrejected-requires
-is-unrejected-requires c κs = search needs
-
 returns : tie.Need-returns
 unfolding couldWin
 returns c = let t = c .before in rw (sym (t .before .is-unrejected .ensures) ∙ t .if1 .taken)
@@ -17,4 +14,4 @@ unfolding couldWin
 returns-2 c = rw (sym (c .before .is-unrejected .ensures) ∙ c .if1 .left)
 
 pub could-win-spec : {M : Type 1} → statement M
-could-win-spec = tie.close (tie.spec is-unrejected-requires returns returns-2)
+could-win-spec = tie.close (tie.spec (λ c κs. search needs) returns returns-2)

@@ -5,21 +5,6 @@ use Rattle.fitter.proofs.Standing.{unpacked-stands}
 use Rattle.fitter.proofs.judging.judge_run.Statement.{statement}
 use Rattle.fitter.proofs.judging.judge_run.Tie as tie
 
-list-at-requires : tie.Need-list-at-requires
-list-at-requires c κs = search needs
-
-unpack-requires : tie.Need-unpack-requires
-unpack-requires c κs = search needs
-
-judge-requires : tie.Need-judge-requires
-judge-requires c κs = search needs
-
-rejection-of-verdict-requires : tie.Need-rejection-of-verdict-requires
-rejection-of-verdict-requires c κs = search needs
-
-same-length : tie.Need-same-length
-same-length c = search needs
-
 returns : tie.Need-returns
 returns c =
     let judged = c .before in
@@ -36,10 +21,5 @@ returns c =
 pub judge-run-spec : {M : Type 1} → statement M
 judge-run-spec =
     tie.close
-    (tie.spec
-    list-at-requires
-    unpack-requires
-    judge-requires
-    rejection-of-verdict-requires
-    same-length
-    returns)
+    (tie.spec (λ c κs. search needs) (λ c κs. search needs) (λ c κs. search needs) (λ c κs. search needs)
+    (λ c. search needs) returns)

@@ -3,18 +3,6 @@ use borrow.Author.Needs.{needs}
 use Rattle.fitter.proofs.judging.rejection_of_verdict.Statement.{statement}
 use Rattle.fitter.proofs.judging.rejection_of_verdict.Tie as tie
 
-enum-told : tie.Need-enum-told
-enum-told c = search needs
-
-enum-known-verdict : tie.Need-enum-known-verdict
-enum-known-verdict c = search needs
-
-enum-told-2 : tie.Need-enum-told-2
-enum-told-2 c = search needs
-
-returns : tie.Need-returns
-returns c = search needs
-
 returns-2 : tie.Need-returns-2
 returns-2 c = rw (c .before .verdict .given .1)
 
@@ -23,4 +11,5 @@ returns-3 c = rw (c .enum-told2 .given .1)
 
 pub rejection-of-verdict-spec : {M : Type 1} → statement M
 rejection-of-verdict-spec =
-    tie.close (tie.spec enum-told enum-known-verdict enum-told-2 returns returns-2 returns-3)
+    tie.close
+    (tie.spec (λ c. search needs) (λ c. search needs) (λ c. search needs) (λ c. search needs) returns-2 returns-3)

@@ -11,9 +11,6 @@ use Rattle.fitter.proofs.Judgements.{passed-by, looked-at, from-not, fr
 use Rattle.fitter.proofs.judging.retry_run.Statement.{statement}
 use Rattle.fitter.proofs.judging.retry_run.Tie as tie
 
-run-point-requires : tie.Need-run-point-requires
-run-point-requires c κs = search needs
-
 enum-known-point : tie.Need-enum-known-point
 enum-known-point c = c .match .keys1
 
@@ -32,9 +29,6 @@ returns c =
       refl,
     )
 
-could-win-requires : tie.Need-could-win-requires
-could-win-requires c κs = search needs
-
 returns-2 : tie.Need-returns-2
 returns-2 c =
     let w = c .before in
@@ -46,12 +40,6 @@ returns-2 c =
           false _ (sym (g .1) ∙ p .run-point .ensures) (sym (w .could-win .ensures) ∙ from-not (c .if1 .taken)) refl,
       refl,
     )
-
-judge-run-requires : tie.Need-judge-run-requires
-judge-run-requires c κs = search needs
-
-is-unrejected-requires : tie.Need-is-unrejected-requires
-is-unrejected-requires c κs = search needs
 
 same-length : tie.Need-same-length
 same-length c = let j = c .before .before .before .before in j .judge-run .kept .1 .1 .1 .1 .0
@@ -110,16 +98,5 @@ returns-4 c =
 pub retry-run-spec : {M : Type 1} → statement M
 retry-run-spec =
     tie.close
-    (tie.spec
-    run-point-requires
-    enum-known-point
-    enum-told
-    returns
-    could-win-requires
-    returns-2
-    judge-run-requires
-    is-unrejected-requires
-    same-length
-    returns-3
-    same-length-2
-    returns-4)
+    (tie.spec (λ c κs. search needs) enum-known-point enum-told returns (λ c κs. search needs) returns-2
+    (λ c κs. search needs) (λ c κs. search needs) same-length returns-3 same-length-2 returns-4)

@@ -32,14 +32,8 @@ returns-3 c =
     rw (too-short (a .bins .now) (a .scale) (length (a .out .now)) (e .before .if1 .left) (e .if2 .left) (c .if3 .taken))
     (refl, refl)
 
-used-scale-requires : tie.Need-used-scale-requires
-used-scale-requires c κs = search needs
-
 write-bins-requires : tie.Need-write-bins-requires
 write-bins-requires c κs = c .before .before .if3 .left
-
-same-length : tie.Need-same-length
-same-length c = search needs
 
 returns-4 : tie.Need-returns-4
 returns-4 c =
@@ -56,4 +50,4 @@ returns-4 c =
 pub recover-bins-spec : {M : Type 1} → statement M
 recover-bins-spec =
     tie.close
-    (tie.spec returns returns-2 returns-3 used-scale-requires write-bins-requires same-length returns-4)
+    (tie.spec returns returns-2 returns-3 (λ c κs. search needs) write-bins-requires (λ c. search needs) returns-4)

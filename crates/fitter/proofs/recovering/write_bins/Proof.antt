@@ -25,17 +25,8 @@ loop-holds c =
     let s = c .before .before in
     (zero-le, refl, s .pre, none-written (s .args .used) (s .args .bins .now) (s .args .out .now))
 
-mul-rounded-quotient : tie.Need-mul-rounded-quotient Inv-loop μ-loop
-mul-rounded-quotient c = search needs
-
 shared-slice-read-rounded-quotient : tie.Need-shared-slice-read-rounded-quotient Inv-loop μ-loop
 shared-slice-read-rounded-quotient c = omega arith
-
-rounded-quotient-requires : tie.Need-rounded-quotient-requires Inv-loop μ-loop
-rounded-quotient-requires c κs = search needs
-
-mul-out : tie.Need-mul-out Inv-loop μ-loop
-mul-out c = search needs
 
 slice-write-out : tie.Need-slice-write-out Inv-loop μ-loop
 slice-write-out c = omega arith
@@ -75,17 +66,5 @@ returns c =
 pub write-bins-spec : {M : Type 1} → statement M
 write-bins-spec =
     tie.close
-    (tie.spec
-    Inv-loop
-    μ-loop
-    loop-holds
-    mul-rounded-quotient
-    shared-slice-read-rounded-quotient
-    rounded-quotient-requires
-    mul-out
-    slice-write-out
-    add-i
-    loop-less
-    loop-again
-    same-length
-    returns)
+    (tie.spec Inv-loop μ-loop loop-holds (λ c. search needs) shared-slice-read-rounded-quotient (λ c κs. search needs)
+    (λ c. search needs) slice-write-out add-i loop-less loop-again same-length returns)

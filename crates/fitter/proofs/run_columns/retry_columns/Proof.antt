@@ -24,9 +24,6 @@ Inv-loop converged costs places lengths iterations caps bins setup lists table�
 abbrev μ-loop : tie.MeasureT-loop
 μ-loop converged costs places lengths iterations caps bins setup lists table₀ n kept₀ i₀ table kept i = n - i
 
-run-count-requires : tie.Need-run-count-requires Inv-loop μ-loop
-run-count-requires c κs = search needs
-
 loop-holds : tie.Need-loop-holds Inv-loop μ-loop
 loop-holds c = (begins _ _ _ _ _ zero-le refl, refl, refl)
 
@@ -34,9 +31,6 @@ run-at-requires : tie.Need-run-at-requires Inv-loop μ-loop
 run-at-requires c κs =
     let l = c .before in
     subst (λ (m : ℕ). l .loop .i < m) (l .before .run-count .ensures) (c .loop-test .taken)
-
-retry-run-requires : tie.Need-retry-run-requires Inv-loop μ-loop
-retry-run-requires c κs = search needs
 
 module _ (r : tie.After-retry-run Inv-loop μ-loop) where
   abbrev turn : tie.In-loop Inv-loop μ-loop
@@ -106,15 +100,5 @@ returns c =
 pub retry-columns-spec : {M : Type 1} → statement M
 retry-columns-spec =
     tie.close
-    (tie.spec
-    Inv-loop
-    μ-loop
-    run-count-requires
-    loop-holds
-    run-at-requires
-    retry-run-requires
-    add-i
-    loop-less
-    loop-again
-    same-length
-    returns)
+    (tie.spec Inv-loop μ-loop (λ c κs. search needs) loop-holds run-at-requires (λ c κs. search needs) add-i loop-less
+    loop-again same-length returns)

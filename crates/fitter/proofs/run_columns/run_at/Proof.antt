@@ -23,9 +23,6 @@ all k = within-all _ _ _ _ _ _ _ (start k .pre)
 shared-slice-read-is-set : tie.Need-shared-slice-read-is-set
 shared-slice-read-is-set c = all c .first
 
-is-set-requires : tie.Need-is-set-requires
-is-set-requires c κs = search needs
-
 mul-t11 : tie.Need-mul-t11
 mul-t11 c =
     let k = c .before in
@@ -65,9 +62,6 @@ shared-slice-read-t22 c = all (c .before .before .before .before .before) .fifth
 shared-slice-read-is-set-2 : tie.Need-shared-slice-read-is-set-2
 shared-slice-read-is-set-2 c = all (c .before .before .before .before .before .before) .sixth
 
-is-set-requires-2 : tie.Need-is-set-requires-2
-is-set-requires-2 c κs = search needs
-
 returns : tie.Need-returns
 unfolding runOf
 returns c = rw (c .is-set2 .ensures, c .before .before .before .before .before .before .is-set .ensures)
@@ -75,17 +69,6 @@ returns c = rw (c .is-set2 .ensures, c .before .before .before .before .before .
 pub run-at-spec : {M : Type 1} → statement M
 run-at-spec =
     tie.close
-    (tie.spec
-    shared-slice-read-is-set
-    is-set-requires
-    mul-t11
-    shared-slice-read-t13
-    mul-t14
-    shared-slice-read-t16
-    mul-t17
-    shared-slice-read-t19
-    mul-t20
-    shared-slice-read-t22
-    shared-slice-read-is-set-2
-    is-set-requires-2
-    returns)
+    (tie.spec shared-slice-read-is-set (λ c κs. search needs) mul-t11 shared-slice-read-t13 mul-t14
+    shared-slice-read-t16 mul-t17 shared-slice-read-t19 mul-t20 shared-slice-read-t22 shared-slice-read-is-set-2
+    (λ c κs. search needs) returns)

@@ -4,21 +4,6 @@ use borrow.Author.Needs.{needs}
 use Rattle.fitter.proofs.run_columns.run_count.Statement.{statement}
 use Rattle.fitter.proofs.run_columns.run_count.Tie as tie
 
-shorter-of-requires : tie.Need-shorter-of-requires
-shorter-of-requires c κs = search needs
-
-shorter-of-requires-2 : tie.Need-shorter-of-requires-2
-shorter-of-requires-2 c κs = search needs
-
-shorter-of-requires-3 : tie.Need-shorter-of-requires-3
-shorter-of-requires-3 c κs = search needs
-
-shorter-of-requires-4 : tie.Need-shorter-of-requires-4
-shorter-of-requires-4 c κs = search needs
-
-shorter-of-requires-5 : tie.Need-shorter-of-requires-5
-shorter-of-requires-5 c κs = search needs
-
 returns : tie.Need-returns
 unfolding countOfRuns
 returns c =
@@ -37,10 +22,5 @@ returns c =
 pub run-count-spec : {M : Type 1} → statement M
 run-count-spec =
     tie.close
-    (tie.spec
-    shorter-of-requires
-    shorter-of-requires-2
-    shorter-of-requires-3
-    shorter-of-requires-4
-    shorter-of-requires-5
-    returns)
+    (tie.spec (λ c κs. search needs) (λ c κs. search needs) (λ c κs. search needs) (λ c κs. search needs)
+    (λ c κs. search needs) returns)

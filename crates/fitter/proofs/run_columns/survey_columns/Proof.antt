@@ -24,12 +24,6 @@ Inv-loop converged costs places lengths iterations caps lent wanted n s₀ i₀ 
 abbrev μ-loop : tie.MeasureT-loop
 μ-loop converged costs places lengths iterations caps lent wanted n s₀ i₀ s i = n - i
 
-run-count-requires : tie.Need-run-count-requires Inv-loop μ-loop
-run-count-requires c κs = search needs
-
-no-survey-requires : tie.Need-no-survey-requires Inv-loop μ-loop
-no-survey-requires c κs = search needs
-
 loop-holds : tie.Need-loop-holds Inv-loop μ-loop
 loop-holds c = begins _ _ _ _ _ zero-le (c .no-survey .ensures)
 
@@ -37,12 +31,6 @@ run-at-requires : tie.Need-run-at-requires Inv-loop μ-loop
 run-at-requires c κs =
     let l = c .before in
     subst (λ (m : ℕ). l .loop .i < m) (l .before .before .run-count .ensures) (c .loop-test .taken)
-
-count-run-requires : tie.Need-count-run-requires Inv-loop μ-loop
-count-run-requires c κs = search needs
-
-run-point-requires : tie.Need-run-point-requires Inv-loop μ-loop
-run-point-requires c κs = search needs
 
 enum-known-point : tie.Need-enum-known-point Inv-loop μ-loop
 enum-known-point c = c .match .keys1
@@ -94,9 +82,6 @@ loop-again c =
     goes-on _ _ _ _ (loop p .loop .inv) _ (turn p .loop-test .taken)
     (counted p ∙ point-is p RunPoint.Missing (c .enum-told .given .1))
 
-weigh-run-requires : tie.Need-weigh-run-requires Inv-loop μ-loop
-weigh-run-requires c κs = search needs
-
 add-i-2 : tie.Need-add-i-2 Inv-loop μ-loop
 add-i-2 c =
     let t = turn (c .before .before .before .before) in
@@ -134,22 +119,6 @@ returns c =
 pub survey-columns-spec : {M : Type 1} → statement M
 survey-columns-spec =
     tie.close
-    (tie.spec
-    Inv-loop
-    μ-loop
-    run-count-requires
-    no-survey-requires
-    loop-holds
-    run-at-requires
-    count-run-requires
-    run-point-requires
-    enum-known-point
-    enum-told
-    add-i
-    loop-less
-    loop-again
-    weigh-run-requires
-    add-i-2
-    loop-less-2
-    loop-again-2
-    returns)
+    (tie.spec Inv-loop μ-loop (λ c κs. search needs) (λ c κs. search needs) loop-holds run-at-requires
+    (λ c κs. search needs) (λ c κs. search needs) enum-known-point enum-told add-i loop-less loop-again
+    (λ c κs. search needs) add-i-2 loop-less-2 loop-again-2 returns)

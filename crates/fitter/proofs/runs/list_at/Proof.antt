@@ -22,44 +22,11 @@ module _ (lists : List Float) (place n : ℕ) where
       let e : place + n - place ≡ n = omega arith in
       rw (le-ltb _ _ h, e)
 
-sub-result : tie.Need-sub-result
-sub-result c = search needs
-
-part-result-start : tie.Need-part-result-start
-part-result-start c = search needs
-
-part-result-end : tie.Need-part-result-end
-part-result-end c = search needs
-
 returns : tie.Need-returns
 returns c = none _ _ _ (omega (arith, c .before .if1 .taken))
 
-sub-result-2 : tie.Need-sub-result-2
-sub-result-2 c = search needs
-
-part-result-start-2 : tie.Need-part-result-start-2
-part-result-start-2 c = search needs
-
-part-result-end-2 : tie.Need-part-result-end-2
-part-result-end-2 c = search needs
-
 returns-2 : tie.Need-returns-2
 returns-2 c = none _ _ _ (omega (arith, c .before .before .if1 .left, c .before .if2 .taken))
-
-add-end : tie.Need-add-end
-add-end c = search needs
-
-mul-result : tie.Need-mul-result
-mul-result c = search needs
-
-sub-result-3 : tie.Need-sub-result-3
-sub-result-3 c = search needs
-
-part-result-start-3 : tie.Need-part-result-start-3
-part-result-start-3 c = search needs
-
-part-result-end-3 : tie.Need-part-result-end-3
-part-result-end-3 c = search needs
 
 returns-3 : tie.Need-returns-3
 returns-3 c = part _ _ _ (omega (arith, c .before .before .if1 .left, c .before .if2 .left))
@@ -67,18 +34,6 @@ returns-3 c = part _ _ _ (omega (arith, c .before .before .if1 .left, c .before 
 pub list-at-spec : {M : Type 1} → statement M
 list-at-spec =
     tie.close
-    (tie.spec
-    sub-result
-    part-result-start
-    part-result-end
-    returns
-    sub-result-2
-    part-result-start-2
-    part-result-end-2
-    returns-2
-    add-end
-    mul-result
-    sub-result-3
-    part-result-start-3
-    part-result-end-3
-    returns-3)
+    (tie.spec (λ c. search needs) (λ c. search needs) (λ c. search needs) returns (λ c. search needs)
+    (λ c. search needs) (λ c. search needs) returns-2 (λ c. search needs) (λ c. search needs) (λ c. search needs)
+    (λ c. search needs) (λ c. search needs) returns-3)

@@ -3,11 +3,8 @@ use borrow.Author.Needs.{needs}
 use Rattle.fitter.proofs.selection.none_yet.Statement.{statement}
 use Rattle.fitter.proofs.selection.none_yet.Tie as tie
 
-empty-fit-requires : tie.Need-empty-fit-requires
-empty-fit-requires c κs = search needs
-
 returns : tie.Need-returns
 returns c = rw (c .empty-fit .ensures)
 
 pub none-yet-spec : {M : Type 1} → statement M
-none-yet-spec = tie.close (tie.spec empty-fit-requires returns)
+none-yet-spec = tie.close (tie.spec (λ c κs. search needs) returns)

@@ -5,9 +5,6 @@ use borrow.Author.Needs.{needs}
 use Rattle.fitter.proofs.selection.replace.Statement.{statement}
 use Rattle.fitter.proofs.selection.replace.Tie as tie
 
-wins-requires : tie.Need-wins-requires
-wins-requires c κs = search needs
-
 returns : tie.Need-returns
 unfolding replaceOf
 returns c = rw (sym (c .before .wins .ensures) ∙ c .if1 .taken)
@@ -17,4 +14,4 @@ unfolding replaceOf
 returns-2 c = rw (sym (c .before .wins .ensures) ∙ c .if1 .left)
 
 pub replace-spec : {M : Type 1} → statement M
-replace-spec = tie.close (tie.spec wins-requires returns returns-2)
+replace-spec = tie.close (tie.spec (λ c κs. search needs) returns returns-2)

@@ -10,18 +10,9 @@ tolerance-is : tolerance ≡ ofBits binary64 0x3e112e0be826d695
 unfolding ofBits round
 tolerance-is = refl
 
-abs-requires : tie.Need-abs-requires
-abs-requires c κs = search needs
-
-abs-requires-2 : tie.Need-abs-requires-2
-abs-requires-2 c κs = search needs
-
-max-requires : tie.Need-max-requires
-max-requires c κs = search needs
-
 returns : tie.Need-returns
 unfolding replacesOf
 returns c = rw (tolerance-is, c .max .ensures, c .before .abs2 .ensures, c .before .before .abs .ensures)
 
 pub replaces-spec : {M : Type 1} → statement M
-replaces-spec = tie.close (tie.spec abs-requires abs-requires-2 max-requires returns)
+replaces-spec = tie.close (tie.spec (λ c κs. search needs) (λ c κs. search needs) (λ c κs. search needs) returns)

@@ -34,33 +34,6 @@ four-steps l d none one two three four h p q r s t =
     let third = s ∙ ap (λ (b : Selected). then b l d 2) second in
     t ∙ ap (λ (b : Selected). then b l d 3) third ∙ in-order l d h
 
-none-yet-requires : tie.Need-none-yet-requires
-none-yet-requires c κs = search needs
-
-array-copy-out-replace : tie.Need-array-copy-out-replace
-array-copy-out-replace c = search needs
-
-replace-requires : tie.Need-replace-requires
-replace-requires c κs = search needs
-
-array-copy-out-replace-2 : tie.Need-array-copy-out-replace-2
-array-copy-out-replace-2 c = search needs
-
-replace-requires-2 : tie.Need-replace-requires-2
-replace-requires-2 c κs = search needs
-
-array-copy-out-replace-3 : tie.Need-array-copy-out-replace-3
-array-copy-out-replace-3 c = search needs
-
-replace-requires-3 : tie.Need-replace-requires-3
-replace-requires-3 c κs = search needs
-
-array-copy-out-replace-4 : tie.Need-array-copy-out-replace-4
-array-copy-out-replace-4 c = search needs
-
-replace-requires-4 : tie.Need-replace-requires-4
-replace-requires-4 c κs = search needs
-
 returns : tie.Need-returns
 returns c =
     let third = c .before .before in
@@ -73,14 +46,6 @@ returns c =
 pub select-fit-spec : {M : Type 1} → statement M
 select-fit-spec =
     tie.close
-    (tie.spec
-    none-yet-requires
-    array-copy-out-replace
-    replace-requires
-    array-copy-out-replace-2
-    replace-requires-2
-    array-copy-out-replace-3
-    replace-requires-3
-    array-copy-out-replace-4
-    replace-requires-4
+    (tie.spec (λ c κs. search needs) (λ c. search needs) (λ c κs. search needs) (λ c. search needs)
+    (λ c κs. search needs) (λ c. search needs) (λ c κs. search needs) (λ c. search needs) (λ c κs. search needs)
     returns)

@@ -23,12 +23,6 @@ module _ (best : Selected) (next : FitAttempt) where
   unfolding winsOf
   invalid v = rw v
 
-is-valid-requires : tie.Need-is-valid-requires
-is-valid-requires c κs = search needs
-
-replaces-requires : tie.Need-replaces-requires
-replaces-requires c κs = search needs
-
 returns : tie.Need-returns
 returns c =
     let valid = c .before .before in
@@ -44,4 +38,4 @@ returns-3 : tie.Need-returns-3
 returns-3 c = invalid _ _ (sym (c .before .is-valid .ensures) ∙ c .if1 .left)
 
 pub wins-spec : {M : Type 1} → statement M
-wins-spec = tie.close (tie.spec is-valid-requires replaces-requires returns returns-2 returns-3)
+wins-spec = tie.close (tie.spec (λ c κs. search needs) (λ c κs. search needs) returns returns-2 returns-3)

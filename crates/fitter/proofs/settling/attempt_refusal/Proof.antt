@@ -114,9 +114,6 @@ past-high c n h =
     past-low (low c) n (goes-on (aboveMost (highs s)) (inOrder (after-high s)) refl none n h)
 
 -- ---- 4, 5 and 6
-spectrum-refusal-requires : tie.Need-spectrum-refusal-requires
-spectrum-refusal-requires c κs = search needs
-
 -- behind 1 and 2 it says the number of these
 spectrum-says : (c : tie.After-spectrum-refusal)
     → c .spectrum-refusal .result ≡ firstOf (spectrum (start-low (low (c .before))))
@@ -146,9 +143,6 @@ past-spectrum c n h =
     (goes-on (spectrum s) (inOrder (after-spectrum s)) (unfold spectrumTests in refl) none n h)
 
 -- ---- 7, and 9 of a run
-first-number-requires : tie.Need-first-number-requires
-first-number-requires c κs = search needs
-
 returns-4 : tie.Need-returns-4
 returns-4 c =
     let s = start-spectrum (c .before .before) in
@@ -163,16 +157,10 @@ past-runs c n h =
     past-spectrum (c .before .before) n (goes-on (runs s) (inOrder (after-bad s)) refl none n h)
 
 -- ---- 9 of the limit
-bad-limit-requires : tie.Need-bad-limit-requires
-bad-limit-requires c κs = search needs
-
 returns-5 : tie.Need-returns-5
 returns-5 c = past-runs (c .before .before) 9 (rw (sym (c .before .bad-limit .ensures) ∙ c .if11 .taken))
 
 -- ---- 10
-table-refusal-requires : tie.Need-table-refusal-requires
-table-refusal-requires c κs = search needs
-
 -- behind 2 and 5 it says the number of this
 table-says : (c : tie.After-table-refusal) → let a = start-spectrum (c .before .before .before .before .before) .args in
     c .table-refusal .result ≡ firstOf (shortTable (a .setup .genome) (a .setup .«window_end») (a .room))
@@ -194,14 +182,5 @@ returns-6 c =
 pub attempt-refusal-spec : {M : Type 1} → statement M
 attempt-refusal-spec =
     tie.close
-    (tie.spec
-    returns
-    returns-2
-    spectrum-refusal-requires
-    returns-3
-    first-number-requires
-    returns-4
-    bad-limit-requires
-    returns-5
-    table-refusal-requires
-    returns-6)
+    (tie.spec returns returns-2 (λ c κs. search needs) returns-3 (λ c κs. search needs) returns-4
+    (λ c κs. search needs) returns-5 (λ c κs. search needs) returns-6)

@@ -4,15 +4,9 @@ use borrow.Author.Needs.{needs}
 use Rattle.fitter.proofs.settling.no_held.Statement.{statement}
 use Rattle.fitter.proofs.settling.no_held.Tie as tie
 
-no-run-requires : tie.Need-no-run-requires
-no-run-requires c κs = search needs
-
-empty-fit-requires : tie.Need-empty-fit-requires
-empty-fit-requires c κs = search needs
-
 returns : tie.Need-returns
 unfolding noHeld
 returns c = rw (c .before .no-run .ensures, c .empty-fit .ensures)
 
 pub no-held-spec : {M : Type 1} → statement M
-no-held-spec = tie.close (tie.spec no-run-requires empty-fit-requires returns)
+no-held-spec = tie.close (tie.spec (λ c κs. search needs) (λ c κs. search needs) returns)

@@ -6,12 +6,6 @@ use Rattle.fitter.proofs.Settlement.{settled-refused, settled-none, set
 use Rattle.fitter.proofs.settling.settle.Statement.{statement}
 use Rattle.fitter.proofs.settling.settle.Tie as tie
 
-attempt-refusal-requires : tie.Need-attempt-refusal-requires
-attempt-refusal-requires c κs = search needs
-
-no-held-requires : tie.Need-no-held-requires
-no-held-requires c κs = search needs
-
 abbrev start : tie.After-attempt-refusal → tie.Start
 start r = r .before .before .before .before
 
@@ -26,9 +20,6 @@ returns c =
       refl,
     )
 
-no-held-requires-2 : tie.Need-no-held-requires-2
-no-held-requires-2 c κs = search needs
-
 returns-2 : tie.Need-returns-2
 returns-2 c =
     let t = c .before in
@@ -40,12 +31,6 @@ returns-2 c =
           (r .attempt-refusal .ensures) (e .if1 .left) (from-not (t .if2 .taken))),
       refl,
     )
-
-judge-run-requires : tie.Need-judge-run-requires
-judge-run-requires c κs = search needs
-
-is-unrejected-requires : tie.Need-is-unrejected-requires
-is-unrejected-requires c κs = search needs
 
 same-length : tie.Need-same-length
 same-length c = let j = c .before .before .before in j .judge-run .kept .1 .1 .1 .1 .0
@@ -66,13 +51,5 @@ returns-3 c =
 pub settle-spec : {M : Type 1} → statement M
 settle-spec =
     tie.close
-    (tie.spec
-    attempt-refusal-requires
-    no-held-requires
-    returns
-    no-held-requires-2
-    returns-2
-    judge-run-requires
-    is-unrejected-requires
-    same-length
-    returns-3)
+    (tie.spec (λ c κs. search needs) (λ c κs. search needs) returns (λ c κs. search needs) returns-2
+    (λ c κs. search needs) (λ c κs. search needs) same-length returns-3)

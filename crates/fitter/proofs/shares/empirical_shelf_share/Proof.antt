@@ -53,9 +53,6 @@ high : (c : tie.Else6) → Each (λ (n : ℕ). n ≤ most) (all (start-high c))
 high c = (c .before .before .if4 .left, (ltb-false _ _ (c .before .if5 .left), (ltb-false _ _ (c .if6 .left), tt)))
 
 -- ---- the share
-used-scale-requires : tie.Need-used-scale-requires
-used-scale-requires c κs = search needs
-
 share-requires : tie.Need-share-requires
 share-requires c κs =
     let two = low (c .before .before .before .before) .0 in
@@ -70,5 +67,4 @@ returns-3 c =
     ∙ sym (share-given _ _ _ _ (low (e .before .before .before)) (high e))
 
 pub empirical-shelf-share-spec : {M : Type 1} → statement M
-empirical-shelf-share-spec =
-    tie.close (tie.spec returns returns-2 used-scale-requires share-requires returns-3)
+empirical-shelf-share-spec = tie.close (tie.spec returns returns-2 (λ c κs. search needs) share-requires returns-3)

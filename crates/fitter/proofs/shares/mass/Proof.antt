@@ -22,9 +22,6 @@ Inv-loop bins used from to end total₀ i₀ total i =
 abbrev μ-loop : tie.MeasureT-loop
 μ-loop bins used from to end total₀ i₀ total i = end - i
 
-reach-requires : tie.Need-reach-requires Inv-loop μ-loop
-reach-requires c κs = search needs
-
 sub-i : tie.Need-sub-i Inv-loop μ-loop
 sub-i c = omega arith
 
@@ -32,17 +29,8 @@ loop-holds : tie.Need-loop-holds Inv-loop μ-loop
 unfolding neg ofBits
 loop-holds c = begins _ _ _ _ _ (omega arith) refl
 
-mul-rounded-quotient : tie.Need-mul-rounded-quotient Inv-loop μ-loop
-mul-rounded-quotient c = search needs
-
 shared-slice-read-rounded-quotient : tie.Need-shared-slice-read-rounded-quotient Inv-loop μ-loop
 shared-slice-read-rounded-quotient c = omega arith
-
-rounded-quotient-requires : tie.Need-rounded-quotient-requires Inv-loop μ-loop
-rounded-quotient-requires c κs = search needs
-
-int-to-float-total : tie.Need-int-to-float-total Inv-loop μ-loop
-int-to-float-total c = search needs
 
 add-i : tie.Need-add-i Inv-loop μ-loop
 add-i c = omega arith
@@ -72,17 +60,5 @@ returns c =
 pub mass-spec : {M : Type 1} → statement M
 mass-spec =
     tie.close
-    (tie.spec
-    Inv-loop
-    μ-loop
-    reach-requires
-    sub-i
-    loop-holds
-    mul-rounded-quotient
-    shared-slice-read-rounded-quotient
-    rounded-quotient-requires
-    int-to-float-total
-    add-i
-    loop-less
-    loop-again
-    returns)
+    (tie.spec Inv-loop μ-loop (λ c κs. search needs) sub-i loop-holds (λ c. search needs)
+    shared-slice-read-rounded-quotient (λ c κs. search needs) (λ c. search needs) add-i loop-less loop-again returns)

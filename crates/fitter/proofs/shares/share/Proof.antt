@@ -19,9 +19,6 @@ returns c = empty-lobe _ _ _ _ (c .before .mass .ensures) _ (unfold ofBits round
 mass-requires-2 : tie.Need-mass-requires-2
 mass-requires-2 c κs = c .before .before .before .pre .0
 
-clamp-requires : tie.Need-clamp-requires
-clamp-requires c κs = search needs
-
 returns-2 : tie.Need-returns-2
 returns-2 c =
     let some = c .before .before in
@@ -30,4 +27,4 @@ returns-2 c =
     (unfold ofBits round in refl) (unfold ofBits round in refl) (some .if1 .left)
 
 pub share-spec : {M : Type 1} → statement M
-share-spec = tie.close (tie.spec mul-mass mass-requires returns mass-requires-2 clamp-requires returns-2)
+share-spec = tie.close (tie.spec mul-mass mass-requires returns mass-requires-2 (λ c κs. search needs) returns-2)

@@ -4,16 +4,9 @@ use borrow.Author.Needs.{needs}
 use Rattle.fitter.proofs.start_writers.logit.Statement.{statement}
 use Rattle.fitter.proofs.start_writers.logit.Tie as tie
 
-ln-requires : tie.Need-ln-requires
-ln-requires c κs = search needs
-
 returns : tie.Need-returns
 unfolding logitOf
 returns c = c .ln .ensures
 
 pub logit-spec : {M : Type 1} → statement M
-logit-spec =
-    tie.close
-    (tie.spec
-    ln-requires
-    returns)
+logit-spec = tie.close (tie.spec (λ c κs. search needs) returns)

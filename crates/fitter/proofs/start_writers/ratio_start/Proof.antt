@@ -5,16 +5,9 @@ use borrow.Author.Needs.{needs}
 use Rattle.fitter.proofs.start_writers.ratio_start.Statement.{statement}
 use Rattle.fitter.proofs.start_writers.ratio_start.Tie as tie
 
-logit-requires : tie.Need-logit-requires
-logit-requires c κs = search needs
-
 returns : tie.Need-returns
 unfolding ratioStart round ofBits
 returns c = c .logit .ensures
 
 pub ratio-start-spec : {M : Type 1} → statement M
-ratio-start-spec =
-    tie.close
-    (tie.spec
-    logit-requires
-    returns)
+ratio-start-spec = tie.close (tie.spec (λ c κs. search needs) returns)

@@ -9,12 +9,6 @@ use borrow.Author.Needs.{needs}
 use Rattle.fitter.proofs.start_writers.seed_at.Statement.{statement}
 use Rattle.fitter.proofs.start_writers.seed_at.Tie as tie
 
-mul-result : tie.Need-mul-result
-mul-result c = search needs
-
-shared-slice-read-result : tie.Need-shared-slice-read-result
-shared-slice-read-result c = search needs
-
 returns : tie.Need-returns
 returns c =
     let a = c .before .before .args in
@@ -27,10 +21,4 @@ returns-2 c =
     sym (getD-at (a .seeds .now) (a .hint) [] nan (a .i) (omega (arith, s .pre, c .if1 .left)))
 
 pub seed-at-spec : {M : Type 1} → statement M
-seed-at-spec =
-    tie.close
-    (tie.spec
-    mul-result
-    shared-slice-read-result
-    returns
-    returns-2)
+seed-at-spec = tie.close (tie.spec (λ c. search needs) (λ c. search needs) returns returns-2)

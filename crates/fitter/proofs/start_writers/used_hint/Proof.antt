@@ -6,9 +6,6 @@ use borrow.Author.Needs.{needs}
 use Rattle.fitter.proofs.start_writers.used_hint.Statement.{statement}
 use Rattle.fitter.proofs.start_writers.used_hint.Tie as tie
 
-is-finite-requires : tie.Need-is-finite-requires
-is-finite-requires c κs = search needs
-
 returns : tie.Need-returns
 unfolding hintOf
 returns c =
@@ -22,9 +19,4 @@ returns-2 c =
     ⊎-elim (λ t. rw (finite-is ∙ t .0 .taken, t .1 .left)) (λ t. rw (finite-is ∙ t .left)) (c .if1 .came)
 
 pub used-hint-spec : {M : Type 1} → statement M
-used-hint-spec =
-    tie.close
-    (tie.spec
-    is-finite-requires
-    returns
-    returns-2)
+used-hint-spec = tie.close (tie.spec (λ c κs. search needs) returns returns-2)

@@ -40,21 +40,6 @@ pareto-is t =
     (r .before .before .before .ln .ensures) (r .before .before .logit .ensures) (r .ratio-start .ensures)
     (t .enum-told2 .given .1)
 
-dispersion-start-requires : tie.Need-dispersion-start-requires
-dispersion-start-requires c κs = search needs
-
-ln-requires : tie.Need-ln-requires
-ln-requires c κs = search needs
-
-logit-requires : tie.Need-logit-requires
-logit-requires c κs = search needs
-
-ln-requires-2 : tie.Need-ln-requires-2
-ln-requires-2 c κs = search needs
-
-ratio-start-requires : tie.Need-ratio-start-requires
-ratio-start-requires c κs = search needs
-
 enum-told : tie.Need-enum-told
 enum-told c = search needs
 
@@ -63,16 +48,10 @@ put-weibull-requires c κs =
     let s = start (c .before .before .before) in
     subst (λ (l : List Float). length l ≤ length (s .args .rest .now)) (weibull-is (c .before)) (s .pre)
 
-enum-told-2 : tie.Need-enum-told-2
-enum-told-2 c = search needs
-
 put-pareto-requires : tie.Need-put-pareto-requires
 put-pareto-requires c κs =
     let s = start (c .before .before .before) in
     subst (λ (l : List Float). length l ≤ length (s .args .rest .now)) (pareto-is (c .before)) (s .pre)
-
-same-length : tie.Need-same-length
-same-length c = search needs
 
 returns : tie.Need-returns
 returns c =
@@ -80,9 +59,6 @@ returns c =
     let e = weibull-is (p .before .before) in
     let b = start (p .before .before .before .before) .args .rest .now in
     (p .put-weibull .ensures .0 ∙ ap length (sym e), p .put-weibull .ensures .1 ∙ ap (λ (l : List Float). over l b) (sym e))
-
-same-length-2 : tie.Need-same-length-2
-same-length-2 c = search needs
 
 returns-2 : tie.Need-returns-2
 returns-2 c =
@@ -94,17 +70,6 @@ returns-2 c =
 pub write-plain-spec : {M : Type 1} → statement M
 write-plain-spec =
     tie.close
-    (tie.spec
-    dispersion-start-requires
-    ln-requires
-    logit-requires
-    ln-requires-2
-    ratio-start-requires
-    enum-told
-    put-weibull-requires
-    enum-told-2
-    put-pareto-requires
-    same-length
-    returns
-    same-length-2
-    returns-2)
+    (tie.spec (λ c κs. search needs) (λ c κs. search needs) (λ c κs. search needs) (λ c κs. search needs)
+    (λ c κs. search needs) enum-told put-weibull-requires (λ c. search needs) put-pareto-requires (λ c. search needs)
+    returns (λ c. search needs) returns-2)

@@ -11,24 +11,15 @@ write-plain-requires : tie.Need-write-plain-requires
 unfolding rowStarts
 write-plain-requires c κs = rw (c .before .enum-told .given .1) at (c .before .before .before .before .before .pre)
 
-enum-told-2 : tie.Need-enum-told-2
-enum-told-2 c = search needs
-
 write-shapes-requires : tie.Need-write-shapes-requires
 unfolding rowStarts
 write-shapes-requires c κs = rw (c .before .enum-told2 .given .1) at (c .before .before .before .before .before .pre)
-
-same-length : tie.Need-same-length
-same-length c = search needs
 
 returns : tie.Need-returns
 unfolding rowStarts
 returns c =
     let p = c .before .before in
     rw (p .before .before .enum-told .given .1) (p .write-plain .ensures)
-
-same-length-2 : tie.Need-same-length-2
-same-length-2 c = search needs
 
 returns-2 : tie.Need-returns-2
 unfolding rowStarts
@@ -39,12 +30,5 @@ returns-2 c =
 pub write-row-spec : {M : Type 1} → statement M
 write-row-spec =
     tie.close
-    (tie.spec
-    enum-told
-    write-plain-requires
-    enum-told-2
-    write-shapes-requires
-    same-length
-    returns
-    same-length-2
-    returns-2)
+    (tie.spec enum-told write-plain-requires (λ c. search needs) write-shapes-requires (λ c. search needs) returns
+    (λ c. search needs) returns-2)

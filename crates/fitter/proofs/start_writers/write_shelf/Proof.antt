@@ -29,24 +29,9 @@ list-is c =
     shelf-part (a .share) (a .shape) (first c .before .shelf-concentration-bounds .result) _ _ _
     (first c .before .shelf-concentration-bounds .ensures) (first c .logit .ensures) (second c .logit2 .ensures) (c .logit3 .ensures)
 
-shelf-concentration-bounds-requires : tie.Need-shelf-concentration-bounds-requires
-shelf-concentration-bounds-requires c κs = search needs
-
-logit-requires : tie.Need-logit-requires
-logit-requires c κs = search needs
-
-logit-requires-2 : tie.Need-logit-requires-2
-logit-requires-2 c κs = search needs
-
-logit-requires-3 : tie.Need-logit-requires-3
-logit-requires-3 c κs = search needs
-
 put-shelf-requires : tie.Need-put-shelf-requires
 unfolding shelfList
 put-shelf-requires c κs = start (c .before) .pre
-
-same-length : tie.Need-same-length
-same-length c = search needs
 
 returns : tie.Need-returns
 returns c =
@@ -59,11 +44,5 @@ returns c =
 pub write-shelf-spec : {M : Type 1} → statement M
 write-shelf-spec =
     tie.close
-    (tie.spec
-    shelf-concentration-bounds-requires
-    logit-requires
-    logit-requires-2
-    logit-requires-3
-    put-shelf-requires
-    same-length
-    returns)
+    (tie.spec (λ c κs. search needs) (λ c κs. search needs) (λ c κs. search needs) (λ c κs. search needs)
+    put-shelf-requires (λ c. search needs) returns)

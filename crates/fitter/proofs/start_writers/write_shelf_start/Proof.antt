@@ -37,9 +37,6 @@ sub-write-shelf c = omega (arith, inside (c .before .before))
 part-write-shelf-start : tie.Need-part-write-shelf-start
 part-write-shelf-start c = omega (arith, inside (c .before .before))
 
-part-write-shelf-end : tie.Need-part-write-shelf-end
-part-write-shelf-end c = search needs
-
 write-shelf-requires : tie.Need-write-shelf-requires
 write-shelf-requires c κs =
     let p = c .before .before .before in
@@ -49,9 +46,6 @@ write-shelf-requires c κs =
 
 add-result : tie.Need-add-result
 add-result c = let p = c .before .before .before .before .before .before in omega (arith, inside p)
-
-same-length : tie.Need-same-length
-same-length c = search needs
 
 returns : tie.Need-returns
 returns c =
@@ -66,13 +60,5 @@ returns c =
 pub write-shelf-start-spec : {M : Type 1} → statement M
 write-shelf-start-spec =
     tie.close
-    (tie.spec
-    write-plain-requires
-    mul-write-shelf
-    sub-write-shelf
-    part-write-shelf-start
-    part-write-shelf-end
-    write-shelf-requires
-    add-result
-    same-length
-    returns)
+    (tie.spec write-plain-requires mul-write-shelf sub-write-shelf part-write-shelf-start (λ c. search needs)
+    write-shelf-requires add-result (λ c. search needs) returns)

@@ -21,24 +21,6 @@ fixed : (error : ErrorModel) (genome : GenomeModel) (p w seeds : List Float) (hi
     ≡ startsOf error genome paretoStarts weibullStarts seeds hint share shapes room
 fixed error genome p w seeds hint share shapes room ep ew = rw (ep, ew)
 
-pareto-starts-requires : tie.Need-pareto-starts-requires
-pareto-starts-requires c κs = search needs
-
-weibull-starts-requires : tie.Need-weibull-starts-requires
-weibull-starts-requires c κs = search needs
-
-slice-aggregate-fit-starts-lent : tie.Need-slice-aggregate-fit-starts-lent
-slice-aggregate-fit-starts-lent c = search needs
-
-slice-aggregate-fit-starts-lent-2 : tie.Need-slice-aggregate-fit-starts-lent-2
-slice-aggregate-fit-starts-lent-2 c = search needs
-
-fit-starts-lent-requires : tie.Need-fit-starts-lent-requires
-fit-starts-lent-requires c κs = search needs
-
-same-length : tie.Need-same-length
-same-length c = search needs
-
 returns : tie.Need-returns
 returns c =
     let k = c .before .before in
@@ -54,11 +36,5 @@ returns c =
 pub fit-starts-spec : {M : Type 1} → statement M
 fit-starts-spec =
     tie.close
-    (tie.spec
-    pareto-starts-requires
-    weibull-starts-requires
-    slice-aggregate-fit-starts-lent
-    slice-aggregate-fit-starts-lent-2
-    fit-starts-lent-requires
-    same-length
-    returns)
+    (tie.spec (λ c κs. search needs) (λ c κs. search needs) (λ c. search needs) (λ c. search needs)
+    (λ c κs. search needs) (λ c. search needs) returns)

@@ -78,9 +78,6 @@ writes h =
     starts-are (a .error) (a .genome) (p (read y)) (w (read y)) (a .seeds .now) (a .hint) (a .share) (a .shapes .now)
     (length (a .out .now)) (table (read y)) (is-table y) (h .used-hint .result) (h .used-hint .ensures)
 
-start-table-requires : tie.Need-start-table-requires
-start-table-requires c κs = search needs
-
 returns : tie.Need-returns
 returns c =
     let t = c .before in
@@ -98,12 +95,6 @@ returns-2 c =
     (shapes-refused (a .error) (a .genome) (p t) (w t) (a .seeds .now) (a .hint) (a .share) (a .shapes .now) (length (a .out .now))
     (fine t (c .before .if1 .left)) (c .if2 .taken))
     (refl, refl)
-
-list-length-requires : tie.Need-list-length-requires
-list-length-requires c κs = search needs
-
-per-row-requires : tie.Need-per-row-requires
-per-row-requires c κs = search needs
 
 too-short-requires : tie.Need-too-short-requires
 too-short-requires c κs =
@@ -125,9 +116,6 @@ returns-3 c =
     (fine-at y) (even y .if2 .left) (sym (short-is y) ∙ c .if3 .taken))
     (refl, refl)
 
-used-hint-requires : tie.Need-used-hint-requires
-used-hint-requires c κs = search needs
-
 write-starts-requires : tie.Need-write-starts-requires
 write-starts-requires c κs =
     let h = c .before in
@@ -135,9 +123,6 @@ write-starts-requires c κs =
     let a = start (read y) .args in
     subst (λ (l : List Float). length l ≤ length (a .out .now)) (sym (writes h))
     (ltb-false _ _ (sym (short-is y) ∙ h .before .if3 .left))
-
-same-length : tie.Need-same-length
-same-length c = search needs
 
 returns-4 : tie.Need-returns-4
 returns-4 c =
@@ -156,15 +141,5 @@ returns-4 c =
 pub fit-starts-lent-spec : {M : Type 1} → statement M
 fit-starts-lent-spec =
     tie.close
-    (tie.spec
-    start-table-requires
-    returns
-    returns-2
-    list-length-requires
-    per-row-requires
-    too-short-requires
-    returns-3
-    used-hint-requires
-    write-starts-requires
-    same-length
-    returns-4)
+    (tie.spec (λ c κs. search needs) returns returns-2 (λ c κs. search needs) (λ c κs. search needs)
+    too-short-requires returns-3 (λ c κs. search needs) write-starts-requires (λ c. search needs) returns-4)

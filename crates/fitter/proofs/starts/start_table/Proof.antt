@@ -5,18 +5,6 @@ use borrow.Author.Needs.{needs}
 use Rattle.fitter.proofs.starts.start_table.Statement.{statement}
 use Rattle.fitter.proofs.starts.start_table.Tie as tie
 
-start-tables-refusal-requires : tie.Need-start-tables-refusal-requires
-start-tables-refusal-requires c κs = search needs
-
-sub-result : tie.Need-sub-result
-sub-result c = search needs
-
-part-result-start : tie.Need-part-result-start
-part-result-start c = search needs
-
-part-result-end : tie.Need-part-result-end
-part-result-end c = search needs
-
 returns : tie.Need-returns
 returns c =
     let r = c .before .before in
@@ -24,9 +12,6 @@ returns c =
 
 enum-told : tie.Need-enum-told
 enum-told c = search needs
-
-enum-told-2 : tie.Need-enum-told-2
-enum-told-2 c = search needs
 
 returns-2 : tie.Need-returns-2
 returns-2 c =
@@ -43,13 +28,5 @@ returns-3 c =
 pub start-table-spec : {M : Type 1} → statement M
 start-table-spec =
     tie.close
-    (tie.spec
-    start-tables-refusal-requires
-    sub-result
-    part-result-start
-    part-result-end
-    returns
-    enum-told
-    enum-told-2
-    returns-2
-    returns-3)
+    (tie.spec (λ c κs. search needs) (λ c. search needs) (λ c. search needs) (λ c. search needs) returns enum-told
+    (λ c. search needs) returns-2 returns-3)

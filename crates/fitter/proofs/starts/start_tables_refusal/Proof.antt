@@ -4,14 +4,8 @@ use borrow.Author.Needs.{needs}
 use Rattle.fitter.proofs.starts.start_tables_refusal.Statement.{statement}
 use Rattle.fitter.proofs.starts.start_tables_refusal.Tie as tie
 
-not-rows-requires : tie.Need-not-rows-requires
-not-rows-requires c κs = search needs
-
 returns : tie.Need-returns
 returns c = simp (sym (c .before .not-rows .ensures) ∙ c .if1 .taken)
-
-not-rows-requires-2 : tie.Need-not-rows-requires-2
-not-rows-requires-2 c κs = search needs
 
 returns-2 : tie.Need-returns-2
 returns-2 c =
@@ -25,10 +19,4 @@ returns-3 c =
 
 pub start-tables-refusal-spec : {M : Type 1} → statement M
 start-tables-refusal-spec =
-    tie.close
-    (tie.spec
-    not-rows-requires
-    returns
-    not-rows-requires-2
-    returns-2
-    returns-3)
+    tie.close (tie.spec (λ c κs. search needs) returns (λ c κs. search needs) returns-2 returns-3)

@@ -11,15 +11,6 @@ returns c =
     let a = c .before .args in
     rw (c .if1 .taken) (sym (none-short (a .room) (a .width) (a .rows) (a .seeds)))
 
-div-result : tie.Need-div-result
-div-result c = search needs
-
-div-result-2 : tie.Need-div-result-2
-div-result-2 c = search needs
-
-div-result-3 : tie.Need-div-result-3
-div-result-3 c = search needs
-
 returns-2 : tie.Need-returns-2
 returns-2 c =
     let s = c .before in
@@ -27,11 +18,4 @@ returns-2 c =
     divided (a .room) (a .width) (a .each) (a .rows) (a .seeds) (s .pre .0) (omega (arith, c .if1 .left)) (s .pre .1)
 
 pub too-short-spec : {M : Type 1} → statement M
-too-short-spec =
-    tie.close
-    (tie.spec
-    returns
-    div-result
-    div-result-2
-    div-result-3
-    returns-2)
+too-short-spec = tie.close (tie.spec returns (λ c. search needs) (λ c. search needs) (λ c. search needs) returns-2)

@@ -8,9 +8,6 @@ use Rattle.fitter.proofs.Totals.{within, beyond}
 use Rattle.fitter.proofs.surveys.add_capped.Statement.{statement}
 use Rattle.fitter.proofs.surveys.add_capped.Tie as tie
 
-add-result : tie.Need-add-result
-add-result c = search needs
-
 full : (n : ℕ) → n ≤ top32 → top32 ≤ n → n ≡ atMost top32 (n + 1)
 full n h k =
     let e : n ≡ top32 = omega arith in
@@ -31,4 +28,4 @@ returns-3 : tie.Need-returns-3
 returns-3 c = rw (c .if1 .left) (none _ (search needs))
 
 pub add-capped-spec : {M : Type 1} → statement M
-add-capped-spec = tie.close (tie.spec add-result returns returns-2 returns-3)
+add-capped-spec = tie.close (tie.spec (λ c. search needs) returns returns-2 returns-3)

@@ -8,9 +8,6 @@ use Rattle.fitter.proofs.Totals.{within, beyond}
 use Rattle.fitter.proofs.surveys.add_iterations.Statement.{statement}
 use Rattle.fitter.proofs.surveys.add_iterations.Tie as tie
 
-sub-room : tie.Need-sub-room
-sub-room c = search needs
-
 over-top : (a b : ℕ) → top64 - a < b → top64 ≡ atMost top64 (a + b)
 over-top a b h = beyond top64 (a + b) (omega arith)
 
@@ -20,11 +17,8 @@ in-range a b h k = within top64 (a + b) (omega arith)
 returns : tie.Need-returns
 returns c = over-top _ _ (c .if1 .taken)
 
-add-result : tie.Need-add-result
-add-result c = search needs
-
 returns-2 : tie.Need-returns-2
 returns-2 c = in-range _ _ (search needs) (c .if1 .left)
 
 pub add-iterations-spec : {M : Type 1} → statement M
-add-iterations-spec = tie.close (tie.spec sub-room returns add-result returns-2)
+add-iterations-spec = tie.close (tie.spec (λ c. search needs) returns (λ c. search needs) returns-2)

@@ -5,9 +5,6 @@ use borrow.Author.Needs.{needs}
 use Rattle.fitter.proofs.surveys.lesser_of.Statement.{statement}
 use Rattle.fitter.proofs.surveys.lesser_of.Tie as tie
 
-is-less-requires : tie.Need-is-less-requires
-is-less-requires c κs = search needs
-
 returns : tie.Need-returns
 unfolding lesser
 returns c = rw (sym (c .before .is-less .ensures) ∙ c .if1 .taken)
@@ -17,4 +14,4 @@ unfolding lesser
 returns-2 c = rw (sym (c .before .is-less .ensures) ∙ c .if1 .left)
 
 pub lesser-of-spec : {M : Type 1} → statement M
-lesser-of-spec = tie.close (tie.spec is-less-requires returns returns-2)
+lesser-of-spec = tie.close (tie.spec (λ c κs. search needs) returns returns-2)

@@ -3,11 +3,8 @@ use borrow.Author.Needs.{needs}
 use Rattle.fitter.proofs.surveys.no_survey.Statement.{statement}
 use Rattle.fitter.proofs.surveys.no_survey.Tie as tie
 
-no-run-requires : tie.Need-no-run-requires
-no-run-requires c κs = search needs
-
 returns : tie.Need-returns
 returns c = rw (c .no-run .ensures)
 
 pub no-survey-spec : {M : Type 1} → statement M
-no-survey-spec = tie.close (tie.spec no-run-requires returns)
+no-survey-spec = tie.close (tie.spec (λ c κs. search needs) returns)

@@ -8,12 +8,6 @@ use borrow.Author.Needs.{needs}
 use Rattle.fitter.proofs.surveys.survey_run.Statement.{statement}
 use Rattle.fitter.proofs.surveys.survey_run.Tie as tie
 
-count-run-requires : tie.Need-count-run-requires
-count-run-requires c κs = search needs
-
-run-point-requires : tie.Need-run-point-requires
-run-point-requires c κs = search needs
-
 enum-known-point : tie.Need-enum-known-point
 enum-known-point c = c .match .keys1
 
@@ -27,9 +21,6 @@ returns c =
     p .before .count-run .ensures
     ∙ point-step (a .lent) (a .wanted) (a .position) (a .run) (a .s) RunPoint.Missing
     (sym (c .enum-told .given .1) ∙ p .run-point .ensures)
-
-weigh-run-requires : tie.Need-weigh-run-requires
-weigh-run-requires c κs = search needs
 
 returns-2 : tie.Need-returns-2
 returns-2 c =
@@ -46,11 +37,5 @@ returns-2 c =
 pub survey-run-spec : {M : Type 1} → statement M
 survey-run-spec =
     tie.close
-    (tie.spec
-    count-run-requires
-    run-point-requires
-    enum-known-point
-    enum-told
-    returns
-    weigh-run-requires
+    (tie.spec (λ c κs. search needs) (λ c κs. search needs) enum-known-point enum-told returns (λ c κs. search needs)
     returns-2)

@@ -12,15 +12,6 @@ use Rattle.fitter.proofs.Settlement.{settled-refused, settled-none}
 use Rattle.fitter.proofs.turns.settle_empty.Statement.{statement}
 use Rattle.fitter.proofs.turns.settle_empty.Tie as tie
 
-no-survey-requires : tie.Need-no-survey-requires
-no-survey-requires c κs = search needs
-
-attempt-refusal-requires : tie.Need-attempt-refusal-requires
-attempt-refusal-requires c κs = search needs
-
-no-held-requires : tie.Need-no-held-requires
-no-held-requires c κs = search needs
-
 abbrev start : tie.After-attempt-refusal → tie.Start
 start r = r .before .before .before
 
@@ -41,9 +32,6 @@ returns c =
     rw (c .no-held .ensures)
     (settled-refused (a .bins .now) (a .setup) 0 noSurvey [] (a .room) _ (number-is r) (t .if1 .taken))
 
-no-held-requires-2 : tie.Need-no-held-requires-2
-no-held-requires-2 c κs = search needs
-
 returns-2 : tie.Need-returns-2
 unfolding emptySettled
 returns-2 c =
@@ -56,10 +44,5 @@ returns-2 c =
 pub settle-empty-spec : {M : Type 1} → statement M
 settle-empty-spec =
     tie.close
-    (tie.spec
-    no-survey-requires
-    attempt-refusal-requires
-    no-held-requires
-    returns
-    no-held-requires-2
+    (tie.spec (λ c κs. search needs) (λ c κs. search needs) (λ c κs. search needs) returns (λ c κs. search needs)
     returns-2)

@@ -5,15 +5,6 @@ use Rattle.fitter.proofs.Turned.{first-on, first-settled}
 use Rattle.fitter.proofs.turns.survey_turn.Statement.{statement}
 use Rattle.fitter.proofs.turns.survey_turn.Tie as tie
 
-list-length-requires : tie.Need-list-length-requires
-list-length-requires c κs = search needs
-
-survey-run-requires : tie.Need-survey-run-requires
-survey-run-requires c κs = search needs
-
-add-next : tie.Need-add-next
-add-next c = search needs
-
 abbrev start : tie.After-survey-run → tie.Start
 start s = s .before .before .before .before .before .before
 
@@ -25,15 +16,6 @@ returns c =
           (s .survey-run .ensures) (c .if1 .taken),
       refl,
     )
-
-settle-requires : tie.Need-settle-requires
-settle-requires c κs = search needs
-
-second-from-requires : tie.Need-second-from-requires
-second-from-requires c κs = search needs
-
-same-length : tie.Need-same-length
-same-length c = search needs
 
 returns-2 : tie.Need-returns-2
 returns-2 c =
@@ -49,12 +31,5 @@ returns-2 c =
 pub survey-turn-spec : {M : Type 1} → statement M
 survey-turn-spec =
     tie.close
-    (tie.spec
-    list-length-requires
-    survey-run-requires
-    add-next
-    returns
-    settle-requires
-    second-from-requires
-    same-length
-    returns-2)
+    (tie.spec (λ c κs. search needs) (λ c κs. search needs) (λ c. search needs) returns (λ c κs. search needs)
+    (λ c κs. search needs) (λ c. search needs) returns-2)

@@ -8,15 +8,6 @@ use Rattle.fitter.proofs.Turned.{turn-first, turn-second}
 use Rattle.fitter.proofs.turns.turn.Statement.{statement}
 use Rattle.fitter.proofs.turns.turn.Tie as tie
 
-run-of-requires : tie.Need-run-of-requires
-run-of-requires c κs = search needs
-
-retry-turn-requires : tie.Need-retry-turn-requires
-retry-turn-requires c κs = search needs
-
-same-length : tie.Need-same-length
-same-length c = search needs
-
 returns : tie.Need-returns
 returns c =
     let r = c .before .before in
@@ -29,12 +20,6 @@ returns c =
           ∙ ap (λ (x : Run). turnOf (a .bins .now) (a .setup) (a .lists .now) room x (a .t)) (run .ensures),
       rw (t .if1 .taken) (r .retry-turn .ensures .1),
     )
-
-survey-turn-requires : tie.Need-survey-turn-requires
-survey-turn-requires c κs = search needs
-
-same-length-2 : tie.Need-same-length-2
-same-length-2 c = search needs
 
 returns-2 : tie.Need-returns-2
 returns-2 c =
@@ -52,4 +37,5 @@ returns-2 c =
 pub turn-spec : {M : Type 1} → statement M
 turn-spec =
     tie.close
-    (tie.spec run-of-requires retry-turn-requires same-length returns survey-turn-requires same-length-2 returns-2)
+    (tie.spec (λ c κs. search needs) (λ c κs. search needs) (λ c. search needs) returns (λ c κs. search needs)
+    (λ c. search needs) returns-2)

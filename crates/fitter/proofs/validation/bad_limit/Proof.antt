@@ -6,9 +6,6 @@ use borrow.Author.Needs.{needs}
 use Rattle.fitter.proofs.validation.bad_limit.Statement.{statement}
 use Rattle.fitter.proofs.validation.bad_limit.Tie as tie
 
-is-finite-requires : tie.Need-is-finite-requires
-is-finite-requires c κs = search needs
-
 returns : tie.Need-returns
 unfolding badLimit
 returns c = rw (ap not (sym (c .before .is-finite .ensures)) ∙ c .if1 .taken) (c .if1 .taken)
@@ -18,4 +15,4 @@ unfolding badLimit
 returns-2 c = rw (ap not (sym (c .before .is-finite .ensures)) ∙ c .if1 .left)
 
 pub bad-limit-spec : {M : Type 1} → statement M
-bad-limit-spec = tie.close (tie.spec is-finite-requires returns returns-2)
+bad-limit-spec = tie.close (tie.spec (λ c κs. search needs) returns returns-2)

@@ -10,12 +10,6 @@ use Rattle.fitter.specs.Validation.{Judgement, verdictOf, validateTests,
 use Rattle.fitter.proofs.validation.validate_fit.Statement.{statement}
 use Rattle.fitter.proofs.validation.validate_fit.Tie as tie
 
-validate-refusal-requires : tie.Need-validate-refusal-requires
-validate-refusal-requires c κs = search needs
-
-judge-requires : tie.Need-judge-requires
-judge-requires c κs = search needs
-
 module _ (s : tie.Start) where
   abbrev tests : List Test
   tests = let a = s .args in validateTests (a .fit .«fit_window_end») (a .valley) (a .peak) (a .mass-limit)
@@ -42,4 +36,4 @@ returns-2 c =
     c .judge .ensures ∙ sym (chain-passed (answer s) (tests s) (numbers s) none)
 
 pub validate-fit-spec : {M : Type 1} → statement M
-validate-fit-spec = tie.close (tie.spec validate-refusal-requires returns judge-requires returns-2)
+validate-fit-spec = tie.close (tie.spec (λ c κs. search needs) returns (λ c κs. search needs) returns-2)

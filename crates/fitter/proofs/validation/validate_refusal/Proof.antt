@@ -92,9 +92,6 @@ past-window : (c : tie.Else6) → Number (start (low (c .before))) (limit (start
 past-window c n h = past-high (c .before) n (rw (ne-eqb _ _ (c .if6 .left)) h)
 
 -- ---- 9
-bad-limit-requires : tie.Need-bad-limit-requires
-bad-limit-requires c κs = search needs
-
 returns-7 : tie.Need-returns-7
 returns-7 c = past-window (c .before .before) 9 (rw (sym (c .before .bad-limit .ensures) ∙ c .if7 .taken))
 
@@ -104,13 +101,4 @@ returns-8 c = past-window (c .before .before) 0 (rw (sym (c .before .bad-limit .
 pub validate-refusal-spec : {M : Type 1} → statement M
 validate-refusal-spec =
     tie.close
-    (tie.spec
-    returns
-    returns-2
-    returns-3
-    returns-4
-    returns-5
-    returns-6
-    bad-limit-requires
-    returns-7
-    returns-8)
+    (tie.spec returns returns-2 returns-3 returns-4 returns-5 returns-6 (λ c κs. search needs) returns-7 returns-8)

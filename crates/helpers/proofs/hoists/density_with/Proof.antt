@@ -8,9 +8,6 @@ returns : tie.Need-returns
 unfolding densityWith
 returns c = rw (c .before .before .if1 .taken)
 
-lgamma-requires : tie.Need-lgamma-requires
-lgamma-requires c κs = search needs
-
 returns-2 : tie.Need-returns-2
 unfolding densityWith
 returns-2 c =
@@ -18,4 +15,4 @@ returns-2 c =
     rw (called .before .before .if1 .left, called .lgamma .ensures)
 
 pub density-with-spec : {M : Type 1} → statement M
-density-with-spec = tie.close (tie.spec returns lgamma-requires returns-2)
+density-with-spec = tie.close (tie.spec returns (λ c κs. search needs) returns-2)

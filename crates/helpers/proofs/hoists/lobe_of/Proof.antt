@@ -4,21 +4,9 @@ use borrow.Author.Needs.{needs}
 use Rattle.helpers.proofs.hoists.lobe_of.Statement.{statement}
 use Rattle.helpers.proofs.hoists.lobe_of.Tie as tie
 
-poisson-lobe-requires : tie.Need-poisson-lobe-requires
-poisson-lobe-requires c κs = search needs
-
 returns : tie.Need-returns
 unfolding lobeOf
 returns c = rw (c .before .if1 .taken) (c .poisson-lobe .ensures)
-
-ln-requires : tie.Need-ln-requires
-ln-requires c κs = search needs
-
-ln-requires-2 : tie.Need-ln-requires-2
-ln-requires-2 c κs = search needs
-
-binomial-lobe-requires : tie.Need-binomial-lobe-requires
-binomial-lobe-requires c κs = search needs
 
 returns-2 : tie.Need-returns-2
 unfolding lobeOf
@@ -29,4 +17,5 @@ returns-2 c =
 pub lobe-of-spec : {M : Type 1} → statement M
 lobe-of-spec =
     tie.close
-    (tie.spec poisson-lobe-requires returns ln-requires ln-requires-2 binomial-lobe-requires returns-2)
+    (tie.spec (λ c κs. search needs) returns (λ c κs. search needs) (λ c κs. search needs) (λ c κs. search needs)
+    returns-2)

@@ -3,11 +3,8 @@ use borrow.Author.Needs.{needs}
 use Rattle.helpers.proofs.hoists.poisson_lobe.Statement.{statement}
 use Rattle.helpers.proofs.hoists.poisson_lobe.Tie as tie
 
-ln-requires : tie.Need-ln-requires
-ln-requires c κs = search needs
-
 returns : tie.Need-returns
 returns c = rw (c .ln .ensures)
 
 pub poisson-lobe-spec : {M : Type 1} → statement M
-poisson-lobe-spec = tie.close (tie.spec ln-requires returns)
+poisson-lobe-spec = tie.close (tie.spec (λ c κs. search needs) returns)

@@ -7,15 +7,6 @@ use Rattle.helpers.proofs.hoists.shelf_logs.Tie as tie
 enum-told : tie.Need-enum-told
 enum-told c = search needs
 
-enum-known-shelf : tie.Need-enum-known-shelf
-enum-known-shelf c = search needs
-
-ln-requires : tie.Need-ln-requires
-ln-requires c κs = search needs
-
-ln-requires-2 : tie.Need-ln-requires-2
-ln-requires-2 c κs = search needs
-
 returns : tie.Need-returns
 unfolding neg div ofBits
 returns c = rw (c .enum-told .given .1)
@@ -25,4 +16,4 @@ returns-2 c = rw (c .before .before .before .before .shelf .given .1, c .ln2 .en
 
 pub shelf-logs-spec : {M : Type 1} → statement M
 shelf-logs-spec =
-    tie.close (tie.spec enum-told enum-known-shelf ln-requires ln-requires-2 returns returns-2)
+    tie.close (tie.spec enum-told (λ c. search needs) (λ c κs. search needs) (λ c κs. search needs) returns returns-2)

@@ -9,15 +9,6 @@ use borrow.Author.Needs.{needs}
 use Rattle.helpers.proofs.kept.density_at.Statement.{statement}
 use Rattle.helpers.proofs.kept.density_at.Tie as tie
 
-mul-density-from : tie.Need-mul-density-from
-mul-density-from c = search needs
-
-shared-slice-read-density-from : tie.Need-shared-slice-read-density-from
-shared-slice-read-density-from c = search needs
-
-density-from-requires : tie.Need-density-from-requires
-density-from-requires c κs = search needs
-
 returns : tie.Need-returns
 unfolding growthAt
 returns c =
@@ -25,9 +16,6 @@ returns c =
     let a = inside .before .before .args in
     c .density-from .ensures
     ∙ ap (densityFrom (a .lobe) (a .x) (a .gamma)) (getD-any (a .kept .now) (a .i) nan (growthOf (a .lobe) (a .x)) (inside .if1 .taken))
-
-density-with-requires : tie.Need-density-with-requires
-density-with-requires c κs = search needs
 
 returns-2 : tie.Need-returns-2
 unfolding growthAt
@@ -41,10 +29,4 @@ returns-2 c =
 pub density-at-spec : {M : Type 1} → statement M
 density-at-spec =
     tie.close
-    (tie.spec
-    mul-density-from
-    shared-slice-read-density-from
-    density-from-requires
-    returns
-    density-with-requires
-    returns-2)
+    (tie.spec (λ c. search needs) (λ c. search needs) (λ c κs. search needs) returns (λ c κs. search needs) returns-2)

@@ -8,9 +8,6 @@ returns : tie.Need-returns
 unfolding densityFrom
 returns c = rw (c .before .before .if1 .taken)
 
-lgamma-with-requires : tie.Need-lgamma-with-requires
-lgamma-with-requires c κs = search needs
-
 returns-2 : tie.Need-returns-2
 unfolding densityFrom
 returns-2 c =
@@ -18,4 +15,4 @@ returns-2 c =
     rw (called .before .before .if1 .left, called .lgamma-with .ensures)
 
 pub density-from-spec : {M : Type 1} → statement M
-density-from-spec = tie.close (tie.spec returns lgamma-with-requires returns-2)
+density-from-spec = tie.close (tie.spec returns (λ c κs. search needs) returns-2)

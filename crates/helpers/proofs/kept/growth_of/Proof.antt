@@ -8,12 +8,9 @@ returns : tie.Need-returns
 unfolding growthOf
 returns c = rw (c .if1 .taken)
 
-ln-requires : tie.Need-ln-requires
-ln-requires c κs = search needs
-
 returns-2 : tie.Need-returns-2
 unfolding growthOf
 returns-2 c = rw (c .before .before .if1 .left, c .ln .ensures)
 
 pub growth-of-spec : {M : Type 1} → statement M
-growth-of-spec = tie.close (tie.spec returns ln-requires returns-2)
+growth-of-spec = tie.close (tie.spec returns (λ c κs. search needs) returns-2)

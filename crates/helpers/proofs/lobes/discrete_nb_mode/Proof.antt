@@ -5,18 +5,6 @@ use borrow.Author.Needs.{needs}
 use Rattle.helpers.proofs.lobes.discrete_nb_mode.Statement.{statement}
 use Rattle.helpers.proofs.lobes.discrete_nb_mode.Tie as tie
 
-is-finite-requires : tie.Need-is-finite-requires
-is-finite-requires c κs = search needs
-
-floor-requires : tie.Need-floor-requires
-floor-requires c κs = search needs
-
-min-requires : tie.Need-min-requires
-min-requires c κs = search needs
-
-to-u64-requires : tie.Need-to-u64-requires
-to-u64-requires c κs = search needs
-
 returns : tie.Need-returns
 unfolding discreteNbModeOf
 returns c =
@@ -34,11 +22,5 @@ returns-3 c = rw (sym (c .before .is-finite .ensures) ∙ c .if1 .left)
 pub discrete-nb-mode-spec : {M : Type 1} → statement M
 discrete-nb-mode-spec =
     tie.close
-    (tie.spec
-    is-finite-requires
-    floor-requires
-    min-requires
-    to-u64-requires
-    returns
-    returns-2
-    returns-3)
+    (tie.spec (λ c κs. search needs) (λ c κs. search needs) (λ c κs. search needs) (λ c κs. search needs) returns
+    returns-2 returns-3)

@@ -5,14 +5,8 @@ use borrow.Author.Needs.{needs}
 use Rattle.helpers.proofs.lobes.ln_dnbinom.Statement.{statement}
 use Rattle.helpers.proofs.lobes.ln_dnbinom.Tie as tie
 
-lobe-of-requires : tie.Need-lobe-of-requires
-lobe-of-requires c κs = search needs
-
-density-requires : tie.Need-density-requires
-density-requires c κs = search needs
-
 returns : tie.Need-returns
 returns c = c .density .ensures ∙ rw (c .before .lobe-of .ensures) (density-is _ _ _)
 
 pub ln-dnbinom-spec : {M : Type 1} → statement M
-ln-dnbinom-spec = tie.close (tie.spec lobe-of-requires density-requires returns)
+ln-dnbinom-spec = tie.close (tie.spec (λ c κs. search needs) (λ c κs. search needs) returns)

@@ -6,9 +6,6 @@ use borrow.Author.Needs.{needs}
 use Rattle.helpers.proofs.log_sums.added.Statement.{statement}
 use Rattle.helpers.proofs.log_sums.added.Tie as tie
 
-exp-requires : tie.Need-exp-requires
-exp-requires c κs = search needs
-
 returns : tie.Need-returns
 unfolding neg ofBits
 returns c =
@@ -19,4 +16,4 @@ returns-2 : tie.Need-returns-2
 returns-2 c = rw (c .exp .ensures)
 
 pub added-spec : {M : Type 1} → statement M
-added-spec = tie.close (tie.spec exp-requires returns returns-2)
+added-spec = tie.close (tie.spec (λ c κs. search needs) returns returns-2)

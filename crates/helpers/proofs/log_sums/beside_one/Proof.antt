@@ -12,14 +12,8 @@ returns c =
     let start = c .before .before in
     absorbs-two _ _ (yes (start .good .0 .1)) (yes (start .good .1 .0 .1)) (c .before .if1 .taken) (c .if2 .taken)
 
-exp-requires : tie.Need-exp-requires
-exp-requires c κs = search needs
-
-exp-requires-2 : tie.Need-exp-requires-2
-exp-requires-2 c κs = search needs
-
 returns-2 : tie.Need-returns-2
 returns-2 c = rw (c .exp2 .ensures, c .before .exp .ensures)
 
 pub beside-one-spec : {M : Type 1} → statement M
-beside-one-spec = tie.close (tie.spec returns exp-requires exp-requires-2 returns-2)
+beside-one-spec = tie.close (tie.spec returns (λ c κs. search needs) (λ c κs. search needs) returns-2)

@@ -17,12 +17,6 @@ returns-3 : tie.Need-returns-3
 unfolding lnSubExpOf div neg ofBits
 returns-3 c = rw (c .before .before .if1 .left, c .before .if2 .left, c .if3 .taken)
 
-expm1-requires : tie.Need-expm1-requires
-expm1-requires c κs = search needs
-
-ln-requires : tie.Need-ln-requires
-ln-requires c κs = search needs
-
 returns-4 : tie.Need-returns-4
 unfolding lnSubExpOf div neg ofBits
 returns-4 c =
@@ -31,4 +25,4 @@ returns-4 c =
 
 pub ln-sub-exp-spec : {M : Type 1} → statement M
 ln-sub-exp-spec =
-    tie.close (tie.spec returns returns-2 returns-3 expm1-requires ln-requires returns-4)
+    tie.close (tie.spec returns returns-2 returns-3 (λ c κs. search needs) (λ c κs. search needs) returns-4)

@@ -6,19 +6,10 @@ use borrow.Author.Needs.{needs}
 use Rattle.helpers.proofs.log_sums.lse2.Statement.{statement}
 use Rattle.helpers.proofs.log_sums.lse2.Tie as tie
 
-max-requires : tie.Need-max-requires
-max-requires c κs = search needs
-
-is-finite-requires : tie.Need-is-finite-requires
-is-finite-requires c κs = search needs
-
 weights-requires : tie.Need-weights-requires
 weights-requires c κs =
     let most = c .before .before .max .ensures in
     sym (ap finite most) ∙ sym (c .before .is-finite .ensures) ∙ c .if1 .taken
-
-with-log-requires : tie.Need-with-log-requires
-with-log-requires c κs = search needs
 
 returns : tie.Need-returns
 unfolding lse2Of
@@ -38,10 +29,4 @@ returns-2 c =
 pub lse2-spec : {M : Type 1} → statement M
 lse2-spec =
     tie.close
-    (tie.spec
-    max-requires
-    is-finite-requires
-    weights-requires
-    with-log-requires
-    returns
-    returns-2)
+    (tie.spec (λ c κs. search needs) (λ c κs. search needs) weights-requires (λ c κs. search needs) returns returns-2)

@@ -8,21 +8,6 @@ use borrow.Author.Needs.{needs}
 use Rattle.helpers.proofs.log_sums.lse3.Statement.{statement}
 use Rattle.helpers.proofs.log_sums.lse3.Tie as tie
 
-max-requires : tie.Need-max-requires
-max-requires c κs = search needs
-
-max-requires-2 : tie.Need-max-requires-2
-max-requires-2 c κs = search needs
-
-is-finite-requires : tie.Need-is-finite-requires
-is-finite-requires c κs = search needs
-
-beside-one-requires : tie.Need-beside-one-requires
-beside-one-requires c κs = search needs
-
-with-log-requires : tie.Need-with-log-requires
-with-log-requires c κs = search needs
-
 returns : tie.Need-returns
 unfolding lse3Of
 returns c =
@@ -50,9 +35,6 @@ added-requires c κs =
     let same = max-of-two _ _ _ _ _ (two .before .max .ensures) (two .max2 .ensures) known (c .before .if2 .left) in
     subst Least (sym (c .weights .ensures)) (weights-least _ _ (sym (ap finite same) ∙ known))
 
-with-log-requires-2 : tie.Need-with-log-requires-2
-with-log-requires-2 c κs = search needs
-
 returns-2 : tie.Need-returns-2
 unfolding lse3Of
 returns-2 c =
@@ -74,15 +56,5 @@ returns-3 c =
 pub lse3-spec : {M : Type 1} → statement M
 lse3-spec =
     tie.close
-    (tie.spec
-    max-requires
-    max-requires-2
-    is-finite-requires
-    beside-one-requires
-    with-log-requires
-    returns
-    weights-requires
-    added-requires
-    with-log-requires-2
-    returns-2
-    returns-3)
+    (tie.spec (λ c κs. search needs) (λ c κs. search needs) (λ c κs. search needs) (λ c κs. search needs)
+    (λ c κs. search needs) returns weights-requires added-requires (λ c κs. search needs) returns-2 returns-3)

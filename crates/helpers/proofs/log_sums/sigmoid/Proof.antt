@@ -4,19 +4,13 @@ use borrow.Author.Needs.{needs}
 use Rattle.helpers.proofs.log_sums.sigmoid.Statement.{statement}
 use Rattle.helpers.proofs.log_sums.sigmoid.Tie as tie
 
-exp-requires : tie.Need-exp-requires
-exp-requires c κs = search needs
-
 returns : tie.Need-returns
 unfolding sigmoidOf
 returns c = rw (c .before .if1 .taken, c .exp .ensures)
-
-exp-requires-2 : tie.Need-exp-requires-2
-exp-requires-2 c κs = search needs
 
 returns-2 : tie.Need-returns-2
 unfolding sigmoidOf
 returns-2 c = rw (c .before .if1 .left, c .exp2 .ensures)
 
 pub sigmoid-spec : {M : Type 1} → statement M
-sigmoid-spec = tie.close (tie.spec exp-requires returns exp-requires-2 returns-2)
+sigmoid-spec = tie.close (tie.spec (λ c κs. search needs) returns (λ c κs. search needs) returns-2)

@@ -5,9 +5,6 @@ use borrow.Author.Needs.{needs}
 use Rattle.helpers.proofs.log_sums.with_log.Statement.{statement}
 use Rattle.helpers.proofs.log_sums.with_log.Tie as tie
 
-ln-requires : tie.Need-ln-requires
-ln-requires c κs = search needs
-
 returns : tie.Need-returns
 returns c = log-of-one _ _ (yes (c .before .good .1 .0 .1)) (c .if1 .taken)
 
@@ -15,4 +12,4 @@ returns-2 : tie.Need-returns-2
 returns-2 c = rw (c .ln .ensures)
 
 pub with-log-spec : {M : Type 1} → statement M
-with-log-spec = tie.close (tie.spec ln-requires returns returns-2)
+with-log-spec = tie.close (tie.spec (λ c κs. search needs) returns returns-2)

@@ -18,32 +18,11 @@ Inv-loop mean dispersion top r log-q total₀ term₀ count₀ total term count 
 abbrev μ-loop : tie.MeasureT-loop
 μ-loop mean dispersion top r log-q total₀ term₀ count₀ total term count = top + 1 - count
 
-ln-requires : tie.Need-ln-requires Inv-loop μ-loop
-ln-requires c κs = search needs
-
-ln-dnbinom-requires : tie.Need-ln-dnbinom-requires Inv-loop μ-loop
-ln-dnbinom-requires c κs = search needs
-
 loop-holds : tie.Need-loop-holds Inv-loop μ-loop
 loop-holds c = (refl, c .before .ln .ensures, sum-begins _ _ _ _ _ (unfold div neg ofBits in refl) (c .ln-dnbinom .ensures))
 
-lse2-requires : tie.Need-lse2-requires Inv-loop μ-loop
-lse2-requires c κs = search needs
-
-int-to-float-ln : tie.Need-int-to-float-ln Inv-loop μ-loop
-int-to-float-ln c = search needs
-
-ln-requires-2 : tie.Need-ln-requires-2 Inv-loop μ-loop
-ln-requires-2 c κs = search needs
-
 add-ln : tie.Need-add-ln Inv-loop μ-loop
 add-ln c = omega arith
-
-int-to-float-ln-2 : tie.Need-int-to-float-ln-2 Inv-loop μ-loop
-int-to-float-ln-2 c = search needs
-
-ln-requires-3 : tie.Need-ln-requires-3 Inv-loop μ-loop
-ln-requires-3 c κs = search needs
 
 add-count : tie.Need-add-count Inv-loop μ-loop
 add-count c = omega arith
@@ -65,4 +44,6 @@ returns c = sum-ends _ _ _ (c .before .loop .inv .2) (omega arith)
 pub log-binomial-mass-spec : {M : Type 1} → statement M
 log-binomial-mass-spec =
     tie.close
-    (tie.spec Inv-loop μ-loop ln-requires ln-dnbinom-requires loop-holds lse2-requires int-to-float-ln ln-requires-2 add-ln int-to-float-ln-2 ln-requires-3 add-count loop-less loop-again returns)
+    (tie.spec Inv-loop μ-loop (λ c κs. search needs) (λ c κs. search needs) loop-holds (λ c κs. search needs)
+    (λ c. search needs) (λ c κs. search needs) add-ln (λ c. search needs) (λ c κs. search needs) add-count loop-less
+    loop-again returns)

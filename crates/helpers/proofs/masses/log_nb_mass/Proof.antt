@@ -15,16 +15,9 @@ returns-2 : tie.Need-returns-2
 unfolding logNbMassOf
 returns-2 c = simp (le-ltb _ _ (c .before .if1 .left), eq-eqb _ _ (c .if2 .taken))
 
-cast-log-nb-mass-to : tie.Need-cast-log-nb-mass-to
-cast-log-nb-mass-to c = search needs
-
-log-nb-mass-to-requires : tie.Need-log-nb-mass-to-requires
-log-nb-mass-to-requires c κs = search needs
-
 returns-3 : tie.Need-returns-3
 unfolding logNbMassOf
 returns-3 c = simp (le-ltb _ _ (c .before .before .if1 .left), ne-eqb _ _ (c .before .if2 .left)) (ap give (c .log-nb-mass-to .ensures))
 
 pub log-nb-mass-spec : {M : Type 1} → statement M
-log-nb-mass-spec =
-    tie.close (tie.spec returns returns-2 cast-log-nb-mass-to log-nb-mass-to-requires returns-3)
+log-nb-mass-spec = tie.close (tie.spec returns returns-2 (λ c. search needs) (λ c κs. search needs) returns-3)

@@ -18,27 +18,12 @@ Inv-loop mean top log-mean total₀ term₀ count₀ total term count = (log-mea
 abbrev μ-loop : tie.MeasureT-loop
 μ-loop mean top log-mean total₀ term₀ count₀ total term count = top + 1 - count
 
-ln-requires : tie.Need-ln-requires Inv-loop μ-loop
-ln-requires c κs = search needs
-
-ln-dpois-requires : tie.Need-ln-dpois-requires Inv-loop μ-loop
-ln-dpois-requires c κs = search needs
-
 loop-holds : tie.Need-loop-holds Inv-loop μ-loop
 unfolding div neg ofBits
 loop-holds c = (c .before .ln .ensures, sum-begins _ _ _ _ _ refl (c .ln-dpois .ensures))
 
-lse2-requires : tie.Need-lse2-requires Inv-loop μ-loop
-lse2-requires c κs = search needs
-
 add-ln : tie.Need-add-ln Inv-loop μ-loop
 add-ln c = omega arith
-
-int-to-float-ln : tie.Need-int-to-float-ln Inv-loop μ-loop
-int-to-float-ln c = search needs
-
-ln-requires-2 : tie.Need-ln-requires-2 Inv-loop μ-loop
-ln-requires-2 c κs = search needs
 
 add-count : tie.Need-add-count Inv-loop μ-loop
 add-count c = omega arith
@@ -58,4 +43,5 @@ returns c = sum-ends _ _ _ (c .before .loop .inv .1) (omega arith)
 pub log-poisson-mass-spec : {M : Type 1} → statement M
 log-poisson-mass-spec =
     tie.close
-    (tie.spec Inv-loop μ-loop ln-requires ln-dpois-requires loop-holds lse2-requires add-ln int-to-float-ln ln-requires-2 add-count loop-less loop-again returns)
+    (tie.spec Inv-loop μ-loop (λ c κs. search needs) (λ c κs. search needs) loop-holds (λ c κs. search needs) add-ln
+    (λ c. search needs) (λ c κs. search needs) add-count loop-less loop-again returns)

@@ -21,24 +21,12 @@ Inv-loop table top end total₀ i₀ total i =
 abbrev μ-loop : tie.MeasureT-loop
 μ-loop table top end total₀ i₀ total i = end - i
 
-add-least : tie.Need-add-least Inv-loop μ-loop
-add-least c = search needs
-
-least-requires : tie.Need-least-requires Inv-loop μ-loop
-least-requires c κs = search needs
-
 loop-holds : tie.Need-loop-holds Inv-loop μ-loop
 unfolding div neg ofBits
 loop-holds c = (omega arith, inl refl, c .least .ensures, shelf-begins (c .before .before .args .table .now))
 
-mul-lse2 : tie.Need-mul-lse2 Inv-loop μ-loop
-mul-lse2 c = search needs
-
 shared-slice-read-lse2 : tie.Need-shared-slice-read-lse2 Inv-loop μ-loop
 shared-slice-read-lse2 c = omega arith
-
-lse2-requires : tie.Need-lse2-requires Inv-loop μ-loop
-lse2-requires c κs = search needs
 
 add-i : tie.Need-add-i Inv-loop μ-loop
 add-i c = omega arith
@@ -62,4 +50,6 @@ returns c =
 
 pub log-shelf-mass-spec : {M : Type 1} → statement M
 log-shelf-mass-spec =
-    tie.close (tie.spec Inv-loop μ-loop add-least least-requires loop-holds mul-lse2 shared-slice-read-lse2 lse2-requires add-i loop-less loop-again returns)
+    tie.close
+    (tie.spec Inv-loop μ-loop (λ c. search needs) (λ c κs. search needs) loop-holds (λ c. search needs)
+    shared-slice-read-lse2 (λ c κs. search needs) add-i loop-less loop-again returns)

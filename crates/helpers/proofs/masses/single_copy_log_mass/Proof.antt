@@ -15,22 +15,9 @@ returns-2 : tie.Need-returns-2
 unfolding singleCopyLogMassOf
 returns-2 c = simp (le-ltb _ _ (c .before .if1 .left), eq-eqb _ _ (c .if2 .taken))
 
-cast-single-copy-log-mass-to : tie.Need-cast-single-copy-log-mass-to
-cast-single-copy-log-mass-to c = search needs
-
-single-copy-log-mass-to-requires : tie.Need-single-copy-log-mass-to-requires
-single-copy-log-mass-to-requires c κs = search needs
-
 returns-3 : tie.Need-returns-3
 unfolding singleCopyLogMassOf
 returns-3 c = simp (le-ltb _ _ (c .before .before .if1 .left), ne-eqb _ _ (c .before .if2 .left)) (ap give (c .single-copy-log-mass-to .ensures))
 
 pub single-copy-log-mass-spec : {M : Type 1} → statement M
-single-copy-log-mass-spec =
-    tie.close
-    (tie.spec
-    returns
-    returns-2
-    cast-single-copy-log-mass-to
-    single-copy-log-mass-to-requires
-    returns-3)
+single-copy-log-mass-spec = tie.close (tie.spec returns returns-2 (λ c. search needs) (λ c κs. search needs) returns-3)

@@ -4,20 +4,8 @@ use borrow.Author.Needs.{needs}
 use Rattle.helpers.proofs.masses.single_copy_log_mass_to.Statement.{statement}
 use Rattle.helpers.proofs.masses.single_copy_log_mass_to.Tie as tie
 
-log-nb-mass-to-requires : tie.Need-log-nb-mass-to-requires
-log-nb-mass-to-requires c κs = search needs
-
 enum-told : tie.Need-enum-told
 enum-told c = search needs
-
-enum-known-shelf : tie.Need-enum-known-shelf
-enum-known-shelf c = search needs
-
-log-shelf-mass-requires : tie.Need-log-shelf-mass-requires
-log-shelf-mass-requires c κs = search needs
-
-mix-shelf-requires : tie.Need-mix-shelf-requires
-mix-shelf-requires c κs = search needs
 
 returns : tie.Need-returns
 unfolding singleCopyMassTo
@@ -32,11 +20,5 @@ returns-2 c =
 pub single-copy-log-mass-to-spec : {M : Type 1} → statement M
 single-copy-log-mass-to-spec =
     tie.close
-    (tie.spec
-    log-nb-mass-to-requires
-    enum-told
-    enum-known-shelf
-    log-shelf-mass-requires
-    mix-shelf-requires
-    returns
-    returns-2)
+    (tie.spec (λ c κs. search needs) enum-told (λ c. search needs) (λ c κs. search needs) (λ c κs. search needs)
+    returns returns-2)

@@ -8,12 +8,6 @@ use borrow.Author.Needs.{needs}
 use Rattle.helpers.proofs.mixtures.entry_of.Statement.{statement}
 use Rattle.helpers.proofs.mixtures.entry_of.Tie as tie
 
-mul-result : tie.Need-mul-result
-mul-result c = search needs
-
-shared-slice-read-result : tie.Need-shared-slice-read-result
-shared-slice-read-result c = search needs
-
 returns : tie.Need-returns
 returns c = let a = c .before .before .args in getD-any (a .table .now) (a .n) nan (inf true) (c .before .if1 .taken)
 
@@ -22,4 +16,4 @@ unfolding div neg ofBits
 returns-2 c = sym (List·getD-eq-default (c .before .args .table .now) (inf true) (c .if1 .left))
 
 pub entry-of-spec : {M : Type 1} → statement M
-entry-of-spec = tie.close (tie.spec mul-result shared-slice-read-result returns returns-2)
+entry-of-spec = tie.close (tie.spec (λ c. search needs) (λ c. search needs) returns returns-2)

@@ -26,12 +26,6 @@ abbrev μ-loop : tie.MeasureT-loop
 μ-loop first second ready kept₀ top total₀ term₀ other-total₀ other-term₀ count₀ kept total term other-total other-term count =
     top + 1 - count
 
-density-requires : tie.Need-density-requires Inv-loop μ-loop
-density-requires c κs = search needs
-
-density-requires-2 : tie.Need-density-requires-2 Inv-loop μ-loop
-density-requires-2 c κs = search needs
-
 loop-holds : tie.Need-loop-holds Inv-loop μ-loop
 unfolding div neg ofBits
 loop-holds c =
@@ -40,47 +34,14 @@ loop-holds c =
 add-log-at : tie.Need-add-log-at Inv-loop μ-loop
 add-log-at c = omega arith
 
-log-at-requires : tie.Need-log-at-requires Inv-loop μ-loop
-log-at-requires c κs = search needs
-
-int-to-float-growth-of : tie.Need-int-to-float-growth-of Inv-loop μ-loop
-int-to-float-growth-of c = search needs
-
-growth-of-requires : tie.Need-growth-of-requires Inv-loop μ-loop
-growth-of-requires c κs = search needs
-
-int-to-float-growth-of-2 : tie.Need-int-to-float-growth-of-2 Inv-loop μ-loop
-int-to-float-growth-of-2 c = search needs
-
-growth-of-requires-2 : tie.Need-growth-of-requires-2 Inv-loop μ-loop
-growth-of-requires-2 c κs = search needs
-
 mul-keep : tie.Need-mul-keep Inv-loop μ-loop
 mul-keep c = omega arith
-
-keep-requires : tie.Need-keep-requires Inv-loop μ-loop
-keep-requires c κs = search needs
 
 mul-keep-2 : tie.Need-mul-keep-2 Inv-loop μ-loop
 mul-keep-2 c = omega arith
 
 add-keep : tie.Need-add-keep Inv-loop μ-loop
 add-keep c = omega arith
-
-keep-requires-2 : tie.Need-keep-requires-2 Inv-loop μ-loop
-keep-requires-2 c κs = search needs
-
-lse2-requires : tie.Need-lse2-requires Inv-loop μ-loop
-lse2-requires c κs = search needs
-
-lse2-requires-2 : tie.Need-lse2-requires-2 Inv-loop μ-loop
-lse2-requires-2 c κs = search needs
-
-ratio-with-requires : tie.Need-ratio-with-requires Inv-loop μ-loop
-ratio-with-requires c κs = search needs
-
-ratio-with-requires-2 : tie.Need-ratio-with-requires-2 Inv-loop μ-loop
-ratio-with-requires-2 c κs = search needs
 
 add-count : tie.Need-add-count Inv-loop μ-loop
 add-count c = omega arith
@@ -121,29 +82,8 @@ returns c =
 pub lobe-masses-to-spec : {M : Type 1} → statement M
 lobe-masses-to-spec =
     tie.close
-    (tie.spec
-    Inv-loop
-    μ-loop
-    density-requires
-    density-requires-2
-    loop-holds
-    add-log-at
-    log-at-requires
-    int-to-float-growth-of
-    growth-of-requires
-    int-to-float-growth-of-2
-    growth-of-requires-2
-    mul-keep
-    keep-requires
-    mul-keep-2
-    add-keep
-    keep-requires-2
-    lse2-requires
-    lse2-requires-2
-    ratio-with-requires
-    ratio-with-requires-2
-    add-count
-    loop-less
-    loop-again
-    same-length
+    (tie.spec Inv-loop μ-loop (λ c κs. search needs) (λ c κs. search needs) loop-holds add-log-at
+    (λ c κs. search needs) (λ c. search needs) (λ c κs. search needs) (λ c. search needs) (λ c κs. search needs)
+    mul-keep (λ c κs. search needs) mul-keep-2 add-keep (λ c κs. search needs) (λ c κs. search needs)
+    (λ c κs. search needs) (λ c κs. search needs) (λ c κs. search needs) add-count loop-less loop-again same-length
     returns)

@@ -4,29 +4,11 @@ use borrow.Author.Needs.{needs}
 use Rattle.helpers.proofs.pairs.lobes_of.Statement.{statement}
 use Rattle.helpers.proofs.pairs.lobes_of.Tie as tie
 
-poisson-lobe-requires : tie.Need-poisson-lobe-requires
-poisson-lobe-requires c κs = search needs
-
-poisson-lobe-requires-2 : tie.Need-poisson-lobe-requires-2
-poisson-lobe-requires-2 c κs = search needs
-
 returns : tie.Need-returns
 unfolding lobeOf
 returns c =
     let first = c .before in
     rw (first .before .if1 .taken) (rw (c .poisson-lobe2 .ensures, first .poisson-lobe .ensures))
-
-ln-requires : tie.Need-ln-requires
-ln-requires c κs = search needs
-
-ln-requires-2 : tie.Need-ln-requires-2
-ln-requires-2 c κs = search needs
-
-binomial-lobe-requires : tie.Need-binomial-lobe-requires
-binomial-lobe-requires c κs = search needs
-
-binomial-lobe-requires-2 : tie.Need-binomial-lobe-requires-2
-binomial-lobe-requires-2 c κs = search needs
 
 returns-2 : tie.Need-returns-2
 unfolding lobeOf
@@ -39,12 +21,5 @@ returns-2 c =
 pub lobes-of-spec : {M : Type 1} → statement M
 lobes-of-spec =
     tie.close
-    (tie.spec
-    poisson-lobe-requires
-    poisson-lobe-requires-2
-    returns
-    ln-requires
-    ln-requires-2
-    binomial-lobe-requires
-    binomial-lobe-requires-2
-    returns-2)
+    (tie.spec (λ c κs. search needs) (λ c κs. search needs) returns (λ c κs. search needs) (λ c κs. search needs)
+    (λ c κs. search needs) (λ c κs. search needs) returns-2)

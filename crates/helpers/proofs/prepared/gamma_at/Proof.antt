@@ -12,24 +12,6 @@ use borrow.Author.Needs.{needs}
 use Rattle.helpers.proofs.prepared.gamma_at.Statement.{statement}
 use Rattle.helpers.proofs.prepared.gamma_at.Tie as tie
 
-mul-i : tie.Need-mul-i
-mul-i c = search needs
-
-add-i : tie.Need-add-i
-add-i c = search needs
-
-mul-result : tie.Need-mul-result
-mul-result c = search needs
-
-shared-slice-read-result : tie.Need-shared-slice-read-result
-shared-slice-read-result c = search needs
-
-int-to-float-lgamma-with : tie.Need-int-to-float-lgamma-with
-int-to-float-lgamma-with c = search needs
-
-lgamma-with-requires : tie.Need-lgamma-with-requires
-lgamma-with-requires c κs = search needs
-
 returns : tie.Need-returns
 unfolding gammaWith
 returns c =
@@ -45,12 +27,5 @@ returns-2 c =
 pub gamma-at-spec : {M : Type 1} → statement M
 gamma-at-spec =
     tie.close
-    (tie.spec
-    mul-i
-    add-i
-    mul-result
-    shared-slice-read-result
-    int-to-float-lgamma-with
-    lgamma-with-requires
-    returns
-    returns-2)
+    (tie.spec (λ c. search needs) (λ c. search needs) (λ c. search needs) (λ c. search needs) (λ c. search needs)
+    (λ c κs. search needs) returns returns-2)

@@ -11,21 +11,6 @@ use borrow.Author.Needs.{needs}
 use Rattle.helpers.proofs.prepared.log_at.Statement.{statement}
 use Rattle.helpers.proofs.prepared.log_at.Tie as tie
 
-mul-i : tie.Need-mul-i
-mul-i c = search needs
-
-mul-result : tie.Need-mul-result
-mul-result c = search needs
-
-shared-slice-read-result : tie.Need-shared-slice-read-result
-shared-slice-read-result c = search needs
-
-int-to-float-ln : tie.Need-int-to-float-ln
-int-to-float-ln c = search needs
-
-ln-requires : tie.Need-ln-requires
-ln-requires c κs = search needs
-
 returns : tie.Need-returns
 unfolding lnAt
 returns c =
@@ -41,11 +26,5 @@ returns-2 c =
 pub log-at-spec : {M : Type 1} → statement M
 log-at-spec =
     tie.close
-    (tie.spec
-    mul-i
-    mul-result
-    shared-slice-read-result
-    int-to-float-ln
-    ln-requires
-    returns
-    returns-2)
+    (tie.spec (λ c. search needs) (λ c. search needs) (λ c. search needs) (λ c. search needs) (λ c κs. search needs)
+    returns returns-2)

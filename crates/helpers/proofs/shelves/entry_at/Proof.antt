@@ -9,15 +9,6 @@ use borrow.Author.Needs.{needs}
 use Rattle.helpers.proofs.shelves.entry_at.Statement.{statement}
 use Rattle.helpers.proofs.shelves.entry_at.Tie as tie
 
-to-u64-requires : tie.Need-to-u64-requires
-to-u64-requires c κs = search needs
-
-mul-result : tie.Need-mul-result
-mul-result c = search needs
-
-shared-slice-read-result : tie.Need-shared-slice-read-result
-shared-slice-read-result c = search needs
-
 returns : tie.Need-returns
 unfolding entryAtOf
 returns c = rw (getD-any _ _ _ (inf true) (c .before .if1 .taken), c .before .before .to-u64 .ensures)
@@ -27,5 +18,4 @@ unfolding entryAtOf div neg ofBits
 returns-2 c = rw (sym (c .before .to-u64 .ensures)) (sym (List·getD-eq-default (c .before .before .before .args .table .now) (inf true) (c .if1 .left)))
 
 pub entry-at-spec : {M : Type 1} → statement M
-entry-at-spec =
-    tie.close (tie.spec to-u64-requires mul-result shared-slice-read-result returns returns-2)
+entry-at-spec = tie.close (tie.spec (λ c κs. search needs) (λ c. search needs) (λ c. search needs) returns returns-2)

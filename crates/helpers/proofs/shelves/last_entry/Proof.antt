@@ -8,18 +8,6 @@ use borrow.Author.Needs.{needs}
 use Rattle.helpers.proofs.shelves.last_entry.Statement.{statement}
 use Rattle.helpers.proofs.shelves.last_entry.Tie as tie
 
-int-to-float-min : tie.Need-int-to-float-min
-int-to-float-min c = search needs
-
-min-requires : tie.Need-min-requires
-min-requires c κs = search needs
-
-to-u64-requires : tie.Need-to-u64-requires
-to-u64-requires c κs = search needs
-
-cast-result : tie.Need-cast-result
-cast-result c = search needs
-
 returns : tie.Need-returns
 unfolding lastOf
 returns c = rw (c .before .to-u64 .ensures, c .before .before .min .ensures)
@@ -35,4 +23,4 @@ returns-2 c =
 pub last-entry-spec : {M : Type 1} → statement M
 last-entry-spec =
     tie.close
-    (tie.spec int-to-float-min min-requires to-u64-requires cast-result returns returns-2)
+    (tie.spec (λ c. search needs) (λ c κs. search needs) (λ c κs. search needs) (λ c. search needs) returns returns-2)

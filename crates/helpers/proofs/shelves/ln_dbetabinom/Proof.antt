@@ -9,33 +9,6 @@ returns : tie.Need-returns
 unfolding lnDbetabinomOf div neg ofBits
 returns c = rw (c .if1 .taken)
 
-lgamma-requires : tie.Need-lgamma-requires
-lgamma-requires c κs = search needs
-
-lgamma-requires-2 : tie.Need-lgamma-requires-2
-lgamma-requires-2 c κs = search needs
-
-lgamma-requires-3 : tie.Need-lgamma-requires-3
-lgamma-requires-3 c κs = search needs
-
-lgamma-requires-4 : tie.Need-lgamma-requires-4
-lgamma-requires-4 c κs = search needs
-
-lgamma-requires-5 : tie.Need-lgamma-requires-5
-lgamma-requires-5 c κs = search needs
-
-lgamma-requires-6 : tie.Need-lgamma-requires-6
-lgamma-requires-6 c κs = search needs
-
-lgamma-requires-7 : tie.Need-lgamma-requires-7
-lgamma-requires-7 c κs = search needs
-
-lgamma-requires-8 : tie.Need-lgamma-requires-8
-lgamma-requires-8 c κs = search needs
-
-lgamma-requires-9 : tie.Need-lgamma-requires-9
-lgamma-requires-9 c κs = search needs
-
 returns-2 : tie.Need-returns-2
 unfolding lnDbetabinomOf
 returns-2 c = rw (c .before .before .before .before .before .before .before .before .before .if1 .left, c .lgamma9 .ensures, c .before .lgamma8 .ensures, c .before .before .lgamma7 .ensures, c .before .before .before .lgamma6 .ensures, c .before .before .before .before .lgamma5 .ensures, c .before .before .before .before .before .lgamma4 .ensures, c .before .before .before .before .before .before .lgamma3 .ensures, c .before .before .before .before .before .before .before .lgamma2 .ensures, c .before .before .before .before .before .before .before .before .lgamma .ensures)
@@ -43,15 +16,6 @@ returns-2 c = rw (c .before .before .before .before .before .before .before .bef
 pub ln-dbetabinom-spec : {M : Type 1} → statement M
 ln-dbetabinom-spec =
     tie.close
-    (tie.spec
-    returns
-    lgamma-requires
-    lgamma-requires-2
-    lgamma-requires-3
-    lgamma-requires-4
-    lgamma-requires-5
-    lgamma-requires-6
-    lgamma-requires-7
-    lgamma-requires-8
-    lgamma-requires-9
+    (tie.spec returns (λ c κs. search needs) (λ c κs. search needs) (λ c κs. search needs) (λ c κs. search needs)
+    (λ c κs. search needs) (λ c κs. search needs) (λ c κs. search needs) (λ c κs. search needs) (λ c κs. search needs)
     returns-2)

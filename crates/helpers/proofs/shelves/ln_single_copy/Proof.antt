@@ -4,23 +4,8 @@ use borrow.Author.Needs.{needs}
 use Rattle.helpers.proofs.shelves.ln_single_copy.Statement.{statement}
 use Rattle.helpers.proofs.shelves.ln_single_copy.Tie as tie
 
-ln-dnbinom-requires : tie.Need-ln-dnbinom-requires
-ln-dnbinom-requires c κs = search needs
-
 enum-told : tie.Need-enum-told
 enum-told c = search needs
-
-enum-known-shelf : tie.Need-enum-known-shelf
-enum-known-shelf c = search needs
-
-shelf-trials-requires : tie.Need-shelf-trials-requires
-shelf-trials-requires c κs = search needs
-
-ln-dbetabinom-requires : tie.Need-ln-dbetabinom-requires
-ln-dbetabinom-requires c κs = search needs
-
-mix-shelf-requires : tie.Need-mix-shelf-requires
-mix-shelf-requires c κs = search needs
 
 returns : tie.Need-returns
 unfolding lnSingleCopyOf
@@ -35,12 +20,5 @@ returns-2 c =
 pub ln-single-copy-spec : {M : Type 1} → statement M
 ln-single-copy-spec =
     tie.close
-    (tie.spec
-    ln-dnbinom-requires
-    enum-told
-    enum-known-shelf
-    shelf-trials-requires
-    ln-dbetabinom-requires
-    mix-shelf-requires
-    returns
-    returns-2)
+    (tie.spec (λ c κs. search needs) enum-told (λ c. search needs) (λ c κs. search needs) (λ c κs. search needs)
+    (λ c κs. search needs) returns returns-2)

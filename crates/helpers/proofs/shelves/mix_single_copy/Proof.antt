@@ -4,14 +4,8 @@ use borrow.Author.Needs.{needs}
 use Rattle.helpers.proofs.shelves.mix_single_copy.Statement.{statement}
 use Rattle.helpers.proofs.shelves.mix_single_copy.Tie as tie
 
-shelf-logs-requires : tie.Need-shelf-logs-requires
-shelf-logs-requires c κs = search needs
-
-mix-entry-requires : tie.Need-mix-entry-requires
-mix-entry-requires c κs = search needs
-
 returns : tie.Need-returns
 returns c = rw (c .mix-entry .ensures, c .before .shelf-logs .ensures) (mix-entry-is _ _ _ _)
 
 pub mix-single-copy-spec : {M : Type 1} → statement M
-mix-single-copy-spec = tie.close (tie.spec shelf-logs-requires mix-entry-requires returns)
+mix-single-copy-spec = tie.close (tie.spec (λ c κs. search needs) (λ c κs. search needs) returns)

@@ -47,32 +47,8 @@ returns c = (said c, table-refused _ _ _ _ 2 (said c))
 returns-2 : tie.Need-returns-2
 returns-2 c = (said-2 c, table-refused _ _ _ _ 5 (said-2 c))
 
-shelf-trials-requires : tie.Need-shelf-trials-requires
-shelf-trials-requires c κs = search needs
-
-cast-last-entry : tie.Need-cast-last-entry
-cast-last-entry c = search needs
-
-last-entry-requires : tie.Need-last-entry-requires
-last-entry-requires c κs = search needs
-
-cast-if3 : tie.Need-cast-if3
-cast-if3 c = search needs
-
 returns-3 : tie.Need-returns-3
 returns-3 c = (said-3 c, table-refused _ _ _ _ 10 (said-3 c))
-
-write-table-requires : tie.Need-write-table-requires
-write-table-requires c κs = search needs
-
-cast-t9 : tie.Need-cast-t9
-cast-t9 c = search needs
-
-add-t10 : tie.Need-add-t10
-add-t10 c = search needs
-
-same-length : tie.Need-same-length
-same-length c = search needs
 
 returns-4 : tie.Need-returns-4
 returns-4 c =
@@ -82,16 +58,5 @@ returns-4 c =
 pub shelf-log-table-spec : {M : Type 1} → statement M
 shelf-log-table-spec =
     tie.close
-    (tie.spec
-    returns
-    returns-2
-    shelf-trials-requires
-    cast-last-entry
-    last-entry-requires
-    cast-if3
-    returns-3
-    write-table-requires
-    cast-t9
-    add-t10
-    same-length
-    returns-4)
+    (tie.spec returns returns-2 (λ c κs. search needs) (λ c. search needs) (λ c κs. search needs) (λ c. search needs)
+    returns-3 (λ c κs. search needs) (λ c. search needs) (λ c. search needs) (λ c. search needs) returns-4)

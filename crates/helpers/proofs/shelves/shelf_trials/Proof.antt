@@ -4,15 +4,9 @@ use borrow.Author.Needs.{needs}
 use Rattle.helpers.proofs.shelves.shelf_trials.Statement.{statement}
 use Rattle.helpers.proofs.shelves.shelf_trials.Tie as tie
 
-round-requires : tie.Need-round-requires
-round-requires c κs = search needs
-
-max-requires : tie.Need-max-requires
-max-requires c κs = search needs
-
 returns : tie.Need-returns
 unfolding shelfTrialsOf
 returns c = rw (c .max .ensures, c .before .round .ensures)
 
 pub shelf-trials-spec : {M : Type 1} → statement M
-shelf-trials-spec = tie.close (tie.spec round-requires max-requires returns)
+shelf-trials-spec = tie.close (tie.spec (λ c κs. search needs) (λ c κs. search needs) returns)

@@ -18,26 +18,11 @@ Inv-loop trials alpha beta last table₀ entry₀ x₀ table entry x =
 abbrev μ-loop : tie.MeasureT-loop
 μ-loop trials alpha beta last table₀ entry₀ x₀ table entry x = last - x
 
-table-start-requires : tie.Need-table-start-requires Inv-loop μ-loop
-table-start-requires c κs = search needs
-
 loop-holds : tie.Need-loop-holds Inv-loop μ-loop
 loop-holds c = (zero-le, refl, c .before .before .pre, c .table-start .ensures ∙ entry-first _ _ _, table-none _ _ _ _)
 
-cast-table : tie.Need-cast-table Inv-loop μ-loop
-cast-table c = search needs
-
-mul-table : tie.Need-mul-table Inv-loop μ-loop
-mul-table c = search needs
-
 slice-write-table : tie.Need-slice-write-table Inv-loop μ-loop
 slice-write-table c = omega arith
-
-int-to-float-table-step : tie.Need-int-to-float-table-step Inv-loop μ-loop
-int-to-float-table-step c = search needs
-
-table-step-requires : tie.Need-table-step-requires Inv-loop μ-loop
-table-step-requires c κs = search needs
 
 add-x : tie.Need-add-x Inv-loop μ-loop
 add-x c = omega arith
@@ -55,14 +40,8 @@ loop-again c =
       table-more _ _ _ _ _ _ _ (inv .4) (omega arith) (inv .3),
     )
 
-mul-table-2 : tie.Need-mul-table-2 Inv-loop μ-loop
-mul-table-2 c = search needs
-
 slice-write-table-2 : tie.Need-slice-write-table-2 Inv-loop μ-loop
 slice-write-table-2 c = omega arith
-
-same-length : tie.Need-same-length Inv-loop μ-loop
-same-length c = search needs
 
 returns : tie.Need-returns Inv-loop μ-loop
 returns c =
@@ -75,20 +54,6 @@ returns c =
 pub write-table-spec : {M : Type 1} → statement M
 write-table-spec =
     tie.close
-    (tie.spec
-    Inv-loop
-    μ-loop
-    table-start-requires
-    loop-holds
-    cast-table
-    mul-table
-    slice-write-table
-    int-to-float-table-step
-    table-step-requires
-    add-x
-    loop-less
-    loop-again
-    mul-table-2
-    slice-write-table-2
-    same-length
-    returns)
+    (tie.spec Inv-loop μ-loop (λ c κs. search needs) loop-holds (λ c. search needs) (λ c. search needs)
+    slice-write-table (λ c. search needs) (λ c κs. search needs) add-x loop-less loop-again (λ c. search needs)
+    slice-write-table-2 (λ c. search needs) returns)

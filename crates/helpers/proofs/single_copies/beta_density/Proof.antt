@@ -9,15 +9,6 @@ returns : tie.Need-returns
 unfolding betaDensityOf div neg ofBits
 returns c = rw (c .if1 .taken)
 
-lgamma-requires : tie.Need-lgamma-requires
-lgamma-requires c κs = search needs
-
-lgamma-requires-2 : tie.Need-lgamma-requires-2
-lgamma-requires-2 c κs = search needs
-
-lgamma-requires-3 : tie.Need-lgamma-requires-3
-lgamma-requires-3 c κs = search needs
-
 returns-2 : tie.Need-returns-2
 unfolding betaDensityOf
 returns-2 c =
@@ -29,4 +20,4 @@ returns-2 c =
 
 pub beta-density-spec : {M : Type 1} → statement M
 beta-density-spec =
-    tie.close (tie.spec returns lgamma-requires lgamma-requires-2 lgamma-requires-3 returns-2)
+    tie.close (tie.spec returns (λ c κs. search needs) (λ c κs. search needs) (λ c κs. search needs) returns-2)

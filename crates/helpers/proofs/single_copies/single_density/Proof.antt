@@ -4,15 +4,9 @@ use borrow.Author.Needs.{needs}
 use Rattle.helpers.proofs.single_copies.single_density.Statement.{statement}
 use Rattle.helpers.proofs.single_copies.single_density.Tie as tie
 
-lgamma-requires : tie.Need-lgamma-requires
-lgamma-requires c κs = search needs
-
-single-density-with-requires : tie.Need-single-density-with-requires
-single-density-with-requires c κs = search needs
-
 returns : tie.Need-returns
 unfolding singleDensityOf
 returns c = rw (c .single-density-with .ensures, c .before .lgamma .ensures)
 
 pub single-density-spec : {M : Type 1} → statement M
-single-density-spec = tie.close (tie.spec lgamma-requires single-density-with-requires returns)
+single-density-spec = tie.close (tie.spec (λ c κs. search needs) (λ c κs. search needs) returns)

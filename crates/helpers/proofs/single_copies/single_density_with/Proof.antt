@@ -4,20 +4,8 @@ use borrow.Author.Needs.{needs}
 use Rattle.helpers.proofs.single_copies.single_density_with.Statement.{statement}
 use Rattle.helpers.proofs.single_copies.single_density_with.Tie as tie
 
-density-with-requires : tie.Need-density-with-requires
-density-with-requires c κs = search needs
-
 enum-told : tie.Need-enum-told
 enum-told c = search needs
-
-enum-known-beta : tie.Need-enum-known-beta
-enum-known-beta c = search needs
-
-beta-density-requires : tie.Need-beta-density-requires
-beta-density-requires c κs = search needs
-
-lse2-requires : tie.Need-lse2-requires
-lse2-requires c κs = search needs
 
 returns : tie.Need-returns
 unfolding singleDensityWith
@@ -33,11 +21,5 @@ returns-2 c =
 pub single-density-with-spec : {M : Type 1} → statement M
 single-density-with-spec =
     tie.close
-    (tie.spec
-    density-with-requires
-    enum-told
-    enum-known-beta
-    beta-density-requires
-    lse2-requires
-    returns
-    returns-2)
+    (tie.spec (λ c κs. search needs) enum-told (λ c. search needs) (λ c κs. search needs) (λ c κs. search needs)
+    returns returns-2)

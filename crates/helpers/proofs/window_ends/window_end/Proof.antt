@@ -13,12 +13,9 @@ returns-2 : tie.Need-returns-2
 unfolding windowEndOf
 returns-2 c = simp (le-ltb _ _ (c .before .if1 .left), eq-eqb _ _ (c .if2 .taken))
 
-cast-t5 : tie.Need-cast-t5
-cast-t5 c = search needs
-
 returns-3 : tie.Need-returns-3
 unfolding windowEndOf
 returns-3 c = simp (le-ltb _ _ (c .before .if1 .left), ne-eqb _ _ (c .if2 .left))
 
 pub window-end-spec : {M : Type 1} → statement M
-window-end-spec = tie.close (tie.spec returns returns-2 cast-t5 returns-3)
+window-end-spec = tie.close (tie.spec returns returns-2 (λ c. search needs) returns-3)

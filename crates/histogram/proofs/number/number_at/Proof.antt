@@ -51,26 +51,11 @@ loop-holds : tie.Need-loop-holds Inv-loop μ-loop
 unfolding numberAtOf
 loop-holds c = (search needs, (rw sub-self, omega arith), rw sub-self)
 
-sub-take-byte : tie.Need-sub-take-byte Inv-loop μ-loop
-sub-take-byte c = search needs
-
-shared-slice-read-take-byte : tie.Need-shared-slice-read-take-byte Inv-loop μ-loop
-shared-slice-read-take-byte c = search needs
-
-take-byte-requires : tie.Need-take-byte-requires Inv-loop μ-loop
-take-byte-requires c κs = search needs
-
-add-at : tie.Need-add-at Inv-loop μ-loop
-add-at c = search needs
-
 enum-known-taken : tie.Need-enum-known-taken Inv-loop μ-loop
 enum-known-taken c = c .match .keys1
 
 mul-weight : tie.Need-mul-weight Inv-loop μ-loop
 mul-weight c = let n = next (c .before .before .before) (c .before .taken .given .0 .0) (c .before .taken .given .1) in omega arith
-
-loop-less : tie.Need-loop-less Inv-loop μ-loop
-loop-less c = search needs
 
 loop-again : tie.Need-loop-again Inv-loop μ-loop
 loop-again c =
@@ -107,20 +92,6 @@ returns-3 c =
 pub number-at-spec : {M : Type 1} → statement M
 number-at-spec =
     tie.close
-    (tie.spec
-    Inv-loop
-    μ-loop
-    loop-holds
-    sub-take-byte
-    shared-slice-read-take-byte
-    take-byte-requires
-    add-at
-    enum-known-taken
-    mul-weight
-    loop-less
-    loop-again
-    enum-known-taken-2
-    returns
-    enum-told
-    returns-2
-    returns-3)
+    (tie.spec Inv-loop μ-loop loop-holds (λ c. search needs) (λ c. search needs) (λ c κs. search needs)
+    (λ c. search needs) enum-known-taken mul-weight (λ c. search needs) loop-again enum-known-taken-2 returns
+    enum-told returns-2 returns-3)

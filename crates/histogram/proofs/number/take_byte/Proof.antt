@@ -33,9 +33,6 @@ returns c =
     let e : 9 ≡ s .args .groups = let f = few s in omega arith in
     c .tenth-byte .ensures ∙ ap (λ (g : ℕ). takeByteOf (between (s .args .least) (s .args .most)) (s .args .value) g (s .args .byte)) e
 
-wide-requires : tie.Need-wide-requires
-wide-requires c κs = search needs
-
 -- ---- the sum
 put : (c : tie.After-wide) → (let a = c .before .before .args in c .wide .result * a .weight ≡ a .byte % 128 * 128 ^ a .groups)
 put c = let e = c .before .before .pre .0 in let w = c .wide .ensures in cc
@@ -50,18 +47,12 @@ mul-put c =
     let f : s .args .byte % 128 * 128 ^ s .args .groups < 2 ^ 64 = group-fits (s .args .byte % 128) (s .args .groups) (omega arith) (c .before .if1 .left) in
     omega arith
 
-sub-if2 : tie.Need-sub-if2
-sub-if2 c = search needs
-
 returns-2 : tie.Need-returns-2
 returns-2 c =
     let a = c .before .before .before .args in
     let p = put (c .before) in
     let v = c .before .before .before .pre .1 in
     sym (takes.above-range (between (a .least) (a .most)) (a .value) (a .groups) (a .byte) (omega arith))
-
-add-sum : tie.Need-add-sum
-add-sum c = search needs
 
 -- ---- a last group
 returns-3 : tie.Need-returns-3
@@ -91,9 +82,6 @@ returns-6 c =
     sym (takes.zero-behind (between (a .least) (a .most)) (a .value) (a .groups) (a .byte) (omega arith) (omega arith))
 
 -- ---- another to come
-sub-if7 : tie.Need-sub-if7
-sub-if7 c = search needs
-
 mul-if7 : tie.Need-mul-if7
 mul-if7 c =
     let s = c .before .before .before .before in
@@ -120,4 +108,7 @@ returns-8 c =
     ap Taken.More (e .0) ∙ sym (takes.goes-on (between (a .least) (a .most)) (a .value) (a .groups) (a .byte) (c .before .if3 .left) (omega arith))
 
 pub take-byte-spec : {M : Type 1} → statement M
-take-byte-spec = tie.close (tie.spec tenth-byte-requires returns wide-requires mul-put sub-if2 returns-2 add-sum returns-3 returns-4 returns-5 returns-6 sub-if7 mul-if7 returns-7 returns-8)
+take-byte-spec =
+    tie.close
+    (tie.spec tenth-byte-requires returns (λ c κs. search needs) mul-put (λ c. search needs) returns-2
+    (λ c. search needs) returns-3 returns-4 returns-5 returns-6 (λ c. search needs) mul-if7 returns-7 returns-8)

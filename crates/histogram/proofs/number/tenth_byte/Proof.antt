@@ -30,21 +30,12 @@ returns c = let a = c .before .args in sym (only-one (a .least) (a .most) (a .va
 returns-2 : tie.Need-returns-2
 returns-2 c = let a = c .before .before .args in sym (only-one (a .least) (a .most) (a .value) (a .byte) (omega arith) (λ (e : a .byte ≡ 1). absurd (c .if2 .taken e)))
 
-sub-if3 : tie.Need-sub-if3
-sub-if3 c = search needs
-
 returns-3 : tie.Need-returns-3
 returns-3 c = let a = c .before .before .before .args in sym (only-one (a .least) (a .most) (a .value) (a .byte) (omega arith) (λ (_ : a .byte ≡ 1). omega arith))
-
-add-if4 : tie.Need-add-if4
-add-if4 c = search needs
 
 -- ---- a 1
 returns-4 : tie.Need-returns-4
 returns-4 c = let a = c .before .before .before .before .args in sym (takes.below-range (between (a .least) (a .most)) (a .value) 9 (a .byte) (omega arith) (omega arith))
-
-add-t6 : tie.Need-add-t6
-add-t6 c = search needs
 
 returns-5 : tie.Need-returns-5
 returns-5 c =
@@ -53,4 +44,7 @@ returns-5 c =
     ap Taken.Whole e ∙ sym (takes.ends (between (a .least) (a .most)) (a .value) 9 (a .byte) (omega arith) (λ (z : a .byte ≡ 0) (_ : 0 < 9). omega arith) (omega arith) (omega arith))
 
 pub tenth-byte-spec : {M : Type 1} → statement M
-tenth-byte-spec = tie.close (tie.spec returns returns-2 sub-if3 returns-3 add-if4 returns-4 add-t6 returns-5)
+tenth-byte-spec =
+    tie.close
+    (tie.spec returns returns-2 (λ c. search needs) returns-3 (λ c. search needs) returns-4 (λ c. search needs)
+    returns-5)

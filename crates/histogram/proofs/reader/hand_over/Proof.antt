@@ -44,23 +44,8 @@ kept-held c = omega (arith, c .in-room .ensures .0, read-held (reading c))
 kept-room : (c : tie.After-in-room) → keptOf (c .in-room .result) ≤ room (start (reading c))
 kept-room c = let r = reading c in let s = start r in kept-fits (c .in-room .result) (held r) (room s) (given s) (kept-held c) (says c)
 
-read-bins-requires : tie.Need-read-bins-requires
-read-bins-requires c κs = search needs
-
-in-room-requires : tie.Need-in-room-requires
-in-room-requires c κs = search needs
-
-kept-requires : tie.Need-kept-requires
-kept-requires c κs = search needs
-
 copy-bins-requires : tie.Need-copy-bins-requires
 copy-bins-requires c κs = let k = c .before .before .before in rw (c .before .kept .ensures) (kept-held k, kept-room k)
-
-same-length : tie.Need-same-length
-same-length c = search needs
-
-same-length-2 : tie.Need-same-length-2
-same-length-2 c = search needs
 
 returns : tie.Need-returns
 returns c =
@@ -74,4 +59,7 @@ returns c =
     )
 
 pub hand-over-spec : {M : Type 1} → statement M
-hand-over-spec = tie.close (tie.spec read-bins-requires in-room-requires kept-requires copy-bins-requires same-length same-length-2 returns)
+hand-over-spec =
+    tie.close
+    (tie.spec (λ c κs. search needs) (λ c κs. search needs) (λ c κs. search needs) copy-bins-requires
+    (λ c. search needs) (λ c. search needs) returns)

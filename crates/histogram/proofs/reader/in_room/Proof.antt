@@ -9,14 +9,8 @@ use Rattle.histogram.proofs.Rooms.{no-room, has-room}
 use Rattle.histogram.proofs.reader.in_room.Statement.{statement}
 use Rattle.histogram.proofs.reader.in_room.Tie as tie
 
-enum-known-read : tie.Need-enum-known-read
-enum-known-read c = search needs
-
 enum-told : tie.Need-enum-told
 enum-told c = search needs
-
-enum-told-2 : tie.Need-enum-told-2
-enum-told-2 c = search needs
 
 returns : tie.Need-returns
 returns c =
@@ -35,4 +29,5 @@ returns-4 : tie.Need-returns-4
 returns-4 c = rw (c .enum-told2 .given .1) (zero-le, λ (held : List ℕ) (h : 0 ≤ length held). refl)
 
 pub in-room-spec : {M : Type 1} → statement M
-in-room-spec = tie.close (tie.spec enum-known-read enum-told enum-told-2 returns returns-2 returns-3 returns-4)
+in-room-spec =
+    tie.close (tie.spec (λ c. search needs) enum-told (λ c. search needs) returns returns-2 returns-3 returns-4)

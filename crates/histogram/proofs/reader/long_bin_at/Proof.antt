@@ -52,62 +52,11 @@ after-four k =
     let s = k .before .before .before .before .before .before .before .before in
     one-more 4294967295 (s .args .file .now) (s .args .at) 3 (three s) (byte s 3) (after-three (k .before .before)) (inside s 3 (omega arith)) refl (four s) (omega arith) (k .if5 .left) (omega arith)
 
-shared-slice-read-one : tie.Need-shared-slice-read-one
-shared-slice-read-one c = search needs
-
-cast-one : tie.Need-cast-one
-cast-one c = search needs
-
-add-second : tie.Need-add-second
-add-second c = search needs
-
-shared-slice-read-second : tie.Need-shared-slice-read-second
-shared-slice-read-second c = search needs
-
-cast-t18 : tie.Need-cast-t18
-cast-t18 c = search needs
-
-mul-t19 : tie.Need-mul-t19
-mul-t19 c = search needs
-
-add-t20 : tie.Need-add-t20
-add-t20 c = search needs
-
-add-t21 : tie.Need-add-t21
-add-t21 c = search needs
-
 returns : tie.Need-returns
 returns c =
     let s = c .before .before .before .before .before in
     let l = c .before .if1 .taken in
     sym (the-last 4294967295 (s .args .file .now) (s .args .at) 1 (one s) (byte s 1) (after-one s) (inside s 1 (omega arith)) refl (one s + byte s 1 * 128) (omega arith) (c .if2 .taken) l (omega arith))
-
-cast-two : tie.Need-cast-two
-cast-two c = search needs
-
-mul-two : tie.Need-mul-two
-mul-two c = search needs
-
-add-two : tie.Need-add-two
-add-two c = search needs
-
-add-third : tie.Need-add-third
-add-third c = search needs
-
-shared-slice-read-third : tie.Need-shared-slice-read-third
-shared-slice-read-third c = search needs
-
-cast-t29 : tie.Need-cast-t29
-cast-t29 c = search needs
-
-mul-t30 : tie.Need-mul-t30
-mul-t30 c = search needs
-
-add-t31 : tie.Need-add-t31
-add-t31 c = search needs
-
-add-t32 : tie.Need-add-t32
-add-t32 c = search needs
 
 returns-2 : tie.Need-returns-2
 returns-2 c =
@@ -115,65 +64,11 @@ returns-2 c =
     let l = c .before .if3 .taken in
     sym (the-last 4294967295 (s .args .file .now) (s .args .at) 2 (two s) (byte s 2) (after-two (c .before .before .before)) (inside s 2 (omega arith)) refl (two s + byte s 2 * 16384) (omega arith) (c .if4 .taken) l (omega arith))
 
-cast-three : tie.Need-cast-three
-cast-three c = search needs
-
-mul-three : tie.Need-mul-three
-mul-three c = search needs
-
-add-three : tie.Need-add-three
-add-three c = search needs
-
-add-fourth : tie.Need-add-fourth
-add-fourth c = search needs
-
-shared-slice-read-fourth : tie.Need-shared-slice-read-fourth
-shared-slice-read-fourth c = search needs
-
-cast-t40 : tie.Need-cast-t40
-cast-t40 c = search needs
-
-mul-t41 : tie.Need-mul-t41
-mul-t41 c = search needs
-
-add-t42 : tie.Need-add-t42
-add-t42 c = search needs
-
-add-t43 : tie.Need-add-t43
-add-t43 c = search needs
-
 returns-3 : tie.Need-returns-3
 returns-3 c =
     let s = c .before .before .before .before .before .before .before .before .before in
     let l = c .before .if5 .taken in
     sym (the-last 4294967295 (s .args .file .now) (s .args .at) 3 (three s) (byte s 3) (after-three (c .before .before .before)) (inside s 3 (omega arith)) refl (three s + byte s 3 * 2097152) (omega arith) (c .if6 .taken) l (omega arith))
-
-cast-four : tie.Need-cast-four
-cast-four c = search needs
-
-mul-four : tie.Need-mul-four
-mul-four c = search needs
-
-add-four : tie.Need-add-four
-add-four c = search needs
-
-add-fifth : tie.Need-add-fifth
-add-fifth c = search needs
-
-shared-slice-read-fifth : tie.Need-shared-slice-read-fifth
-shared-slice-read-fifth c = search needs
-
-cast-t51 : tie.Need-cast-t51
-cast-t51 c = search needs
-
-mul-t52 : tie.Need-mul-t52
-mul-t52 c = search needs
-
-add-t53 : tie.Need-add-t53
-add-t53 c = search needs
-
-add-t54 : tie.Need-add-t54
-add-t54 c = search needs
 
 returns-4 : tie.Need-returns-4
 returns-4 c =
@@ -181,11 +76,14 @@ returns-4 c =
     let l = c .before .if7 .taken in
     sym (the-last 4294967295 (s .args .file .now) (s .args .at) 4 (four s) (byte s 4) (after-four (c .before .before .before)) (inside s 4 (omega arith)) refl (four s + byte s 4 * 268435456) (omega arith) (c .if8 .taken) (omega arith) (omega arith))
 
-number-at-requires : tie.Need-number-at-requires
-number-at-requires c κs = search needs
-
-returns-5 : tie.Need-returns-5
-returns-5 c = search needs
-
 pub long-bin-at-spec : {M : Type 1} → statement M
-long-bin-at-spec = tie.close (tie.spec shared-slice-read-one cast-one add-second shared-slice-read-second cast-t18 mul-t19 add-t20 add-t21 returns cast-two mul-two add-two add-third shared-slice-read-third cast-t29 mul-t30 add-t31 add-t32 returns-2 cast-three mul-three add-three add-fourth shared-slice-read-fourth cast-t40 mul-t41 add-t42 add-t43 returns-3 cast-four mul-four add-four add-fifth shared-slice-read-fifth cast-t51 mul-t52 add-t53 add-t54 returns-4 number-at-requires returns-5)
+long-bin-at-spec =
+    tie.close
+    (tie.spec (λ c. search needs) (λ c. search needs) (λ c. search needs) (λ c. search needs) (λ c. search needs)
+    (λ c. search needs) (λ c. search needs) (λ c. search needs) returns (λ c. search needs) (λ c. search needs)
+    (λ c. search needs) (λ c. search needs) (λ c. search needs) (λ c. search needs) (λ c. search needs)
+    (λ c. search needs) (λ c. search needs) returns-2 (λ c. search needs) (λ c. search needs) (λ c. search needs)
+    (λ c. search needs) (λ c. search needs) (λ c. search needs) (λ c. search needs) (λ c. search needs)
+    (λ c. search needs) returns-3 (λ c. search needs) (λ c. search needs) (λ c. search needs) (λ c. search needs)
+    (λ c. search needs) (λ c. search needs) (λ c. search needs) (λ c. search needs) (λ c. search needs) returns-4
+    (λ c κs. search needs) (λ c. search needs))

@@ -43,9 +43,6 @@ ended l h =
 loop-holds : tie.Need-loop-holds Inv-loop μ-loop
 loop-holds c = (search needs, refl, rw sub-zero)
 
-bin-at-requires : tie.Need-bin-at-requires Inv-loop μ-loop
-bin-at-requires c κs = search needs
-
 enum-known-bin : tie.Need-enum-known-bin Inv-loop μ-loop
 enum-known-bin c = c .match .keys1
 
@@ -71,17 +68,8 @@ cast-held c =
     let h : g .0 .0 ≤ 4294967295 = bin-fits (a .n) (l .loop .k) (m .before .loop-test .taken) [] (a .file .now) (l .loop .at) (record { value = g .0 .0; next = g .0 .1 .0 }) (number m (Number.Is (g .0 .0) (g .0 .1 .0)) (g .1)) in
     omega arith
 
-mul-held : tie.Need-mul-held Inv-loop μ-loop
-mul-held c = search needs
-
 slice-write-held : tie.Need-slice-write-held Inv-loop μ-loop
 slice-write-held c = omega arith
-
-add-k : tie.Need-add-k Inv-loop μ-loop
-add-k c = search needs
-
-loop-less : tie.Need-loop-less Inv-loop μ-loop
-loop-less c = search needs
 
 loop-again : tie.Need-loop-again Inv-loop μ-loop
 loop-again c =
@@ -117,22 +105,6 @@ returns-3 c =
 pub read-bins-spec : {M : Type 1} → statement M
 read-bins-spec =
     tie.close
-    (tie.spec
-    Inv-loop
-    μ-loop
-    loop-holds
-    bin-at-requires
-    enum-known-bin
-    enum-told
-    same-length
-    returns
-    cast-held
-    mul-held
-    slice-write-held
-    add-k
-    loop-less
-    loop-again
-    same-length-2
-    returns-2
-    same-length-3
-    returns-3)
+    (tie.spec Inv-loop μ-loop loop-holds (λ c κs. search needs) enum-known-bin enum-told same-length returns cast-held
+    (λ c. search needs) slice-write-held (λ c. search needs) (λ c. search needs) loop-again same-length-2 returns-2
+    same-length-3 returns-3)

@@ -26,12 +26,6 @@ module _ (file : List ℕ) (held : List ℕ) {x : Reply (List ℕ)} (e : readOf 
   unfolding readHistogramOf
   stands = ap (λ (y : Reply (List ℕ)). laid (fitsIn (length held) y) held) (sym e)
 
-number-at-requires : tie.Need-number-at-requires
-number-at-requires c κs = search needs
-
-enum-known-form : tie.Need-enum-known-form
-enum-known-form c = search needs
-
 enum-told : tie.Need-enum-told
 enum-told c = search needs
 
@@ -49,15 +43,6 @@ on m =
     let a = m .before .before .before .before .before .before .args in
     let g = m .before .form .given in
     form-read (a .file .now) (record { value = g .0 .0; next = g .0 .1 .0 }) (sym (m .before .before .before .number-at .ensures) ∙ ap numberSays (g .1))
-
-number-at-requires-2 : tie.Need-number-at-requires-2
-number-at-requires-2 c κs = search needs
-
-enum-known-count : tie.Need-enum-known-count
-enum-known-count c = search needs
-
-enum-told-2 : tie.Need-enum-told-2
-enum-told-2 c = search needs
 
 returns-2 : tie.Need-returns-2
 unfolding mostBins
@@ -92,15 +77,6 @@ behind m =
     let g = m .before .count .given in
     on (m .before .before .before .before) ∙ count-read (a .file .now) (m .before .before .before .before .before .form .given .0 .1 .0) (record { value = g .0 .0; next = g .0 .1 .0 }) (number m)
 
-slice-aggregate-hand-over : tie.Need-slice-aggregate-hand-over
-slice-aggregate-hand-over c = search needs
-
-hand-over-requires : tie.Need-hand-over-requires
-hand-over-requires c κs = search needs
-
-same-length : tie.Need-same-length
-same-length c = search needs
-
 returns-3 : tie.Need-returns-3
 returns-3 c =
     let h = c .before .before .before in
@@ -108,15 +84,9 @@ returns-3 c =
     let a = m .before .before .before .before .before .before .before .before .before .before .args in
     (h .hand-over .ensures .0 ∙ said (a .file .now) (a .bins .now) (behind m), h .hand-over .ensures .1 ∙ stands (a .file .now) (a .bins .now) (behind m))
 
-slice-aggregate-hand-over-2 : tie.Need-slice-aggregate-hand-over-2
-slice-aggregate-hand-over-2 c = search needs
-
 hand-over-requires-2 : tie.Need-hand-over-requires-2
 unfolding mostBins
 hand-over-requires-2 c κs = few (c .before .before .before)
-
-same-length-2 : tie.Need-same-length-2
-same-length-2 c = search needs
 
 returns-4 : tie.Need-returns-4
 returns-4 c =
@@ -128,20 +98,6 @@ returns-4 c =
 pub read-histogram-spec : {M : Type 1} → statement M
 read-histogram-spec =
     tie.close
-    (tie.spec
-    number-at-requires
-    enum-known-form
-    enum-told
-    returns
-    number-at-requires-2
-    enum-known-count
-    enum-told-2
-    returns-2
-    slice-aggregate-hand-over
-    hand-over-requires
-    same-length
-    returns-3
-    slice-aggregate-hand-over-2
-    hand-over-requires-2
-    same-length-2
-    returns-4)
+    (tie.spec (λ c κs. search needs) (λ c. search needs) enum-told returns (λ c κs. search needs) (λ c. search needs)
+    (λ c. search needs) returns-2 (λ c. search needs) (λ c κs. search needs) (λ c. search needs) returns-3
+    (λ c. search needs) hand-over-requires-2 (λ c. search needs) returns-4)

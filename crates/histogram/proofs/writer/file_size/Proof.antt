@@ -32,9 +32,6 @@ size c =
     let t = ten v (omega (arith, c .before .before .shared-slice-known2 .given (l .loop .k))) in
     (e, omega arith)
 
-number-size-requires : tie.Need-number-size-requires Inv-loop μ-loop
-number-size-requires c κs = search needs
-
 add-size : tie.Need-add-size Inv-loop μ-loop
 add-size c = let t = ten (length (c .before .before .args .bins .now)) (omega arith) in omega arith
 
@@ -45,27 +42,9 @@ loop-holds c =
     let f = file-length xs in
     (omega arith, omega arith, omega arith)
 
-mul-wide : tie.Need-mul-wide Inv-loop μ-loop
-mul-wide c = search needs
-
-shared-slice-read-wide : tie.Need-shared-slice-read-wide Inv-loop μ-loop
-shared-slice-read-wide c = search needs
-
-wide-requires : tie.Need-wide-requires Inv-loop μ-loop
-wide-requires c κs = search needs
-
-number-size-requires-2 : tie.Need-number-size-requires-2 Inv-loop μ-loop
-number-size-requires-2 c κs = search needs
-
 add-size-2 : tie.Need-add-size-2 Inv-loop μ-loop
 unfolding mostBins
 add-size-2 c = let s = size c in omega arith
-
-add-k : tie.Need-add-k Inv-loop μ-loop
-add-k c = search needs
-
-loop-less : tie.Need-loop-less Inv-loop μ-loop
-loop-less c = search needs
 
 loop-again : tie.Need-loop-again Inv-loop μ-loop
 loop-again c =
@@ -85,4 +64,7 @@ returns c =
 
 pub file-size-spec : {M : Type 1} → statement M
 file-size-spec =
-    tie.close (tie.spec Inv-loop μ-loop number-size-requires add-size loop-holds mul-wide shared-slice-read-wide wide-requires number-size-requires-2 add-size-2 add-k loop-less loop-again returns)
+    tie.close
+    (tie.spec Inv-loop μ-loop (λ c κs. search needs) add-size loop-holds (λ c. search needs) (λ c. search needs)
+    (λ c κs. search needs) (λ c κs. search needs) add-size-2 (λ c. search needs) (λ c. search needs) loop-again
+    returns)

@@ -61,18 +61,6 @@ sub-put-number c = omega (arith, inside c)
 part-put-number-start : tie.Need-part-put-number-start Inv-loop μ-loop
 part-put-number-start c = omega (arith, inside c)
 
-part-put-number-end : tie.Need-part-put-number-end Inv-loop μ-loop
-part-put-number-end c = search needs
-
-mul-wide : tie.Need-mul-wide Inv-loop μ-loop
-mul-wide c = search needs
-
-shared-slice-read-wide : tie.Need-shared-slice-read-wide Inv-loop μ-loop
-shared-slice-read-wide c = search needs
-
-wide-requires : tie.Need-wide-requires Inv-loop μ-loop
-wide-requires c κs = search needs
-
 put-number-requires : tie.Need-put-number-requires Inv-loop μ-loop
 put-number-requires c κs =
     let t = c .before .before .before in
@@ -81,12 +69,6 @@ put-number-requires c κs =
 
 add-at : tie.Need-add-at Inv-loop μ-loop
 add-at c = let w = c .before .before in omega (arith, inside (w .before .before .before .before), size w, w .before .before .before .before .before .loop .inv .1 .same)
-
-add-k : tie.Need-add-k Inv-loop μ-loop
-add-k c = search needs
-
-loop-less : tie.Need-loop-less Inv-loop μ-loop
-loop-less c = search needs
 
 loop-again : tie.Need-loop-again Inv-loop μ-loop
 loop-again c =
@@ -109,20 +91,6 @@ returns c =
 pub put-bins-spec : {M : Type 1} → statement M
 put-bins-spec =
     tie.close
-    (tie.spec
-    Inv-loop
-    μ-loop
-    loop-holds
-    sub-put-number
-    part-put-number-start
-    part-put-number-end
-    mul-wide
-    shared-slice-read-wide
-    wide-requires
-    put-number-requires
-    add-at
-    add-k
-    loop-less
-    loop-again
-    same-length
-    returns)
+    (tie.spec Inv-loop μ-loop loop-holds sub-put-number part-put-number-start (λ c. search needs) (λ c. search needs)
+    (λ c. search needs) (λ c κs. search needs) put-number-requires add-at (λ c. search needs) (λ c. search needs)
+    loop-again same-length returns)

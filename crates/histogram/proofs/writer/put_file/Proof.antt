@@ -81,9 +81,6 @@ sub-put-number c = let s = c .before .before in omega (arith, form-fits s, at-co
 part-put-number-start : tie.Need-part-put-number-start
 part-put-number-start c = let s = c .before .before in omega (arith, form-fits s, at-count s .same)
 
-part-put-number-end : tie.Need-part-put-number-end
-part-put-number-end c = search needs
-
 put-number-requires : tie.Need-put-number-requires
 put-number-requires c κs = let s = c .before .before .before in room (writeOf (xs s)) (b s) (set (b s) 0 1) 1 (numberBytes (length (xs s))) (numbersBytes (xs s)) (at-count s) (s .pre)
 
@@ -95,9 +92,6 @@ sub-put-bins c = omega (arith, bins-fit (c .before .before))
 
 part-put-bins-start : tie.Need-part-put-bins-start
 part-put-bins-start c = omega (arith, bins-fit (c .before .before))
-
-part-put-bins-end : tie.Need-part-put-bins-end
-part-put-bins-end c = search needs
 
 put-bins-requires : tie.Need-put-bins-requires
 put-bins-requires c κs =
@@ -116,4 +110,6 @@ returns c = all-put (c .before .before)
 
 pub put-file-spec : {M : Type 1} → statement M
 put-file-spec =
-    tie.close (tie.spec slice-write-out sub-put-number part-put-number-start part-put-number-end put-number-requires add-head sub-put-bins part-put-bins-start part-put-bins-end put-bins-requires add-result same-length returns)
+    tie.close
+    (tie.spec slice-write-out sub-put-number part-put-number-start (λ c. search needs) put-number-requires add-head
+    sub-put-bins part-put-bins-start (λ c. search needs) put-bins-requires add-result same-length returns)

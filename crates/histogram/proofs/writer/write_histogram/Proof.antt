@@ -28,12 +28,6 @@ file-size-requires : tie.Need-file-size-requires
 unfolding mostBins
 file-size-requires c κs = c .before .if2 .left
 
-mul-if3 : tie.Need-mul-if3
-mul-if3 c = search needs
-
-add-if3 : tie.Need-add-if3
-add-if3 c = search needs
-
 returns-3 : tie.Need-returns-3
 unfolding mostBins
 returns-3 c =
@@ -54,9 +48,6 @@ room c =
 put-file-requires : tie.Need-put-file-requires
 put-file-requires c κs = room (c .before)
 
-same-length : tie.Need-same-length
-same-length c = search needs
-
 returns-4 : tie.Need-returns-4
 unfolding mostBins
 returns-4 c =
@@ -67,4 +58,7 @@ returns-4 c =
     rw (writes (a .bins .now) (length (a .out .now)) (e .before .if1 .left) (e .if2 .left) (room t)) (ap give (p .put-file .ensures .0), p .put-file .ensures .1)
 
 pub write-histogram-spec : {M : Type 1} → statement M
-write-histogram-spec = tie.close (tie.spec returns returns-2 mul-if3 add-if3 file-size-requires returns-3 put-file-requires same-length returns-4)
+write-histogram-spec =
+    tie.close
+    (tie.spec returns returns-2 (λ c. search needs) (λ c. search needs) file-size-requires returns-3 put-file-requires
+    (λ c. search needs) returns-4)

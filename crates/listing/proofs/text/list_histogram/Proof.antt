@@ -66,14 +66,8 @@ returns-2 c =
     let s = c .before .before .before .before in
     rw (too-many (xs s) (length (b s)) (c .before .if1 .left) (c .if2 .taken)) (refl, refl)
 
-decimal-size-requires : tie.Need-decimal-size-requires
-decimal-size-requires c κs = search needs
-
 add-if3 : tie.Need-add-if3
 add-if3 c = omega (arith, few (c .before) .0)
-
-rows-size-requires : tie.Need-rows-size-requires
-rows-size-requires c κs = search needs
 
 add-if3-2 : tie.Need-add-if3-2
 add-if3-2 c = let e = c .before .before in omega (arith, few e .0, few e .1)
@@ -84,9 +78,6 @@ returns-3 c =
     let s = start e in
     rw (too-short (xs s) (length (b s)) (e .before .if1 .left) (e .if2 .left) (omega (arith, listing-length (xs s)))) (refl, refl)
 
-slice-aggregate-put-line : tie.Need-slice-aggregate-put-line
-slice-aggregate-put-line c = search needs
-
 put-line-requires : tie.Need-put-line-requires
 put-line-requires c κs = let e = c .before .before in let s = start (e .before .before .before) in first-fits (head s) (rows s) (b s) (long e)
 
@@ -96,9 +87,6 @@ sub-put-rows c = omega (arith, inside (c .before .before))
 part-put-rows-start : tie.Need-part-put-rows-start
 part-put-rows-start c = omega (arith, inside (c .before .before))
 
-part-put-rows-end : tie.Need-part-put-rows-end
-part-put-rows-end c = search needs
-
 put-rows-requires : tie.Need-put-rows-requires
 put-rows-requires c κs =
     let p = c .before .before .before in
@@ -107,9 +95,6 @@ put-rows-requires c κs =
 
 add-t11 : tie.Need-add-t11
 add-t11 c = let r = c .before .before in omega (arith, inside (r .before .before .before .before))
-
-same-length : tie.Need-same-length
-same-length c = search needs
 
 returns-4 : tie.Need-returns-4
 unfolding listingOf
@@ -124,20 +109,6 @@ returns-4 c =
 pub list-histogram-spec : {M : Type 1} → statement M
 list-histogram-spec =
     tie.close
-    (tie.spec
-    returns
-    returns-2
-    decimal-size-requires
-    add-if3
-    rows-size-requires
-    add-if3-2
-    returns-3
-    slice-aggregate-put-line
-    put-line-requires
-    sub-put-rows
-    part-put-rows-start
-    part-put-rows-end
-    put-rows-requires
-    add-t11
-    same-length
-    returns-4)
+    (tie.spec returns returns-2 (λ c κs. search needs) add-if3 (λ c κs. search needs) add-if3-2 returns-3
+    (λ c. search needs) put-line-requires sub-put-rows part-put-rows-start (λ c. search needs) put-rows-requires
+    add-t11 (λ c. search needs) returns-4)

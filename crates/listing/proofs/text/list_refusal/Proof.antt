@@ -12,9 +12,6 @@ use Rattle.listing.proofs.Refusals.{no-room-for-line, line-written}
 use Rattle.listing.proofs.text.list_refusal.Statement.{statement}
 use Rattle.listing.proofs.text.list_refusal.Tie as tie
 
-decimal-size-requires : tie.Need-decimal-size-requires
-decimal-size-requires c κs = search needs
-
 add-if1 : tie.Need-add-if1
 add-if1 c = let s = c .before .before in omega (arith, twenty (s .args .place) (s .good .0 .1))
 
@@ -23,9 +20,6 @@ returns c =
     let s = c .before .before .before in
     rw (no-room-for-line (s .args .place) (length (s .args .out .now)) (omega (arith, refusal-length (s .args .place)))) (refl, refl)
 
-slice-aggregate-put-line : tie.Need-slice-aggregate-put-line
-slice-aggregate-put-line c = search needs
-
 -- there is room for the line
 room : (c : tie.Else1) → (let s = c .before .before .before in length (refusalOf (s .args .place)) ≤ length (s .args .out .now))
 room c = let s = c .before .before .before in omega (arith, refusal-length (s .args .place))
@@ -33,9 +27,6 @@ room c = let s = c .before .before .before in omega (arith, refusal-length (s .a
 put-line-requires : tie.Need-put-line-requires
 unfolding refusalOf
 put-line-requires c κs = room (c .before .before)
-
-same-length : tie.Need-same-length
-same-length c = search needs
 
 returns-2 : tie.Need-returns-2
 unfolding refusalOf
@@ -46,4 +37,7 @@ returns-2 c =
     rw (line-written (s .args .place) (length (s .args .out .now)) (room e)) (ap give (p .put-line .ensures .0), p .put-line .ensures .1)
 
 pub list-refusal-spec : {M : Type 1} → statement M
-list-refusal-spec = tie.close (tie.spec decimal-size-requires add-if1 returns slice-aggregate-put-line put-line-requires same-length returns-2)
+list-refusal-spec =
+    tie.close
+    (tie.spec (λ c κs. search needs) add-if1 returns (λ c. search needs) put-line-requires (λ c. search needs)
+    returns-2)

@@ -45,9 +45,6 @@ some l =
     let s = same (whole l) (b l) (start l .pre) (l .loop .out) (l .loop .at) (decimalOf (l .loop .left)) (l .loop .inv) in
     (omega (arith, l .loop .inv .ahead), omega (arith, start l .pre))
 
-decimal-size-requires : tie.Need-decimal-size-requires Inv-loop μ-loop
-decimal-size-requires c κs = search needs
-
 loop-holds : tie.Need-loop-holds Inv-loop μ-loop
 loop-holds c = let s = c .before .before in rw (c .decimal-size .ensures) (begins (decimalOf (s .args .n)) (s .args .out .now) (s .pre))
 
@@ -89,4 +86,5 @@ returns c = let l = c .before in (l .before .decimal-size .ensures, ends (whole 
 pub put-decimal-spec : {M : Type 1} → statement M
 put-decimal-spec =
     tie.close
-    (tie.spec Inv-loop μ-loop decimal-size-requires loop-holds sub-at add-out cast-out slice-write-out loop-less loop-again add-out-2 cast-out-2 slice-write-out-2 same-length returns)
+    (tie.spec Inv-loop μ-loop (λ c κs. search needs) loop-holds sub-at add-out cast-out slice-write-out loop-less
+    loop-again add-out-2 cast-out-2 slice-write-out-2 same-length returns)

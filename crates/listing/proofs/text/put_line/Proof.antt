@@ -76,9 +76,6 @@ sub-put-decimal c = omega (arith, digits-fit (c .before .before))
 part-put-decimal-start : tie.Need-part-put-decimal-start
 part-put-decimal-start c = omega (arith, digits-fit (c .before .before))
 
-part-put-decimal-end : tie.Need-part-put-decimal-end
-part-put-decimal-end c = search needs
-
 put-decimal-requires : tie.Need-put-decimal-requires
 put-decimal-requires c κs =
     let w = c .before .before .before in
@@ -103,4 +100,6 @@ returns c = let d = c .before .before in let s = start (to-word d) in ends (line
 
 pub put-line-spec : {M : Type 1} → statement M
 put-line-spec =
-    tie.close (tie.spec put-word-requires sub-put-decimal part-put-decimal-start part-put-decimal-end put-decimal-requires add-end slice-write-out add-result same-length returns)
+    tie.close
+    (tie.spec put-word-requires sub-put-decimal part-put-decimal-start (λ c. search needs) put-decimal-requires
+    add-end slice-write-out add-result same-length returns)

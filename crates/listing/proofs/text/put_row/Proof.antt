@@ -34,12 +34,6 @@ sub-put-line c = omega (arith, inside (c .before .before))
 part-put-line-start : tie.Need-part-put-line-start
 part-put-line-start c = omega (arith, inside (c .before .before))
 
-part-put-line-end : tie.Need-part-put-line-end
-part-put-line-end c = search needs
-
-slice-aggregate-put-line : tie.Need-slice-aggregate-put-line
-slice-aggregate-put-line c = search needs
-
 put-line-requires : tie.Need-put-line-requires
 put-line-requires c κs =
     let p = c .before .before .before .before in
@@ -48,9 +42,6 @@ put-line-requires c κs =
 
 add-result : tie.Need-add-result
 add-result c = let p = c .before .before .before .before .before .before .before in omega (arith, inside p)
-
-same-length : tie.Need-same-length
-same-length c = search needs
 
 returns : tie.Need-returns
 unfolding rowOf
@@ -62,4 +53,7 @@ returns c =
     (l .put-line .last .0) (l .put-line .result) (l .put-line .ensures .0) (l .put-line .ensures .1)
 
 pub put-row-spec : {M : Type 1} → statement M
-put-row-spec = tie.close (tie.spec put-decimal-requires sub-put-line part-put-line-start part-put-line-end slice-aggregate-put-line put-line-requires add-result same-length returns)
+put-row-spec =
+    tie.close
+    (tie.spec put-decimal-requires sub-put-line part-put-line-start (λ c. search needs) (λ c. search needs)
+    put-line-requires add-result (λ c. search needs) returns)

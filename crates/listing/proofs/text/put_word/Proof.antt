@@ -21,9 +21,6 @@ abbrev μ-loop : tie.MeasureT-loop
 loop-holds : tie.Need-loop-holds Inv-loop μ-loop
 loop-holds c = (omega arith, begins _ _)
 
-shared-slice-read-out : tie.Need-shared-slice-read-out Inv-loop μ-loop
-shared-slice-read-out c = search needs
-
 slice-write-out : tie.Need-slice-write-out Inv-loop μ-loop
 slice-write-out c = let l = c .before .before in omega (arith, l .loop .inv .1 .same, l .before .pre)
 
@@ -53,4 +50,7 @@ returns c =
     ends (a .word .now) (a .out .now) (l .loop .out) (l .loop .k) p
 
 pub put-word-spec : {M : Type 1} → statement M
-put-word-spec = tie.close (tie.spec Inv-loop μ-loop loop-holds shared-slice-read-out slice-write-out add-k loop-less loop-again same-length returns)
+put-word-spec =
+    tie.close
+    (tie.spec Inv-loop μ-loop loop-holds (λ c. search needs) slice-write-out add-k loop-less loop-again same-length
+    returns)

@@ -6,12 +6,6 @@ use Rattle.listing.proofs.Lines.{row-length}
 use Rattle.listing.proofs.text.row_size.Statement.{statement}
 use Rattle.listing.proofs.text.row_size.Tie as tie
 
-decimal-size-requires : tie.Need-decimal-size-requires
-decimal-size-requires c κs = search needs
-
-decimal-size-requires-2 : tie.Need-decimal-size-requires-2
-decimal-size-requires-2 c κs = search needs
-
 add-result : tie.Need-add-result
 add-result c = let s = c .before .before in omega (arith, twenty (s .args .count) (s .good .0 .1), twenty (s .args .n) (s .good .1 .0 .1))
 
@@ -22,4 +16,4 @@ returns : tie.Need-returns
 returns c = let s = c .before .before in omega (arith, row-length (s .args .count) (s .args .n))
 
 pub row-size-spec : {M : Type 1} → statement M
-row-size-spec = tie.close (tie.spec decimal-size-requires decimal-size-requires-2 add-result add-result-2 returns)
+row-size-spec = tie.close (tie.spec (λ c κs. search needs) (λ c κs. search needs) add-result add-result-2 returns)

@@ -37,26 +37,8 @@ row c =
 loop-holds : tie.Need-loop-holds Inv-loop μ-loop
 loop-holds c = (omega arith, omega arith, omega arith)
 
-mul-wide : tie.Need-mul-wide Inv-loop μ-loop
-mul-wide c = search needs
-
-shared-slice-read-wide : tie.Need-shared-slice-read-wide Inv-loop μ-loop
-shared-slice-read-wide c = search needs
-
-wide-requires : tie.Need-wide-requires Inv-loop μ-loop
-wide-requires c κs = search needs
-
-add-k : tie.Need-add-k Inv-loop μ-loop
-add-k c = search needs
-
-row-size-requires : tie.Need-row-size-requires Inv-loop μ-loop
-row-size-requires c κs = search needs
-
 add-size : tie.Need-add-size Inv-loop μ-loop
 add-size c = let l = loop c in omega (arith, row c .1, l .loop .inv .0, l .loop .inv .1, l .before .before .pre)
-
-loop-less : tie.Need-loop-less Inv-loop μ-loop
-loop-less c = search needs
 
 loop-again : tie.Need-loop-again Inv-loop μ-loop
 loop-again c =
@@ -71,4 +53,7 @@ returns : tie.Need-returns Inv-loop μ-loop
 returns c = let l = c .before in let e = ap length (no-rows-left (xs l) (l .loop .k) (c .loop-test .left)) in omega arith
 
 pub rows-size-spec : {M : Type 1} → statement M
-rows-size-spec = tie.close (tie.spec Inv-loop μ-loop loop-holds mul-wide shared-slice-read-wide wide-requires add-k row-size-requires add-size loop-less loop-again returns)
+rows-size-spec =
+    tie.close
+    (tie.spec Inv-loop μ-loop loop-holds (λ c. search needs) (λ c. search needs) (λ c κs. search needs)
+    (λ c. search needs) (λ c κs. search needs) add-size (λ c. search needs) loop-again returns)

@@ -9,9 +9,6 @@ use Rattle.models.proofs.ReadyCost.{cost-unprepared}
 use Rattle.models.proofs.costs.cost.Statement.{statement}
 use Rattle.models.proofs.costs.cost.Tie as tie
 
-fit-refusal-requires : tie.Need-fit-refusal-requires
-fit-refusal-requires c κs = search needs
-
 abbrev start : tie.After-fit-refusal → tie.Start
 start c = c .before .before .before .before
 
@@ -37,32 +34,11 @@ passed c =
 cast-decode : tie.Need-cast-decode
 cast-decode c = let all = passed c in omega (arith, all .peak-few)
 
-int-to-float-decode : tie.Need-int-to-float-decode
-int-to-float-decode c = search needs
-
-decode-requires : tie.Need-decode-requires
-decode-requires c κs = search needs
-
-used-scale-requires : tie.Need-used-scale-requires
-used-scale-requires c κs = search needs
-
 cast-cost-at : tie.Need-cast-cost-at
 cast-cost-at c = let all = passed (c .before .before .before) in omega (arith, all .end-few)
 
-sub-cost-at : tie.Need-sub-cost-at
-sub-cost-at c = search needs
-
-part-cost-at-start : tie.Need-part-cost-at-start
-part-cost-at-start c = search needs
-
-part-cost-at-end : tie.Need-part-cost-at-end
-part-cost-at-end c = search needs
-
 cost-at-requires : tie.Need-cost-at-requires
 cost-at-requires c κs = passed (c .before .before .before .before .before) .spectrum .end-some
-
-same-length : tie.Need-same-length
-same-length c = search needs
 
 returns-2 : tie.Need-returns-2
 returns-2 c =
@@ -82,17 +58,6 @@ returns-2 c =
 pub cost-spec : {M : Type 1} → statement M
 cost-spec =
     tie.close
-    (tie.spec
-    fit-refusal-requires
-    returns
-    cast-decode
-    int-to-float-decode
-    decode-requires
-    used-scale-requires
-    cast-cost-at
-    sub-cost-at
-    part-cost-at-start
-    part-cost-at-end
-    cost-at-requires
-    same-length
-    returns-2)
+    (tie.spec (λ c κs. search needs) returns cast-decode (λ c. search needs) (λ c κs. search needs)
+    (λ c κs. search needs) cast-cost-at (λ c. search needs) (λ c. search needs) (λ c. search needs) cost-at-requires
+    (λ c. search needs) returns-2)

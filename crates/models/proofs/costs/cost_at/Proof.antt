@@ -14,17 +14,11 @@ use Rattle.models.proofs.Filled.{front-is, front-room, entries-few}
 use Rattle.models.proofs.costs.cost_at.Statement.{statement}
 use Rattle.models.proofs.costs.cost_at.Tie as tie
 
-params-usable-requires : tie.Need-params-usable-requires
-params-usable-requires c κs = search needs
-
 returns : tie.Need-returns
 unfolding div ofBits
 returns c =
     let stop = params-stop _ (sym (c .before .params-usable .ensures) ∙ not-true _ (c .if1 .taken)) in
     (stopped-cost _ _ _ _ _ _ stop, stopped-table _ _ _ stop)
-
-mode-held-requires : tie.Need-mode-held-requires
-mode-held-requires c κs = search needs
 
 -- where the parameters can be used
 usable : (c : tie.Else1) → paramsUsable (c .before .before .before .before .before .args .p) ≡ true
@@ -36,9 +30,6 @@ returns-2 c =
     let lost = sym (c .before .mode-held .ensures) ∙ not-true _ (c .if2 .taken) in
     let stop = mode-stops _ (usable (c .before .before)) lost in
     (stopped-cost _ _ _ _ _ _ stop, stopped-table _ _ _ stop)
-
-fill-table-requires : tie.Need-fill-table-requires
-fill-table-requires c κs = search needs
 
 -- where the table was written
 module _ (c : tie.After-fill-table) where
@@ -53,12 +44,6 @@ module _ (c : tie.After-fill-table) where
       let held = c .before .before in
       starts _ (usable (held .before .before)) (sym (held .before .mode-held .ensures) ∙ not-false _ (held .if2 .left))
 
-sub-evaluate : tie.Need-sub-evaluate
-sub-evaluate c = search needs
-
-part-evaluate-start : tie.Need-part-evaluate-start
-part-evaluate-start c = search needs
-
 part-evaluate-end : tie.Need-part-evaluate-end
 part-evaluate-end c =
     let filled = c .before .before .before in
@@ -66,12 +51,6 @@ part-evaluate-end c =
     let a = start filled .args in
     front-room (entries filled) (a .table .now) _ _ (fill .ensures .0) (fill .ensures .1)
     (entries-few (a .p .shelf) (a .p .mean) (a .top) (length (a .table .now)))
-
-evaluate-requires : tie.Need-evaluate-requires
-evaluate-requires c κs = search needs
-
-same-length : tie.Need-same-length
-same-length c = search needs
 
 returns-3 : tie.Need-returns-3
 returns-3 c =
@@ -85,15 +64,5 @@ returns-3 c =
 pub cost-at-spec : {M : Type 1} → statement M
 cost-at-spec =
     tie.close
-    (tie.spec
-    params-usable-requires
-    returns
-    mode-held-requires
-    returns-2
-    fill-table-requires
-    sub-evaluate
-    part-evaluate-start
-    part-evaluate-end
-    evaluate-requires
-    same-length
-    returns-3)
+    (tie.spec (λ c κs. search needs) returns (λ c κs. search needs) returns-2 (λ c κs. search needs)
+    (λ c. search needs) (λ c. search needs) part-evaluate-end (λ c κs. search needs) (λ c. search needs) returns-3)

@@ -8,9 +8,6 @@ use Rattle.models.proofs.ReadyCost.{prepared-refused, prepared-short, p
 use Rattle.models.proofs.costs.cost_prepared.Statement.{statement}
 use Rattle.models.proofs.costs.cost_prepared.Tie as tie
 
-fit-refusal-requires : tie.Need-fit-refusal-requires
-fit-refusal-requires c κs = search needs
-
 abbrev start : tie.After-fit-refusal → tie.Start
 start c = c .before .before .before .before .before
 
@@ -55,23 +52,11 @@ returns-2 c =
 cast-decode : tie.Need-cast-decode
 cast-decode c = let all = passed (c .before) in omega (arith, all .peak-few)
 
-int-to-float-decode : tie.Need-int-to-float-decode
-int-to-float-decode c = search needs
-
-decode-requires : tie.Need-decode-requires
-decode-requires c κs = search needs
-
-used-scale-requires : tie.Need-used-scale-requires
-used-scale-requires c κs = search needs
-
 cast-cost-at : tie.Need-cast-cost-at
 cast-cost-at c = let all = passed (c .before .before .before .before) in omega (arith, all .end-few)
 
 cost-at-requires : tie.Need-cost-at-requires
 cost-at-requires c κs = passed (c .before .before .before .before .before) .spectrum .end-some
-
-same-length : tie.Need-same-length
-same-length c = search needs
 
 returns-3 : tie.Need-returns-3
 returns-3 c =
@@ -93,17 +78,5 @@ returns-3 c =
 pub cost-prepared-spec : {M : Type 1} → statement M
 cost-prepared-spec =
     tie.close
-    (tie.spec
-    fit-refusal-requires
-    returns
-    add-if2
-    mul-if2
-    returns-2
-    cast-decode
-    int-to-float-decode
-    decode-requires
-    used-scale-requires
-    cast-cost-at
-    cost-at-requires
-    same-length
-    returns-3)
+    (tie.spec (λ c κs. search needs) returns add-if2 mul-if2 returns-2 cast-decode (λ c. search needs)
+    (λ c κs. search needs) (λ c κs. search needs) cast-cost-at cost-at-requires (λ c. search needs) returns-3)

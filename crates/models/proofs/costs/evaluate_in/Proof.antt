@@ -12,18 +12,6 @@ use Rattle.models.proofs.Costed.{not-finite, above-zero, at-most-zero, 
 use Rattle.models.proofs.costs.evaluate_in.Statement.{statement}
 use Rattle.models.proofs.costs.evaluate_in.Tie as tie
 
-steady-of-requires : tie.Need-steady-of-requires
-steady-of-requires c κs = search needs
-
-masses-at-requires : tie.Need-masses-at-requires
-masses-at-requires c κs = search needs
-
-masses-usable-requires : tie.Need-masses-usable-requires
-masses-usable-requires c κs = search needs
-
-same-length : tie.Need-same-length
-same-length c = search needs
-
 returns : tie.Need-returns
 unfolding div ofBits
 returns c =
@@ -34,9 +22,6 @@ returns c =
 
 likelihood-requires : tie.Need-likelihood-requires
 likelihood-requires c κs = c .before .before .before .before .before .masses-at .ensures .1
-
-is-finite-requires : tie.Need-is-finite-requires
-is-finite-requires c κs = search needs
 
 -- where the masses can be used and the log-likelihood is known
 module _ (c : tie.After-is-finite) where
@@ -57,18 +42,12 @@ module _ (c : tie.After-is-finite) where
       likelihood-stops _ _ _ _ _ _ _ _ (masses .before .before .steady-of .ensures) (masses .masses-at .ensures .0) _
       (c .before .likelihood .ensures) usable u
 
-same-length-2 : tie.Need-same-length-2
-same-length-2 c = search needs
-
 returns-2 : tie.Need-returns-2
 returns-2 c =
     let known = c .before .before in
     evaluates _ _ _ _ _ _ _ _ (masses known .before .before .steady-of .ensures) (masses known .masses-at .ensures .0) _
     (known .before .likelihood .ensures) (usable known)
     (at-most-zero _ (sym (known .is-finite .ensures) ∙ c .before .if2 .taken) (c .if3 .taken))
-
-same-length-3 : tie.Need-same-length-3
-same-length-3 c = search needs
 
 returns-3 : tie.Need-returns-3
 unfolding div ofBits
@@ -81,15 +60,5 @@ returns-3 c =
 pub evaluate-in-spec : {M : Type 1} → statement M
 evaluate-in-spec =
     tie.close
-    (tie.spec
-    steady-of-requires
-    masses-at-requires
-    masses-usable-requires
-    same-length
-    returns
-    likelihood-requires
-    is-finite-requires
-    same-length-2
-    returns-2
-    same-length-3
-    returns-3)
+    (tie.spec (λ c κs. search needs) (λ c κs. search needs) (λ c κs. search needs) (λ c. search needs) returns
+    likelihood-requires (λ c κs. search needs) (λ c. search needs) returns-2 (λ c. search needs) returns-3)

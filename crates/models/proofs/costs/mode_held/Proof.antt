@@ -4,12 +4,9 @@ use borrow.Author.Needs.{needs}
 use Rattle.models.proofs.costs.mode_held.Statement.{statement}
 use Rattle.models.proofs.costs.mode_held.Tie as tie
 
-roundtrip-requires : tie.Need-roundtrip-requires
-roundtrip-requires c κs = search needs
-
 returns : tie.Need-returns
 unfolding modeHeld
 returns c = rw (c .roundtrip .ensures)
 
 pub mode-held-spec : {M : Type 1} → statement M
-mode-held-spec = tie.close (tie.spec roundtrip-requires returns)
+mode-held-spec = tie.close (tie.spec (λ c κs. search needs) returns)

@@ -7,15 +7,6 @@ use lib.Ieee.{toUnsigned}
 use Rattle.models.proofs.cutoffs.ceiling.Statement.{statement}
 use Rattle.models.proofs.cutoffs.ceiling.Tie as tie
 
-round-requires : tie.Need-round-requires
-round-requires c κs = search needs
-
-to-u64-requires : tie.Need-to-u64-requires
-to-u64-requires c κs = search needs
-
-cast-result : tie.Need-cast-result
-cast-result c = search needs
-
 lower : (n m end : ℕ) → n ≡ m → n < end → n ≡ min m end
 lower n m end e h = omega arith
 
@@ -33,4 +24,4 @@ returns-2 c =
     higher _ _ _ (known .to-u64 .ensures ∙ ap (toUnsigned 64) (known .before .round .ensures)) (c .if1 .left)
 
 pub ceiling-spec : {M : Type 1} → statement M
-ceiling-spec = tie.close (tie.spec round-requires to-u64-requires cast-result returns returns-2)
+ceiling-spec = tie.close (tie.spec (λ c κs. search needs) (λ c κs. search needs) (λ c. search needs) returns returns-2)

@@ -31,9 +31,6 @@ returns-2 c =
     let a = c .before .before .args in
     both (a .fit) (a .budget) (refuse 5) (simp (le-ltb _ _ (c .before .if1 .left), eq-eqb _ _ (c .if2 .taken)))
 
-walk-starts-requires : tie.Need-walk-starts-requires
-walk-starts-requires c κs = search needs
-
 returns-3 : tie.Need-returns-3
 unfolding holeCutoffOf
 returns-3 c =
@@ -44,14 +41,8 @@ returns-3 c =
     (simp
     (le-ltb _ _ (some .before .if1 .left), ne-eqb _ _ (some .if2 .left), sym (known .walk-starts .ensures) ∙ not-true _ (c .if3 .taken)))
 
-hole-walk-requires : tie.Need-hole-walk-requires
-hole-walk-requires c κs = search needs
-
 enum-told : tie.Need-enum-told
 enum-told c = search needs
-
-enum-known-found : tie.Need-enum-known-found
-enum-known-found c = search needs
 
 -- where the walk came back with something
 module _ (c : tie.After-hole-walk) where
@@ -82,13 +73,5 @@ returns-5 c = let found = c .before in part (found .before .before) _ (found .fo
 pub hole-cutoff-spec : {M : Type 1} → statement M
 hole-cutoff-spec =
     tie.close
-    (tie.spec
-    returns
-    returns-2
-    walk-starts-requires
-    returns-3
-    hole-walk-requires
-    enum-told
-    enum-known-found
-    returns-4
-    returns-5)
+    (tie.spec returns returns-2 (λ c κs. search needs) returns-3 (λ c κs. search needs) enum-told (λ c. search needs)
+    returns-4 returns-5)

@@ -31,9 +31,6 @@ returns-2 c =
     let a = c .before .before .args in
     both (a .fit) (a .budget) (refuse 5) (simp (le-ltb _ _ (c .before .if1 .left), eq-eqb _ _ (c .if2 .taken)))
 
-walk-starts-requires : tie.Need-walk-starts-requires
-walk-starts-requires c κs = search needs
-
 returns-3 : tie.Need-returns-3
 unfolding holeCutoffSureOf
 returns-3 c =
@@ -43,12 +40,6 @@ returns-3 c =
     both (a .fit) (a .budget) (give noWalk)
     (simp
     (le-ltb _ _ (some .before .if1 .left), ne-eqb _ _ (some .if2 .left), sym (known .walk-starts .ensures) ∙ not-true _ (c .if3 .taken)))
-
-hole-walk-requires : tie.Need-hole-walk-requires
-hole-walk-requires c κs = search needs
-
-is-sure-requires : tie.Need-is-sure-requires
-is-sure-requires c κs = search needs
 
 -- where the walk started
 module _ (c : tie.After-is-sure) where
@@ -83,12 +74,5 @@ returns-5 c = part (c .before) _ (c .if4 .left)
 pub hole-cutoff-sure-spec : {M : Type 1} → statement M
 hole-cutoff-sure-spec =
     tie.close
-    (tie.spec
-    returns
-    returns-2
-    walk-starts-requires
-    returns-3
-    hole-walk-requires
-    is-sure-requires
-    returns-4
-    returns-5)
+    (tie.spec returns returns-2 (λ c κs. search needs) returns-3 (λ c κs. search needs) (λ c κs. search needs)
+    returns-4 returns-5)

@@ -10,18 +10,6 @@ use Rattle.models.proofs.Walks.{probability-is}
 use Rattle.models.proofs.cutoffs.hole_walk.Statement.{statement}
 use Rattle.models.proofs.cutoffs.hole_walk.Tie as tie
 
-single-copy-of-requires : tie.Need-single-copy-of-requires
-single-copy-of-requires c κs = search needs
-
-cast-ceiling : tie.Need-cast-ceiling
-cast-ceiling c = search needs
-
-ceiling-requires : tie.Need-ceiling-requires
-ceiling-requires c κs = search needs
-
-walk-requires : tie.Need-walk-requires
-walk-requires c κs = search needs
-
 returns : tie.Need-returns
 unfolding holeWalkOf
 returns c =
@@ -36,4 +24,5 @@ returns c =
 
 pub hole-walk-spec : {M : Type 1} → statement M
 hole-walk-spec =
-    tie.close (tie.spec single-copy-of-requires cast-ceiling ceiling-requires walk-requires returns)
+    tie.close
+    (tie.spec (λ c κs. search needs) (λ c. search needs) (λ c κs. search needs) (λ c κs. search needs) returns)

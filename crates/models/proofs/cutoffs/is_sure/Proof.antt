@@ -11,24 +11,9 @@ use Rattle.models.proofs.Walks.{probability-is}
 use Rattle.models.proofs.cutoffs.is_sure.Statement.{statement}
 use Rattle.models.proofs.cutoffs.is_sure.Tie as tie
 
-is-finite-requires : tie.Need-is-finite-requires
-is-finite-requires c κs = search needs
-
 returns : tie.Need-returns
 unfolding sureOf
 returns c = rw (sym (c .before .is-finite .ensures) ∙ not-true _ (c .if1 .taken))
-
-single-copy-of-requires : tie.Need-single-copy-of-requires
-single-copy-of-requires c κs = search needs
-
-cast-ceiling : tie.Need-cast-ceiling
-cast-ceiling c = search needs
-
-ceiling-requires : tie.Need-ceiling-requires
-ceiling-requires c κs = search needs
-
-all-probable-requires : tie.Need-all-probable-requires
-all-probable-requires c κs = search needs
 
 returns-2 : tie.Need-returns-2
 unfolding sureOf
@@ -46,11 +31,5 @@ returns-2 c =
 pub is-sure-spec : {M : Type 1} → statement M
 is-sure-spec =
     tie.close
-    (tie.spec
-    is-finite-requires
-    returns
-    single-copy-of-requires
-    cast-ceiling
-    ceiling-requires
-    all-probable-requires
-    returns-2)
+    (tie.spec (λ c κs. search needs) returns (λ c κs. search needs) (λ c. search needs) (λ c κs. search needs)
+    (λ c κs. search needs) returns-2)

@@ -10,9 +10,6 @@ returns : tie.Need-returns
 unfolding walkStarts
 returns c = rw (c .if1 .taken)
 
-is-finite-requires : tie.Need-is-finite-requires
-is-finite-requires c κs = search needs
-
 returns-2 : tie.Need-returns-2
 unfolding walkStarts
 returns-2 c =
@@ -40,4 +37,4 @@ returns-5 c =
     rw (finite .before .before .if1 .left, sym (finite .before .is-finite .ensures) ∙ not-false _ (finite .if2 .left), large .if3 .left, le-ltb _ _ (c .if4 .left))
 
 pub walk-starts-spec : {M : Type 1} → statement M
-walk-starts-spec = tie.close (tie.spec returns is-finite-requires returns-2 returns-3 returns-4 returns-5)
+walk-starts-spec = tie.close (tie.spec returns (λ c κs. search needs) returns-2 returns-3 returns-4 returns-5)

@@ -27,38 +27,8 @@ ready-at-requires c κs = c .before .before .pre .0
 add-ln : tie.Need-add-ln
 add-ln c = omega arith
 
-int-to-float-ln : tie.Need-int-to-float-ln
-int-to-float-ln c = search needs
-
-ln-requires : tie.Need-ln-requires
-ln-requires c κs = search needs
-
-survival-with-requires : tie.Need-survival-with-requires
-survival-with-requires c κs = search needs
-
 add-lgamma-with : tie.Need-add-lgamma-with
 add-lgamma-with c = omega arith
-
-int-to-float-lgamma-with : tie.Need-int-to-float-lgamma-with
-int-to-float-lgamma-with c = search needs
-
-lgamma-with-requires : tie.Need-lgamma-with-requires
-lgamma-with-requires c κs = search needs
-
-int-to-float-heights-from : tie.Need-int-to-float-heights-from
-int-to-float-heights-from c = search needs
-
-heights-from-requires : tie.Need-heights-from-requires
-heights-from-requires c κs = search needs
-
-int-to-float-deviance-term : tie.Need-int-to-float-deviance-term
-int-to-float-deviance-term c = search needs
-
-expected-of-requires : tie.Need-expected-of-requires
-expected-of-requires c κs = search needs
-
-deviance-term-requires : tie.Need-deviance-term-requires
-deviance-term-requires c κs = search needs
 
 add-t14 : tie.Need-add-t14
 add-t14 c = omega arith
@@ -92,21 +62,6 @@ returns-2 c =
 pub add-deviance-spec : {M : Type 1} → statement M
 add-deviance-spec =
     tie.close
-    (tie.spec
-    returns
-    add-count
-    ready-at-requires
-    add-ln
-    int-to-float-ln
-    ln-requires
-    survival-with-requires
-    add-lgamma-with
-    int-to-float-lgamma-with
-    lgamma-with-requires
-    int-to-float-heights-from
-    heights-from-requires
-    int-to-float-deviance-term
-    expected-of-requires
-    deviance-term-requires
-    add-t14
-    returns-2)
+    (tie.spec returns add-count ready-at-requires add-ln (λ c. search needs) (λ c κs. search needs)
+    (λ c κs. search needs) add-lgamma-with (λ c. search needs) (λ c κs. search needs) (λ c. search needs)
+    (λ c κs. search needs) (λ c. search needs) (λ c κs. search needs) (λ c κs. search needs) add-t14 returns-2)

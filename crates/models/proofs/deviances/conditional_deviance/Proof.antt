@@ -37,12 +37,6 @@ Inv-loop bins scale top t reached₀ i₀ reached i =
 abbrev μ-loop : tie.MeasureT-loop
 μ-loop bins scale top t reached₀ i₀ reached i = top - i
 
-height-terms-requires : tie.Need-height-terms-requires Inv-loop μ-loop
-height-terms-requires c κs = search needs
-
-ready-of-requires : tie.Need-ready-of-requires Inv-loop μ-loop
-ready-of-requires c κs = search needs
-
 loop-holds : tie.Need-loop-holds Inv-loop μ-loop
 unfolding neg ofBits
 loop-holds c =
@@ -51,12 +45,6 @@ loop-holds c =
       first ∙ ap (λ (r : Ready). readyOf p (r .count)) (sym first),
       begins _ _ _ _ _ (omega arith) refl,
     )
-
-cast-recovered-at : tie.Need-cast-recovered-at Inv-loop μ-loop
-cast-recovered-at c = search needs
-
-recovered-at-requires : tie.Need-recovered-at-requires Inv-loop μ-loop
-recovered-at-requires c κs = search needs
 
 add-deviance-requires : tie.Need-add-deviance-requires Inv-loop μ-loop
 add-deviance-requires c κs = (c .before .before .loop .inv .0, omega arith)
@@ -90,16 +78,5 @@ returns c =
 pub conditional-deviance-spec : {M : Type 1} → statement M
 conditional-deviance-spec =
     tie.close
-    (tie.spec
-    Inv-loop
-    μ-loop
-    height-terms-requires
-    ready-of-requires
-    loop-holds
-    cast-recovered-at
-    recovered-at-requires
-    add-deviance-requires
-    add-i
-    loop-less
-    loop-again
-    returns)
+    (tie.spec Inv-loop μ-loop (λ c κs. search needs) (λ c κs. search needs) loop-holds (λ c. search needs)
+    (λ c κs. search needs) add-deviance-requires add-i loop-less loop-again returns)

@@ -5,9 +5,6 @@ use borrow.Author.Needs.{needs}
 use Rattle.models.proofs.deviances.deviance_term.Statement.{statement}
 use Rattle.models.proofs.deviances.deviance_term.Tie as tie
 
-ln-requires : tie.Need-ln-requires
-ln-requires c κs = search needs
-
 returns : tie.Need-returns
 unfolding devianceTerm round ofBits
 returns c = rw (c .before .if1 .taken, c .ln .ensures)
@@ -17,4 +14,4 @@ unfolding devianceTerm div ofBits
 returns-2 c = rw (c .if1 .left)
 
 pub deviance-term-spec : {M : Type 1} → statement M
-deviance-term-spec = tie.close (tie.spec ln-requires returns returns-2)
+deviance-term-spec = tie.close (tie.spec (λ c κs. search needs) returns returns-2)

@@ -10,11 +10,8 @@ returns c =
     let start = c .before .before in
     start .pre ∙ ap (readyOf (start .args .p)) (c .if1 .taken)
 
-ready-of-requires : tie.Need-ready-of-requires
-ready-of-requires c κs = search needs
-
 returns-2 : tie.Need-returns-2
 returns-2 c = c .ready-of .ensures
 
 pub ready-at-spec : {M : Type 1} → statement M
-ready-at-spec = tie.close (tie.spec returns ready-of-requires returns-2)
+ready-at-spec = tie.close (tie.spec returns (λ c κs. search needs) returns-2)

@@ -5,12 +5,6 @@ use borrow.Author.Needs.{needs}
 use Rattle.models.proofs.families.list_length.Statement.{statement}
 use Rattle.models.proofs.families.list_length.Tie as tie
 
-parameter-count-requires : tie.Need-parameter-count-requires
-parameter-count-requires c κs = search needs
-
-extra-parameters-requires : tie.Need-extra-parameters-requires
-extra-parameters-requires c κs = search needs
-
 add-result : tie.Need-add-result
 add-result c =
     let counted = c .before in
@@ -19,9 +13,5 @@ add-result c =
     let other-few = extra-few (args .genome) in
     record { fits = omega (arith, counted .parameter-count .ensures, c .extra-parameters .ensures, one-few, other-few) }
 
-returns : tie.Need-returns
-returns c = search needs
-
 pub list-length-spec : {M : Type 1} → statement M
-list-length-spec =
-    tie.close (tie.spec parameter-count-requires extra-parameters-requires add-result returns)
+list-length-spec = tie.close (tie.spec (λ c κs. search needs) (λ c κs. search needs) add-result (λ c. search needs))

@@ -55,35 +55,8 @@ tested c b h =
     let error = c .before .before .error-height-from .ensures ∙ error-from-is (turn .count) (few c) _ _ t (turn .inv .0) (survives c) in
     outgrows-is t (turn .count) _ _ b error (c .single-height .ensures) h
 
-log-survival-from-two-requires : tie.Need-log-survival-from-two-requires Inv-loop μ-loop
-log-survival-from-two-requires c κs = search needs
-
 loop-holds : tie.Need-loop-holds Inv-loop μ-loop
 loop-holds c = (first-survival _ _ (c .log-survival-from-two .ensures), crossing-starts _ _)
-
-int-to-float-ln : tie.Need-int-to-float-ln Inv-loop μ-loop
-int-to-float-ln c = search needs
-
-ln-requires : tie.Need-ln-requires Inv-loop μ-loop
-ln-requires c κs = search needs
-
-survival-with-requires : tie.Need-survival-with-requires Inv-loop μ-loop
-survival-with-requires c κs = search needs
-
-int-to-float-error-height-from : tie.Need-int-to-float-error-height-from Inv-loop μ-loop
-int-to-float-error-height-from c = search needs
-
-error-height-from-requires : tie.Need-error-height-from-requires Inv-loop μ-loop
-error-height-from-requires c κs = search needs
-
-int-to-float-single-height : tie.Need-int-to-float-single-height Inv-loop μ-loop
-int-to-float-single-height c = search needs
-
-single-height-requires : tie.Need-single-height-requires Inv-loop μ-loop
-single-height-requires c κs = search needs
-
-at-least-two-requires : tie.Need-at-least-two-requires Inv-loop μ-loop
-at-least-two-requires c κs = search needs
 
 returns : tie.Need-returns Inv-loop μ-loop
 returns c =
@@ -114,21 +87,6 @@ returns-2 c =
 pub crossing-spec : {M : Type 1} → statement M
 crossing-spec =
     tie.close
-    (tie.spec
-    Inv-loop
-    μ-loop
-    log-survival-from-two-requires
-    loop-holds
-    int-to-float-ln
-    ln-requires
-    survival-with-requires
-    int-to-float-error-height-from
-    error-height-from-requires
-    int-to-float-single-height
-    single-height-requires
-    at-least-two-requires
-    returns
-    add-count
-    loop-less
-    loop-again
-    returns-2)
+    (tie.spec Inv-loop μ-loop (λ c κs. search needs) loop-holds (λ c. search needs) (λ c κs. search needs)
+    (λ c κs. search needs) (λ c. search needs) (λ c κs. search needs) (λ c. search needs) (λ c κs. search needs)
+    (λ c κs. search needs) returns add-count loop-less loop-again returns-2)

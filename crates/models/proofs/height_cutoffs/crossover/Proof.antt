@@ -37,32 +37,14 @@ returns-2 : tie.Need-returns-2
 unfolding crossoverOf
 returns-2 c = simp (le-ltb _ _ (c .before .if1 .left), eq-eqb _ _ (c .if2 .taken))
 
-crossover-starts-requires : tie.Need-crossover-starts-requires
-crossover-starts-requires c κs = search needs
-
 returns-3 : tie.Need-returns-3
 unfolding crossoverOf
 returns-3 c =
     let some = c .before .before in
     simp (le-ltb _ _ (some .before .if1 .left), ne-eqb _ _ (some .if2 .left), sym (c .before .crossover-starts .ensures) ∙ not-true _ (c .if3 .taken))
 
-height-terms-requires : tie.Need-height-terms-requires
-height-terms-requires c κs = search needs
-
-cast-crossover-ceiling : tie.Need-cast-crossover-ceiling
-cast-crossover-ceiling c = search needs
-
-crossover-ceiling-requires : tie.Need-crossover-ceiling-requires
-crossover-ceiling-requires c κs = search needs
-
-crossing-requires : tie.Need-crossing-requires
-crossing-requires c κs = search needs
-
 enum-told : tie.Need-enum-told
 enum-told c = search needs
-
-enum-known-found : tie.Need-enum-known-found
-enum-known-found c = search needs
 
 returns-4 : tie.Need-returns-4
 returns-4 c = ap (λ p. give (partSays p)) (sym (c .enum-told .given .1)) ∙ came (c .before .before)
@@ -75,16 +57,5 @@ returns-5 c =
 pub crossover-spec : {M : Type 1} → statement M
 crossover-spec =
     tie.close
-    (tie.spec
-    returns
-    returns-2
-    crossover-starts-requires
-    returns-3
-    height-terms-requires
-    cast-crossover-ceiling
-    crossover-ceiling-requires
-    crossing-requires
-    enum-told
-    enum-known-found
-    returns-4
-    returns-5)
+    (tie.spec returns returns-2 (λ c κs. search needs) returns-3 (λ c κs. search needs) (λ c. search needs)
+    (λ c κs. search needs) (λ c κs. search needs) enum-told (λ c. search needs) returns-4 returns-5)

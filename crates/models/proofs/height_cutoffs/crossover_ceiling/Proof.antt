@@ -22,18 +22,6 @@ rounded c =
     c .to-u64 .ensures
     ∙ ap (toUnsigned 64) (c .before .max .ensures ∙ ap (λ (x : Float). maxOf x two) (c .before .before .round .ensures))
 
-round-requires : tie.Need-round-requires
-round-requires c κs = search needs
-
-max-requires : tie.Need-max-requires
-max-requires c κs = search needs
-
-to-u64-requires : tie.Need-to-u64-requires
-to-u64-requires c κs = search needs
-
-cast-result : tie.Need-cast-result
-cast-result c = search needs
-
 returns : tie.Need-returns
 returns c = lower _ _ _ (rounded (c .before)) (c .if1 .taken)
 
@@ -43,10 +31,5 @@ returns-2 c = higher _ _ _ (rounded (c .before)) (c .if1 .left)
 pub crossover-ceiling-spec : {M : Type 1} → statement M
 crossover-ceiling-spec =
     tie.close
-    (tie.spec
-    round-requires
-    max-requires
-    to-u64-requires
-    cast-result
-    returns
+    (tie.spec (λ c κs. search needs) (λ c κs. search needs) (λ c κs. search needs) (λ c. search needs) returns
     returns-2)

@@ -6,9 +6,6 @@ use borrow.Author.Needs.{needs}
 use Rattle.models.proofs.height_cutoffs.crossover_starts.Statement.{statement}
 use Rattle.models.proofs.height_cutoffs.crossover_starts.Tie as tie
 
-is-finite-requires : tie.Need-is-finite-requires
-is-finite-requires c κs = search needs
-
 returns : tie.Need-returns
 unfolding crossoverStarts
 returns c = rw (sym (c .before .is-finite .ensures) ∙ not-true _ (c .if1 .taken))
@@ -34,11 +31,4 @@ returns-4 c =
     rw (sym (finite .before .is-finite .ensures) ∙ not-false _ (finite .if1 .left), large .if2 .left, le-ltb _ _ (c .if3 .left))
 
 pub crossover-starts-spec : {M : Type 1} → statement M
-crossover-starts-spec =
-    tie.close
-    (tie.spec
-    is-finite-requires
-    returns
-    returns-2
-    returns-3
-    returns-4)
+crossover-starts-spec = tie.close (tie.spec (λ c κs. search needs) returns returns-2 returns-3 returns-4)

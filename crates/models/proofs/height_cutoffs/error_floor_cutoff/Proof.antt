@@ -16,27 +16,6 @@ returns-2 : tie.Need-returns-2
 unfolding errorFloorOf
 returns-2 c = simp (le-ltb _ _ (c .before .if1 .left), eq-eqb _ _ (c .if2 .taken))
 
-height-terms-requires : tie.Need-height-terms-requires
-height-terms-requires c κs = search needs
-
-primary-mode-requires : tie.Need-primary-mode-requires
-primary-mode-requires c κs = search needs
-
-from-u64-requires : tie.Need-from-u64-requires
-from-u64-requires c κs = search needs
-
-single-height-requires : tie.Need-single-height-requires
-single-height-requires c κs = search needs
-
-cast-last-bad : tie.Need-cast-last-bad
-cast-last-bad c = search needs
-
-last-bad-requires : tie.Need-last-bad-requires
-last-bad-requires c κs = search needs
-
-floor-behind-requires : tie.Need-floor-behind-requires
-floor-behind-requires c κs = search needs
-
 returns-3 : tie.Need-returns-3
 unfolding errorFloorOf
 returns-3 c =
@@ -53,14 +32,5 @@ returns-3 c =
 pub error-floor-cutoff-spec : {M : Type 1} → statement M
 error-floor-cutoff-spec =
     tie.close
-    (tie.spec
-    returns
-    returns-2
-    height-terms-requires
-    primary-mode-requires
-    from-u64-requires
-    single-height-requires
-    cast-last-bad
-    last-bad-requires
-    floor-behind-requires
-    returns-3)
+    (tie.spec returns returns-2 (λ c κs. search needs) (λ c κs. search needs) (λ c κs. search needs)
+    (λ c κs. search needs) (λ c. search needs) (λ c κs. search needs) (λ c κs. search needs) returns-3)

@@ -10,11 +10,8 @@ returns c = omega arith
 add-at-least-two : tie.Need-add-at-least-two
 add-at-least-two c = omega arith
 
-at-least-two-requires : tie.Need-at-least-two-requires
-at-least-two-requires c κs = search needs
-
 returns-2 : tie.Need-returns-2
 returns-2 c = omega (arith, c .at-least-two .ensures, c .before .if1 .left)
 
 pub floor-behind-spec : {M : Type 1} → statement M
-floor-behind-spec = tie.close (tie.spec returns add-at-least-two at-least-two-requires returns-2)
+floor-behind-spec = tie.close (tie.spec returns add-at-least-two (λ c κs. search needs) returns-2)

@@ -25,32 +25,11 @@ Inv-loop t reference top p here₀ last₀ i₀ here last i =
 abbrev μ-loop : tie.MeasureT-loop
 μ-loop t reference top p here₀ last₀ i₀ here last i = top - i
 
-log-survival-from-two-requires : tie.Need-log-survival-from-two-requires Inv-loop μ-loop
-log-survival-from-two-requires c κs = search needs
-
 loop-holds : tie.Need-loop-holds Inv-loop μ-loop
 loop-holds c = (first-survival _ _ (c .log-survival-from-two .ensures), begins _ _ _ _ _ (omega arith) refl)
 
 add-count : tie.Need-add-count Inv-loop μ-loop
 add-count c = omega arith
-
-int-to-float-ln : tie.Need-int-to-float-ln Inv-loop μ-loop
-int-to-float-ln c = search needs
-
-ln-requires : tie.Need-ln-requires Inv-loop μ-loop
-ln-requires c κs = search needs
-
-survival-with-requires : tie.Need-survival-with-requires Inv-loop μ-loop
-survival-with-requires c κs = search needs
-
-int-to-float-error-height-from : tie.Need-int-to-float-error-height-from Inv-loop μ-loop
-int-to-float-error-height-from c = search needs
-
-error-height-from-requires : tie.Need-error-height-from-requires Inv-loop μ-loop
-error-height-from-requires c κs = search needs
-
-later-bad-requires : tie.Need-later-bad-requires Inv-loop μ-loop
-later-bad-requires c κs = search needs
 
 add-i : tie.Need-add-i Inv-loop μ-loop
 add-i c = omega arith
@@ -82,19 +61,6 @@ returns c = ends _ _ _ _ (c .before .loop .inv .1) (omega arith)
 pub last-bad-spec : {M : Type 1} → statement M
 last-bad-spec =
     tie.close
-    (tie.spec
-    Inv-loop
-    μ-loop
-    log-survival-from-two-requires
-    loop-holds
-    add-count
-    int-to-float-ln
-    ln-requires
-    survival-with-requires
-    int-to-float-error-height-from
-    error-height-from-requires
-    later-bad-requires
-    add-i
-    loop-less
-    loop-again
-    returns)
+    (tie.spec Inv-loop μ-loop (λ c κs. search needs) loop-holds add-count (λ c. search needs) (λ c κs. search needs)
+    (λ c κs. search needs) (λ c. search needs) (λ c κs. search needs) (λ c κs. search needs) add-i loop-less
+    loop-again returns)

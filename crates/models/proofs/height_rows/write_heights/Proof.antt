@@ -42,12 +42,6 @@ Inv-loop t last out₀ p log₀ here₀ i₀ out log here i =
 abbrev μ-loop : tie.MeasureT-loop
 μ-loop t last out₀ p log₀ here₀ i₀ out log here i = last - i
 
-ln-requires : tie.Need-ln-requires Inv-loop μ-loop
-ln-requires c κs = search needs
-
-log-survival-from-two-requires : tie.Need-log-survival-from-two-requires Inv-loop μ-loop
-log-survival-from-two-requires c κs = search needs
-
 loop-holds : tie.Need-loop-holds Inv-loop μ-loop
 unfolding heightRows
 loop-holds c =
@@ -62,14 +56,8 @@ loop-holds c =
       rows = sym (over-none _);
     }
 
-cast-at : tie.Need-cast-at Inv-loop μ-loop
-cast-at c = search needs
-
 mul-at : tie.Need-mul-at Inv-loop μ-loop
 mul-at c = omega arith
-
-cast-count : tie.Need-cast-count Inv-loop μ-loop
-cast-count c = search needs
 
 add-count : tie.Need-add-count Inv-loop μ-loop
 add-count c = omega arith
@@ -77,29 +65,8 @@ add-count c = omega arith
 add-ln : tie.Need-add-ln Inv-loop μ-loop
 add-ln c = omega arith
 
-int-to-float-ln : tie.Need-int-to-float-ln Inv-loop μ-loop
-int-to-float-ln c = search needs
-
-ln-requires-2 : tie.Need-ln-requires-2 Inv-loop μ-loop
-ln-requires-2 c κs = search needs
-
-survival-with-requires : tie.Need-survival-with-requires Inv-loop μ-loop
-survival-with-requires c κs = search needs
-
 add-lgamma-with : tie.Need-add-lgamma-with Inv-loop μ-loop
 add-lgamma-with c = omega arith
-
-int-to-float-lgamma-with : tie.Need-int-to-float-lgamma-with Inv-loop μ-loop
-int-to-float-lgamma-with c = search needs
-
-lgamma-with-requires : tie.Need-lgamma-with-requires Inv-loop μ-loop
-lgamma-with-requires c κs = search needs
-
-int-to-float-heights-from : tie.Need-int-to-float-heights-from Inv-loop μ-loop
-int-to-float-heights-from c = search needs
-
-heights-from-requires : tie.Need-heights-from-requires Inv-loop μ-loop
-heights-from-requires c κs = search needs
 
 mul-out : tie.Need-mul-out Inv-loop μ-loop
 mul-out c = omega arith
@@ -156,9 +123,6 @@ loop-again c =
           (gamma .lgamma-with .ensures ∙ with-log _ _ (after .ln2 .ensures)));
     }
 
-same-length : tie.Need-same-length Inv-loop μ-loop
-same-length c = search needs
-
 returns : tie.Need-returns Inv-loop μ-loop
 returns c =
     let at = c .before in
@@ -170,35 +134,8 @@ returns c =
 pub write-heights-spec : {M : Type 1} → statement M
 write-heights-spec =
     tie.close
-    (tie.spec
-    Inv-loop
-    μ-loop
-    ln-requires
-    log-survival-from-two-requires
-    loop-holds
-    cast-at
-    mul-at
-    cast-count
-    add-count
-    add-ln
-    int-to-float-ln
-    ln-requires-2
-    survival-with-requires
-    add-lgamma-with
-    int-to-float-lgamma-with
-    lgamma-with-requires
-    int-to-float-heights-from
-    heights-from-requires
-    mul-out
-    slice-write-out
-    add-out
-    mul-out-2
-    slice-write-out-2
-    add-out-2
-    mul-out-3
-    slice-write-out-3
-    add-i
-    loop-less
-    loop-again
-    same-length
-    returns)
+    (tie.spec Inv-loop μ-loop (λ c κs. search needs) (λ c κs. search needs) loop-holds (λ c. search needs) mul-at
+    (λ c. search needs) add-count add-ln (λ c. search needs) (λ c κs. search needs) (λ c κs. search needs)
+    add-lgamma-with (λ c. search needs) (λ c κs. search needs) (λ c. search needs) (λ c κs. search needs) mul-out
+    slice-write-out add-out mul-out-2 slice-write-out-2 add-out-2 mul-out-3 slice-write-out-3 add-i loop-less
+    loop-again (λ c. search needs) returns)

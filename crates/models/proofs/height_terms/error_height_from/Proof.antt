@@ -4,20 +4,9 @@ use borrow.Author.Needs.{needs}
 use Rattle.models.proofs.height_terms.error_height_from.Statement.{statement}
 use Rattle.models.proofs.height_terms.error_height_from.Tie as tie
 
-log-probability-between-requires : tie.Need-log-probability-between-requires
-log-probability-between-requires c κs = search needs
-
-scaled-requires : tie.Need-scaled-requires
-scaled-requires c κs = search needs
-
 returns : tie.Need-returns
 unfolding errorHeightFrom
 returns c = rw (c .scaled .ensures, c .before .log-probability-between .ensures)
 
 pub error-height-from-spec : {M : Type 1} → statement M
-error-height-from-spec =
-    tie.close
-    (tie.spec
-    log-probability-between-requires
-    scaled-requires
-    returns)
+error-height-from-spec = tie.close (tie.spec (λ c κs. search needs) (λ c κs. search needs) returns)

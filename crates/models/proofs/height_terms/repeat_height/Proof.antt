@@ -4,15 +4,9 @@ use borrow.Author.Needs.{needs}
 use Rattle.models.proofs.height_terms.repeat_height.Statement.{statement}
 use Rattle.models.proofs.height_terms.repeat_height.Tie as tie
 
-lgamma-requires : tie.Need-lgamma-requires
-lgamma-requires c κs = search needs
-
-repeat-height-with-requires : tie.Need-repeat-height-with-requires
-repeat-height-with-requires c κs = search needs
-
 returns : tie.Need-returns
 unfolding repeatHeightOf
 returns c = rw (c .repeat-height-with .ensures, c .before .lgamma .ensures)
 
 pub repeat-height-spec : {M : Type 1} → statement M
-repeat-height-spec = tie.close (tie.spec lgamma-requires repeat-height-with-requires returns)
+repeat-height-spec = tie.close (tie.spec (λ c κs. search needs) (λ c κs. search needs) returns)

@@ -4,15 +4,9 @@ use borrow.Author.Needs.{needs}
 use Rattle.models.proofs.height_terms.repeat_height_with.Statement.{statement}
 use Rattle.models.proofs.height_terms.repeat_height_with.Tie as tie
 
-density-with-requires : tie.Need-density-with-requires
-density-with-requires c κs = search needs
-
-scaled-requires : tie.Need-scaled-requires
-scaled-requires c κs = search needs
-
 returns : tie.Need-returns
 unfolding repeatHeightWith
 returns c = rw (c .scaled .ensures, c .before .density-with .ensures)
 
 pub repeat-height-with-spec : {M : Type 1} → statement M
-repeat-height-with-spec = tie.close (tie.spec density-with-requires scaled-requires returns)
+repeat-height-with-spec = tie.close (tie.spec (λ c κs. search needs) (λ c κs. search needs) returns)

@@ -3,11 +3,8 @@ use borrow.Author.Needs.{needs}
 use Rattle.models.proofs.height_terms.scaled.Statement.{statement}
 use Rattle.models.proofs.height_terms.scaled.Tie as tie
 
-exp-requires : tie.Need-exp-requires
-exp-requires c κs = search needs
-
 returns : tie.Need-returns
 returns c = rw (c .exp .ensures)
 
 pub scaled-spec : {M : Type 1} → statement M
-scaled-spec = tie.close (tie.spec exp-requires returns)
+scaled-spec = tie.close (tie.spec (λ c κs. search needs) returns)

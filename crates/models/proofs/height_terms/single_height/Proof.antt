@@ -4,15 +4,9 @@ use borrow.Author.Needs.{needs}
 use Rattle.models.proofs.height_terms.single_height.Statement.{statement}
 use Rattle.models.proofs.height_terms.single_height.Tie as tie
 
-lgamma-requires : tie.Need-lgamma-requires
-lgamma-requires c κs = search needs
-
-single-height-with-requires : tie.Need-single-height-with-requires
-single-height-with-requires c κs = search needs
-
 returns : tie.Need-returns
 unfolding singleHeightOf
 returns c = rw (c .single-height-with .ensures, c .before .lgamma .ensures)
 
 pub single-height-spec : {M : Type 1} → statement M
-single-height-spec = tie.close (tie.spec lgamma-requires single-height-with-requires returns)
+single-height-spec = tie.close (tie.spec (λ c κs. search needs) (λ c κs. search needs) returns)

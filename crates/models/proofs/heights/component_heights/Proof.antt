@@ -11,20 +11,10 @@ returns : tie.Need-returns
 unfolding componentHeightsOf
 returns c = simp (lt-ltb _ _ (c .if1 .taken))
 
-cast-heights-at : tie.Need-cast-heights-at
-cast-heights-at c = search needs
-
-int-to-float-heights-at : tie.Need-int-to-float-heights-at
-int-to-float-heights-at c = search needs
-
-heights-at-requires : tie.Need-heights-at-requires
-heights-at-requires c κs = search needs
-
 returns-2 : tie.Need-returns-2
 unfolding componentHeightsOf
 returns-2 c = simp (le-ltb _ _ (c .before .before .if1 .left)) (ap give (c .heights-at .ensures))
 
 pub component-heights-spec : {M : Type 1} → statement M
 component-heights-spec =
-    tie.close
-    (tie.spec returns cast-heights-at int-to-float-heights-at heights-at-requires returns-2)
+    tie.close (tie.spec returns (λ c. search needs) (λ c. search needs) (λ c κs. search needs) returns-2)

@@ -41,18 +41,6 @@ returns-2 c =
     let k = lt-ltb _ _ (c .if2 .taken) in
     (simp (h, k), simp (h, k))
 
-height-terms-requires : tie.Need-height-terms-requires
-height-terms-requires c κs = search needs
-
-cast-write-heights : tie.Need-cast-write-heights
-cast-write-heights c = search needs
-
-write-heights-requires : tie.Need-write-heights-requires
-write-heights-requires c κs = search needs
-
-same-length : tie.Need-same-length
-same-length c = search needs
-
 returns-3 : tie.Need-returns-3
 unfolding heightsToOf
 returns-3 c =
@@ -69,12 +57,5 @@ returns-3 c =
 pub component-heights-to-spec : {M : Type 1} → statement M
 component-heights-to-spec =
     tie.close
-    (tie.spec
-    returns
-    mul-items
-    returns-2
-    height-terms-requires
-    cast-write-heights
-    write-heights-requires
-    same-length
-    returns-3)
+    (tie.spec returns mul-items returns-2 (λ c κs. search needs) (λ c. search needs) (λ c κs. search needs)
+    (λ c. search needs) returns-3)

@@ -5,14 +5,8 @@ use borrow.Author.Needs.{needs}
 use Rattle.models.proofs.heights.heights_at.Statement.{statement}
 use Rattle.models.proofs.heights.heights_at.Tie as tie
 
-height-terms-requires : tie.Need-height-terms-requires
-height-terms-requires c κs = search needs
-
-heights-of-requires : tie.Need-heights-of-requires
-heights-of-requires c κs = search needs
-
 returns : tie.Need-returns
 returns c = c .heights-of .ensures ∙ rw (c .before .height-terms .ensures) (terms-heights _ _)
 
 pub heights-at-spec : {M : Type 1} → statement M
-heights-at-spec = tie.close (tie.spec height-terms-requires heights-of-requires returns)
+heights-at-spec = tie.close (tie.spec (λ c κs. search needs) (λ c κs. search needs) returns)

@@ -26,16 +26,10 @@ add-count c =
     let start = c .before .before .before .before .before .before .before in
     omega (arith, start .pre .0)
 
-gamma-at-requires : tie.Need-gamma-at-requires
-gamma-at-requires c κs = search needs
-
 point-requires : tie.Need-point-requires
 point-requires c κs =
     let start = c .before .before .before .before .before .before .before .before in
     (omega arith, kept-fewer (start .pre .1 .0) _ (omega arith))
-
-int-to-float-t17 : tie.Need-int-to-float-t17
-int-to-float-t17 c = search needs
 
 returns-2 : tie.Need-returns-2
 unfolding seenTerm
@@ -58,4 +52,6 @@ returns-2 c =
 
 pub add-point-spec : {M : Type 1} → statement M
 add-point-spec =
-    tie.close (tie.spec returns ahead-at-requires ahead-after-requires add-count gamma-at-requires point-requires int-to-float-t17 returns-2)
+    tie.close
+    (tie.spec returns ahead-at-requires ahead-after-requires add-count (λ c κs. search needs) point-requires
+    (λ c. search needs) returns-2)

@@ -10,12 +10,8 @@ returns c =
     let start = c .before .before .before in
     start .pre ∙ ap (aheadOf (start .args .error) (start .args .ready .now)) (c .if1 .taken)
 
-ahead-of-requires : tie.Need-ahead-of-requires
-ahead-of-requires c κs = search needs
-
 returns-2 : tie.Need-returns-2
 returns-2 c = c .ahead-of .ensures
 
 pub ahead-at-spec : {M : Type 1} → statement M
-ahead-at-spec =
-    tie.close (tie.spec returns ahead-of-requires returns-2)
+ahead-at-spec = tie.close (tie.spec returns (λ c κs. search needs) returns-2)

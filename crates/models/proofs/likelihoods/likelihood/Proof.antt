@@ -21,18 +21,9 @@ Inv-loop bins scale top p m steady ready kept table reached₀ i₀ reached i =
 abbrev μ-loop : tie.MeasureT-loop
 μ-loop bins scale top p m steady ready kept table reached₀ i₀ reached i = top - i
 
-ahead-of-requires : tie.Need-ahead-of-requires Inv-loop μ-loop
-ahead-of-requires c κs = search needs
-
 loop-holds : tie.Need-loop-holds Inv-loop μ-loop
 unfolding neg ofBits
 loop-holds c = (standing _ _ (c .ahead-of .ensures), begins _ _ _ _ _ (omega arith) refl)
-
-cast-recovered-at : tie.Need-cast-recovered-at Inv-loop μ-loop
-cast-recovered-at c = search needs
-
-recovered-at-requires : tie.Need-recovered-at-requires Inv-loop μ-loop
-recovered-at-requires c κs = search needs
 
 add-point-requires : tie.Need-add-point-requires Inv-loop μ-loop
 add-point-requires c κs =
@@ -58,4 +49,6 @@ returns c = ends _ _ _ _ (c .before .loop .inv .1) (omega arith)
 
 pub likelihood-spec : {M : Type 1} → statement M
 likelihood-spec =
-    tie.close (tie.spec Inv-loop μ-loop ahead-of-requires loop-holds cast-recovered-at recovered-at-requires add-point-requires add-i loop-less loop-again returns)
+    tie.close
+    (tie.spec Inv-loop μ-loop (λ c κs. search needs) loop-holds (λ c. search needs) (λ c κs. search needs)
+    add-point-requires add-i loop-less loop-again returns)

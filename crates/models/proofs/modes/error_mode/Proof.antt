@@ -16,12 +16,6 @@ returns-2 : tie.Need-returns-2
 unfolding errorModeOf
 returns-2 c = simp (le-ltb _ _ (c .before .if1 .left), eq-eqb _ _ (c .if2 .taken))
 
-cast-highest : tie.Need-cast-highest
-cast-highest c = search needs
-
-highest-requires : tie.Need-highest-requires
-highest-requires c κs = search needs
-
 returns-3 : tie.Need-returns-3
 unfolding errorModeOf
 returns-3 c =
@@ -29,9 +23,6 @@ returns-3 c =
     let some = best .before in
     let flag = ap (λ (b : Standing). b .nan) (best .highest .ensures) in
     simp (le-ltb _ _ (some .before .if1 .left), ne-eqb _ _ (some .if2 .left), sym flag ∙ c .if3 .taken)
-
-cast-t6 : tie.Need-cast-t6
-cast-t6 c = search needs
 
 returns-4 : tie.Need-returns-4
 unfolding errorModeOf
@@ -45,4 +36,4 @@ returns-4 c =
 pub error-mode-spec : {M : Type 1} → statement M
 error-mode-spec =
     tie.close
-    (tie.spec returns returns-2 cast-highest highest-requires returns-3 cast-t6 returns-4)
+    (tie.spec returns returns-2 (λ c. search needs) (λ c κs. search needs) returns-3 (λ c. search needs) returns-4)

@@ -5,12 +5,6 @@ use borrow.Author.Needs.{needs}
 use Rattle.models.proofs.modes.higher.Statement.{statement}
 use Rattle.models.proofs.modes.higher.Tie as tie
 
-with-nan-requires : tie.Need-with-nan-requires
-with-nan-requires c κs = search needs
-
-later-wins-requires : tie.Need-later-wins-requires
-later-wins-requires c κs = search needs
-
 returns : tie.Need-returns
 unfolding higherWith
 returns c =
@@ -24,4 +18,4 @@ returns-2 c =
     rw (flag .with-nan .ensures, sym (c .before .later-wins .ensures) ∙ c .if1 .left)
 
 pub higher-spec : {M : Type 1} → statement M
-higher-spec = tie.close (tie.spec with-nan-requires later-wins-requires returns returns-2)
+higher-spec = tie.close (tie.spec (λ c κs. search needs) (λ c κs. search needs) returns returns-2)

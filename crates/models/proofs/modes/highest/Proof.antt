@@ -21,12 +21,6 @@ Inv-loop p top best₀ ln-tail survival₀ count₀ best survival count =
 abbrev μ-loop : tie.MeasureT-loop
 μ-loop p top best₀ ln-tail survival₀ count₀ best survival count = top + 1 - count
 
-ln-tail-requires : tie.Need-ln-tail-requires Inv-loop μ-loop
-ln-tail-requires c κs = search needs
-
-log-survival-from-two-requires : tie.Need-log-survival-from-two-requires Inv-loop μ-loop
-log-survival-from-two-requires c κs = search needs
-
 loop-holds : tie.Need-loop-holds Inv-loop μ-loop
 unfolding div neg ofBits
 loop-holds c = (
@@ -34,18 +28,6 @@ loop-holds c = (
   first-survival _ _ (c .log-survival-from-two .ensures),
   begins _ _ _ _ _ (omega arith) refl,
 )
-
-int-to-float-ln : tie.Need-int-to-float-ln Inv-loop μ-loop
-int-to-float-ln c = search needs
-
-ln-requires : tie.Need-ln-requires Inv-loop μ-loop
-ln-requires c κs = search needs
-
-survival-with-requires : tie.Need-survival-with-requires Inv-loop μ-loop
-survival-with-requires c κs = search needs
-
-step-requires : tie.Need-step-requires Inv-loop μ-loop
-step-requires c κs = search needs
 
 add-count : tie.Need-add-count Inv-loop μ-loop
 add-count c = omega arith
@@ -77,17 +59,5 @@ returns c = ends _ _ _ _ (c .before .loop .inv .2) (omega arith)
 pub highest-spec : {M : Type 1} → statement M
 highest-spec =
     tie.close
-    (tie.spec
-    Inv-loop
-    μ-loop
-    ln-tail-requires
-    log-survival-from-two-requires
-    loop-holds
-    int-to-float-ln
-    ln-requires
-    survival-with-requires
-    step-requires
-    add-count
-    loop-less
-    loop-again
-    returns)
+    (tie.spec Inv-loop μ-loop (λ c κs. search needs) (λ c κs. search needs) loop-holds (λ c. search needs)
+    (λ c κs. search needs) (λ c κs. search needs) (λ c κs. search needs) add-count loop-less loop-again returns)

@@ -14,9 +14,6 @@ use Rattle.models.proofs.Outdone.{unmoved}
 use Rattle.models.proofs.modes.step.Statement.{statement}
 use Rattle.models.proofs.modes.step.Tie as tie
 
-outdone-requires : tie.Need-outdone-requires
-outdone-requires c κs = search needs
-
 returns : tie.Need-returns
 unfolding logProbabilityBetween
 returns c =
@@ -28,15 +25,6 @@ returns c =
     count-equals-one (a .count) (omega (arith, start .fits .count)) ∙ ne-eqb (a .count) 1 (λ (z : a .count ≡ 1). omega (arith, z, known .0)) in
     rw later (unmoved (a .best) (a .count) _ (known .1))
 
-int-to-float-log-probability-between : tie.Need-int-to-float-log-probability-between
-int-to-float-log-probability-between c = search needs
-
-log-probability-between-requires : tie.Need-log-probability-between-requires
-log-probability-between-requires c κs = search needs
-
-higher-requires : tie.Need-higher-requires
-higher-requires c κs = search needs
-
 returns-2 : tie.Need-returns-2
 returns-2 c =
     let start = c .before .before .before .before .before in
@@ -46,10 +34,5 @@ returns-2 c =
 pub step-spec : {M : Type 1} → statement M
 step-spec =
     tie.close
-    (tie.spec
-    outdone-requires
-    returns
-    int-to-float-log-probability-between
-    log-probability-between-requires
-    higher-requires
+    (tie.spec (λ c κs. search needs) returns (λ c. search needs) (λ c κs. search needs) (λ c κs. search needs)
     returns-2)

@@ -6,18 +6,9 @@ use borrow.Author.Needs.{needs}
 use Rattle.models.proofs.params.at.Statement.{statement}
 use Rattle.models.proofs.params.at.Tie as tie
 
-mul-result : tie.Need-mul-result
-mul-result c = search needs
-
-shared-slice-read-result : tie.Need-shared-slice-read-result
-shared-slice-read-result c = search needs
-
-returns : tie.Need-returns
-returns c = search needs
-
 returns-2 : tie.Need-returns-2
 unfolding div ofBits
 returns-2 c = sym (List·getD-eq-default (c .before .args .theta .now) nan (c .if1 .left))
 
 pub at-spec : {M : Type 1} → statement M
-at-spec = tie.close (tie.spec mul-result shared-slice-read-result returns returns-2)
+at-spec = tie.close (tie.spec (λ c. search needs) (λ c. search needs) (λ c. search needs) returns-2)

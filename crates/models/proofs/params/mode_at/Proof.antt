@@ -5,12 +5,9 @@ use borrow.Author.Needs.{needs}
 use Rattle.models.proofs.params.mode_at.Statement.{statement}
 use Rattle.models.proofs.params.mode_at.Tie as tie
 
-exp-requires : tie.Need-exp-requires
-exp-requires c κs = search needs
-
 returns : tie.Need-returns
 unfolding modeOf round ofBits
 returns c = rw (c .exp .ensures)
 
 pub mode-at-spec : {M : Type 1} → statement M
-mode-at-spec = tie.close (tie.spec exp-requires returns)
+mode-at-spec = tie.close (tie.spec (λ c κs. search needs) returns)

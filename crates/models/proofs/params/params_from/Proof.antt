@@ -15,24 +15,12 @@ returns-2 : tie.Need-returns-2
 unfolding paramsAnswerOf
 returns-2 c = simp (le-ltb _ _ (c .before .if1 .left), lt-ltb _ _ (c .if2 .taken))
 
-list-length-requires : tie.Need-list-length-requires
-list-length-requires c κs = search needs
-
 returns-3 : tie.Need-returns-3
 unfolding paramsAnswerOf
 returns-3 c =
     let tests = c .before .before in
     let few = le-ltb _ _ (tests .if2 .left) in
     simp (le-ltb _ _ (tests .before .if1 .left), few, sym (c .before .list-length .ensures), ne-eqb _ _ (c .if3 .taken))
-
-cast-decode : tie.Need-cast-decode
-cast-decode c = search needs
-
-int-to-float-decode : tie.Need-int-to-float-decode
-int-to-float-decode c = search needs
-
-decode-requires : tie.Need-decode-requires
-decode-requires c κs = search needs
 
 returns-4 : tie.Need-returns-4
 unfolding paramsAnswerOf
@@ -47,12 +35,5 @@ returns-4 c =
 pub params-from-spec : {M : Type 1} → statement M
 params-from-spec =
     tie.close
-    (tie.spec
-    returns
-    returns-2
-    list-length-requires
-    returns-3
-    cast-decode
-    int-to-float-decode
-    decode-requires
-    returns-4)
+    (tie.spec returns returns-2 (λ c κs. search needs) returns-3 (λ c. search needs) (λ c. search needs)
+    (λ c κs. search needs) returns-4)

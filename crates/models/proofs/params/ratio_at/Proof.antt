@@ -5,12 +5,9 @@ use borrow.Author.Needs.{needs}
 use Rattle.models.proofs.params.ratio_at.Statement.{statement}
 use Rattle.models.proofs.params.ratio_at.Tie as tie
 
-sigmoid-requires : tie.Need-sigmoid-requires
-sigmoid-requires c κs = search needs
-
 returns : tie.Need-returns
 unfolding ratioOf round ofBits
 returns c = rw (c .sigmoid .ensures)
 
 pub ratio-at-spec : {M : Type 1} → statement M
-ratio-at-spec = tie.close (tie.spec sigmoid-requires returns)
+ratio-at-spec = tie.close (tie.spec (λ c κs. search needs) returns)

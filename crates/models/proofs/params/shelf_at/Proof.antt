@@ -5,21 +5,6 @@ use borrow.Author.Needs.{needs}
 use Rattle.models.proofs.params.shelf_at.Statement.{statement}
 use Rattle.models.proofs.params.shelf_at.Tie as tie
 
-sigmoid-requires : tie.Need-sigmoid-requires
-sigmoid-requires c κs = search needs
-
-shelf-concentration-bounds-requires : tie.Need-shelf-concentration-bounds-requires
-shelf-concentration-bounds-requires c κs = search needs
-
-sigmoid-requires-2 : tie.Need-sigmoid-requires-2
-sigmoid-requires-2 c κs = search needs
-
-sigmoid-requires-3 : tie.Need-sigmoid-requires-3
-sigmoid-requires-3 c κs = search needs
-
-from-retained-requires : tie.Need-from-retained-requires
-from-retained-requires c κs = search needs
-
 returns : tie.Need-returns
 unfolding shelfAt round ofBits
 returns c =
@@ -32,10 +17,5 @@ returns c =
 pub shelf-at-spec : {M : Type 1} → statement M
 shelf-at-spec =
     tie.close
-    (tie.spec
-    sigmoid-requires
-    shelf-concentration-bounds-requires
-    sigmoid-requires-2
-    sigmoid-requires-3
-    from-retained-requires
-    returns)
+    (tie.spec (λ c κs. search needs) (λ c κs. search needs) (λ c κs. search needs) (λ c κs. search needs)
+    (λ c κs. search needs) returns)

@@ -29,12 +29,6 @@ returns-2 c =
     kept 5 (a .window-end) (a .out .now)
     (prepare-none (a .window-end) (length (a .out .now)) (few .if1 .left) (c .if2 .taken))
 
-add-rows : tie.Need-add-rows
-add-rows c = search needs
-
-mul-if3 : tie.Need-mul-if3
-mul-if3 c = search needs
-
 returns-3 : tie.Need-returns-3
 returns-3 c =
     let some = c .before in
@@ -42,18 +36,6 @@ returns-3 c =
     let a = few .before .before .args in
     kept 10 (a .window-end) (a .out .now)
     (prepare-short (a .window-end) (length (a .out .now)) (few .if1 .left) (some .if2 .left) (c .if3 .taken))
-
-cast-write-rows : tie.Need-cast-write-rows
-cast-write-rows c = search needs
-
-write-rows-requires : tie.Need-write-rows-requires
-write-rows-requires c κs = search needs
-
-mul-t5 : tie.Need-mul-t5
-mul-t5 c = search needs
-
-same-length : tie.Need-same-length
-same-length c = search needs
 
 returns-4 : tie.Need-returns-4
 returns-4 c =
@@ -70,14 +52,5 @@ returns-4 c =
 pub prepare-window-spec : {M : Type 1} → statement M
 prepare-window-spec =
     tie.close
-    (tie.spec
-    returns
-    returns-2
-    add-rows
-    mul-if3
-    returns-3
-    cast-write-rows
-    write-rows-requires
-    mul-t5
-    same-length
-    returns-4)
+    (tie.spec returns returns-2 (λ c. search needs) (λ c. search needs) returns-3 (λ c. search needs)
+    (λ c κs. search needs) (λ c. search needs) (λ c. search needs) returns-4)

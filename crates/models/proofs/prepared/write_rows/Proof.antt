@@ -20,29 +20,11 @@ abbrev μ-loop : tie.MeasureT-loop
 loop-holds : tie.Need-loop-holds Inv-loop μ-loop
 loop-holds c = (zero-le, refl, c .before .pre, rows-none _)
 
-int-to-float-x : tie.Need-int-to-float-x Inv-loop μ-loop
-int-to-float-x c = search needs
-
-mul-i : tie.Need-mul-i Inv-loop μ-loop
-mul-i c = search needs
-
-ln-requires : tie.Need-ln-requires Inv-loop μ-loop
-ln-requires c κs = search needs
-
-mul-out : tie.Need-mul-out Inv-loop μ-loop
-mul-out c = search needs
-
 slice-write-out : tie.Need-slice-write-out Inv-loop μ-loop
 slice-write-out c = omega arith
 
-lgamma-requires : tie.Need-lgamma-requires Inv-loop μ-loop
-lgamma-requires c κs = search needs
-
 add-out : tie.Need-add-out Inv-loop μ-loop
 add-out c = omega arith
-
-mul-out-2 : tie.Need-mul-out-2 Inv-loop μ-loop
-mul-out-2 c = search needs
 
 slice-write-out-2 : tie.Need-slice-write-out-2 Inv-loop μ-loop
 slice-write-out-2 c = simp length-set (omega arith)
@@ -62,9 +44,6 @@ loop-again c =
       rows-more _ _ _ _ _ (inv .3) (omega arith) (c .before .ln .ensures) (c .lgamma .ensures),
     )
 
-same-length : tie.Need-same-length Inv-loop μ-loop
-same-length c = search needs
-
 returns : tie.Need-returns Inv-loop μ-loop
 returns c =
     let inv = c .before .loop .inv in
@@ -74,4 +53,7 @@ returns c =
 
 pub write-rows-spec : {M : Type 1} → statement M
 write-rows-spec =
-    tie.close (tie.spec Inv-loop μ-loop loop-holds int-to-float-x mul-i ln-requires mul-out slice-write-out lgamma-requires add-out mul-out-2 slice-write-out-2 add-n loop-less loop-again same-length returns)
+    tie.close
+    (tie.spec Inv-loop μ-loop loop-holds (λ c. search needs) (λ c. search needs) (λ c κs. search needs)
+    (λ c. search needs) slice-write-out (λ c κs. search needs) add-out (λ c. search needs) slice-write-out-2 add-n
+    loop-less loop-again (λ c. search needs) returns)

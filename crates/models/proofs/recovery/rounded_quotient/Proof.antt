@@ -16,19 +16,10 @@ returns c =
     let whole = count-over-one (a .divisor) (a .n) (c .if1 .taken) (omega (arith, few)) in
     sym (ap (toUnsigned 32) whole ∙ count-back 32 (a .n) (omega (arith, few)) (omega (arith, few)))
 
-int-to-float-round : tie.Need-int-to-float-round
-int-to-float-round c = search needs
-
-round-requires : tie.Need-round-requires
-round-requires c κs = search needs
-
-to-u32-requires : tie.Need-to-u32-requires
-to-u32-requires c κs = search needs
-
 returns-2 : tie.Need-returns-2
 unfolding roundedQuotientOf
 returns-2 c = rw (c .to-u32 .ensures, c .before .round .ensures)
 
 pub rounded-quotient-spec : {M : Type 1} → statement M
 rounded-quotient-spec =
-    tie.close (tie.spec returns int-to-float-round round-requires to-u32-requires returns-2)
+    tie.close (tie.spec returns (λ c. search needs) (λ c κs. search needs) (λ c κs. search needs) returns-2)

@@ -5,9 +5,6 @@ use borrow.Author.Needs.{needs}
 use Rattle.models.proofs.recovery.used_scale.Statement.{statement}
 use Rattle.models.proofs.recovery.used_scale.Tie as tie
 
-is-finite-requires : tie.Need-is-finite-requires
-is-finite-requires c κs = search needs
-
 returns : tie.Need-returns
 unfolding usedScaleOf
 returns c = rw (sym (c .before .before .is-finite .ensures) ∙ c .before .if1 .taken, c .if2 .taken)
@@ -21,4 +18,4 @@ unfolding usedScaleOf
 returns-3 c = rw (sym (c .before .is-finite .ensures) ∙ c .if1 .left)
 
 pub used-scale-spec : {M : Type 1} → statement M
-used-scale-spec = tie.close (tie.spec is-finite-requires returns returns-2 returns-3)
+used-scale-spec = tie.close (tie.spec (λ c κs. search needs) returns returns-2 returns-3)

@@ -99,9 +99,6 @@ past-high c n h =
     past-low (c .before .before .before) n (goes-on (high s) (inOrder (after-high s)) refl none n h)
 
 -- ---- 4, 5 and 6
-window-refusal-requires : tie.Need-window-refusal-requires
-window-refusal-requires c κs = search needs
-
 returns-3 : tie.Need-returns-3
 returns-3 c =
     let s = start-high (c .before .before) in
@@ -120,9 +117,6 @@ past-spectrum c n h =
     (goes-on (spectrum s) (inOrder (after-spectrum s)) (unfold spectrumTests in refl) none n h)
 
 -- ---- 7
-list-length-requires : tie.Need-list-length-requires
-list-length-requires c κs = search needs
-
 returns-4 : tie.Need-returns-4
 returns-4 c =
     let wrong = ap (eqb _) (sym (c .before .list-length .ensures)) ∙ ne-eqb _ _ (c .if7 .taken) in
@@ -134,21 +128,11 @@ past-list c n h =
     past-spectrum (c .before .before) n (simp (ap not right) h)
 
 -- ---- 10
-short-refusal-requires : tie.Need-short-refusal-requires
-short-refusal-requires c κs = search needs
-
 returns-5 : tie.Need-returns-5
 returns-5 c = past-list (c .before) _ (c .short-refusal .ensures)
 
 pub fit-refusal-spec : {M : Type 1} → statement M
 fit-refusal-spec =
     tie.close
-    (tie.spec
-    returns
-    returns-2
-    window-refusal-requires
-    returns-3
-    list-length-requires
-    returns-4
-    short-refusal-requires
-    returns-5)
+    (tie.spec returns returns-2 (λ c κs. search needs) returns-3 (λ c κs. search needs) returns-4
+    (λ c κs. search needs) returns-5)

@@ -18,9 +18,6 @@ roomy room end h = le-ltb room (end + 1) (omega arith)
 enum-told : tie.Need-enum-told
 enum-told c = search needs
 
-enum-told-2 : tie.Need-enum-told-2
-enum-told-2 c = search needs
-
 returns : tie.Need-returns
 returns c = rw (c .enum-told .given .1) (rw (le-ltb (c .before .before .args .room) 0 (omega arith)))
 
@@ -31,4 +28,4 @@ returns-3 : tie.Need-returns-3
 returns-3 c = rw (c .before .enum-told2 .given .1) (rw (roomy _ _ (c .if1 .left)))
 
 pub short-refusal-spec : {M : Type 1} → statement M
-short-refusal-spec = tie.close (tie.spec enum-told enum-told-2 returns returns-2 returns-3)
+short-refusal-spec = tie.close (tie.spec enum-told (λ c. search needs) returns returns-2 returns-3)

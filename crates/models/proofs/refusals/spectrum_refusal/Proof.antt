@@ -17,9 +17,6 @@ returns-2 c =
     ⊎-elim (λ t. simp (some, lt-ltb _ _ (t .taken))) (λ t. simp (some, le-ltb _ _ (t .0 .left), t .1 .taken))
     (c .if2 .came)
 
-window-refusal-requires : tie.Need-window-refusal-requires
-window-refusal-requires c κs = search needs
-
 returns-3 : tie.Need-returns-3
 unfolding binsTests spectrumTests
 returns-3 c =
@@ -28,4 +25,4 @@ returns-3 c =
     (c .window-refusal .ensures)
 
 pub spectrum-refusal-spec : {M : Type 1} → statement M
-spectrum-refusal-spec = tie.close (tie.spec returns returns-2 window-refusal-requires returns-3)
+spectrum-refusal-spec = tie.close (tie.spec returns returns-2 (λ c κs. search needs) returns-3)

@@ -10,12 +10,9 @@ returns c = simp (lt-ltb _ _ (c .if1 .taken))
 returns-2 : tie.Need-returns-2
 returns-2 c = simp (le-ltb _ _ (c .before .if1 .left), eq-eqb _ _ (c .if2 .taken))
 
-short-refusal-requires : tie.Need-short-refusal-requires
-short-refusal-requires c κs = search needs
-
 returns-3 : tie.Need-returns-3
 returns-3 c =
     simp (le-ltb _ _ (c .before .before .if1 .left), ne-eqb _ _ (c .before .if2 .left)) (c .short-refusal .ensures)
 
 pub table-refusal-spec : {M : Type 1} → statement M
-table-refusal-spec = tie.close (tie.spec returns returns-2 short-refusal-requires returns-3)
+table-refusal-spec = tie.close (tie.spec returns returns-2 (λ c κs. search needs) returns-3)

@@ -11,9 +11,6 @@ use Rattle.models.specs.Spectra.{allZeroOf, noneRecoveredOf}
 use Rattle.models.proofs.refusals.window_refusal.Statement.{statement}
 use Rattle.models.proofs.refusals.window_refusal.Tie as tie
 
-all-zero-requires : tie.Need-all-zero-requires
-all-zero-requires c κs = search needs
-
 returns : tie.Need-returns
 unfolding spectrumTests
 returns c = simp (sym (c .before .all-zero .ensures) ∙ c .if1 .taken)
@@ -27,12 +24,6 @@ returns-2 c =
     let some = some-bin (c .before) in
     ⊎-elim (λ t. simp (some, eq-eqb _ _ (t .taken))) (λ t. simp (some, ne-eqb _ _ (t .0 .left), t .1 .taken))
     (c .if2 .came)
-
-used-scale-requires : tie.Need-used-scale-requires
-used-scale-requires c κs = search needs
-
-none-recovered-requires : tie.Need-none-recovered-requires
-none-recovered-requires c κs = search needs
 
 abbrev start : tie.After-none-recovered → tie.Start
 start c = c .before .before .before .before .before .before .before
@@ -61,11 +52,5 @@ returns-4 c =
 pub window-refusal-spec : {M : Type 1} → statement M
 window-refusal-spec =
     tie.close
-    (tie.spec
-    all-zero-requires
-    returns
-    returns-2
-    used-scale-requires
-    none-recovered-requires
-    returns-3
+    (tie.spec (λ c κs. search needs) returns returns-2 (λ c κs. search needs) (λ c κs. search needs) returns-3
     returns-4)

@@ -14,18 +14,6 @@ use borrow.Author.Needs.{needs}
 use Rattle.models.proofs.shelf_rules.shelf_is_valid.Statement.{statement}
 use Rattle.models.proofs.shelf_rules.shelf_is_valid.Tie as tie
 
-is-finite-requires : tie.Need-is-finite-requires
-is-finite-requires c κs = search needs
-
-is-finite-requires-2 : tie.Need-is-finite-requires-2
-is-finite-requires-2 c κs = search needs
-
-retained-requires : tie.Need-retained-requires
-retained-requires c κs = search needs
-
-concentration-requires : tie.Need-concentration-requires
-concentration-requires c κs = search needs
-
 abbrev two : Shelf → Bool
 two s = lt zero (s .share) && lt (s .share) half
 
@@ -107,10 +95,5 @@ returns-2 c = stopped _ (is-seven (c .before)) (c .if7 .left) refl
 pub shelf-is-valid-spec : {M : Type 1} → statement M
 shelf-is-valid-spec =
     tie.close
-    (tie.spec
-    is-finite-requires
-    is-finite-requires-2
-    retained-requires
-    concentration-requires
-    returns
+    (tie.spec (λ c κs. search needs) (λ c κs. search needs) (λ c κs. search needs) (λ c κs. search needs) returns
     returns-2)

@@ -21,14 +21,8 @@ loop-holds : tie.Need-loop-holds Inv-loop μ-loop
 unfolding neg ofBits
 loop-holds c = begins _ _ _ _ _ (omega arith) refl
 
-mul-total : tie.Need-mul-total Inv-loop μ-loop
-mul-total c = search needs
-
 shared-slice-read-total : tie.Need-shared-slice-read-total Inv-loop μ-loop
 shared-slice-read-total c = omega arith
-
-int-to-float-total : tie.Need-int-to-float-total Inv-loop μ-loop
-int-to-float-total c = search needs
 
 add-i : tie.Need-add-i Inv-loop μ-loop
 add-i c = omega arith
@@ -46,14 +40,5 @@ returns c = ends _ _ _ _ (c .before .loop .inv) (omega arith)
 pub full-total-spec : {M : Type 1} → statement M
 full-total-spec =
     tie.close
-    (tie.spec
-    Inv-loop
-    μ-loop
-    loop-holds
-    mul-total
-    shared-slice-read-total
-    int-to-float-total
-    add-i
-    loop-less
-    loop-again
-    returns)
+    (tie.spec Inv-loop μ-loop loop-holds (λ c. search needs) shared-slice-read-total (λ c. search needs) add-i
+    loop-less loop-again returns)

@@ -21,9 +21,6 @@ abbrev μ-loop : tie.MeasureT-loop
 loop-holds : tie.Need-loop-holds Inv-loop μ-loop
 loop-holds c = begins _ _ _ _ _ (omega arith) refl
 
-recovered-at-requires : tie.Need-recovered-at-requires Inv-loop μ-loop
-recovered-at-requires c κs = search needs
-
 returns : tie.Need-returns Inv-loop μ-loop
 returns c = all-fails _ _ _ (omega arith) (ap (λ (n : ℕ). eqb n 0) (sym (c .before .recovered-at .ensures)) ∙ ne-eqb _ _ (c .if1 .taken))
 
@@ -41,14 +38,4 @@ returns-2 c = all-holds _ _ (c .before .loop .inv) (omega arith)
 
 pub none-recovered-spec : {M : Type 1} → statement M
 none-recovered-spec =
-    tie.close
-    (tie.spec
-    Inv-loop
-    μ-loop
-    loop-holds
-    recovered-at-requires
-    returns
-    add-i
-    loop-less
-    loop-again
-    returns-2)
+    tie.close (tie.spec Inv-loop μ-loop loop-holds (λ c κs. search needs) returns add-i loop-less loop-again returns-2)

@@ -21,15 +21,6 @@ loop-holds : tie.Need-loop-holds Inv-loop μ-loop
 unfolding neg ofBits
 loop-holds c = begins _ _ _ _ _ (omega arith) refl
 
-cast-recovered-at : tie.Need-cast-recovered-at Inv-loop μ-loop
-cast-recovered-at c = search needs
-
-recovered-at-requires : tie.Need-recovered-at-requires Inv-loop μ-loop
-recovered-at-requires c κs = search needs
-
-add-seen-requires : tie.Need-add-seen-requires Inv-loop μ-loop
-add-seen-requires c κs = search needs
-
 add-i : tie.Need-add-i Inv-loop μ-loop
 add-i c = omega arith
 
@@ -46,14 +37,5 @@ returns c = ends _ _ _ _ (c .before .loop .inv) (omega arith)
 pub observed-total-spec : {M : Type 1} → statement M
 observed-total-spec =
     tie.close
-    (tie.spec
-    Inv-loop
-    μ-loop
-    loop-holds
-    cast-recovered-at
-    recovered-at-requires
-    add-seen-requires
-    add-i
-    loop-less
-    loop-again
-    returns)
+    (tie.spec Inv-loop μ-loop loop-holds (λ c. search needs) (λ c κs. search needs) (λ c κs. search needs) add-i
+    loop-less loop-again returns)

@@ -4,15 +4,9 @@ use borrow.Author.Needs.{needs}
 use Rattle.models.proofs.spectra.recovered_at.Statement.{statement}
 use Rattle.models.proofs.spectra.recovered_at.Tie as tie
 
-bin-at-requires : tie.Need-bin-at-requires
-bin-at-requires c κs = search needs
-
-rounded-quotient-requires : tie.Need-rounded-quotient-requires
-rounded-quotient-requires c κs = search needs
-
 returns : tie.Need-returns
 unfolding recoveredAt
 returns c = rw (c .rounded-quotient .ensures, c .before .bin-at .ensures)
 
 pub recovered-at-spec : {M : Type 1} → statement M
-recovered-at-spec = tie.close (tie.spec bin-at-requires rounded-quotient-requires returns)
+recovered-at-spec = tie.close (tie.spec (λ c κs. search needs) (λ c κs. search needs) returns)

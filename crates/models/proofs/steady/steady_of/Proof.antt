@@ -3,20 +3,10 @@ use borrow.Author.Needs.{needs}
 use Rattle.models.proofs.steady.steady_of.Statement.{statement}
 use Rattle.models.proofs.steady.steady_of.Tie as tie
 
-lobes-of-requires : tie.Need-lobes-of-requires
-lobes-of-requires c κs = search needs
-
-ln-tail-requires : tie.Need-ln-tail-requires
-ln-tail-requires c κs = search needs
-
-shelf-logs-requires : tie.Need-shelf-logs-requires
-shelf-logs-requires c κs = search needs
-
 returns : tie.Need-returns
 returns c =
     let lobes = c .before .before .before .before in
     rw (c .shelf-logs .ensures, c .before .ln-tail .ensures, lobes .lobes-of .ensures)
 
 pub steady-of-spec : {M : Type 1} → statement M
-steady-of-spec =
-    tie.close (tie.spec lobes-of-requires ln-tail-requires shelf-logs-requires returns)
+steady-of-spec = tie.close (tie.spec (λ c κs. search needs) (λ c κs. search needs) (λ c κs. search needs) returns)

@@ -10,24 +10,9 @@ use Rattle.models.proofs.tables.fill_table.Tie as tie
 enum-told : tie.Need-enum-told
 enum-told c = search needs
 
-enum-known-shelf : tie.Need-enum-known-shelf
-enum-known-shelf c = search needs
-
-shelf-log-table-requires : tie.Need-shelf-log-table-requires
-shelf-log-table-requires c κs = search needs
-
-enum-known-written : tie.Need-enum-known-written
-enum-known-written c = search needs
-
-enum-told-2 : tie.Need-enum-told-2
-enum-told-2 c = search needs
-
 returns : tie.Need-returns
 unfolding entriesIn
 returns c = (rw (c .enum-told .given .1), rw (c .enum-told .given .1) (sym (over-none _)))
-
-same-length : tie.Need-same-length
-same-length c = search needs
 
 -- where the table's writer has answered
 abbrev start : tie.After-shelf-log-table → tie.Start
@@ -43,9 +28,6 @@ returns-2 c =
       filled-table (a .mean) (a .top) (a .table .now) (a .shelf) _ told _ (said .1),
     )
 
-same-length-2 : tie.Need-same-length-2
-same-length-2 c = search needs
-
 returns-3 : tie.Need-returns-3
 returns-3 c =
     let call = c .before .before .before .before in
@@ -59,14 +41,5 @@ returns-3 c =
 pub fill-table-spec : {M : Type 1} → statement M
 fill-table-spec =
     tie.close
-    (tie.spec
-    enum-told
-    enum-known-shelf
-    shelf-log-table-requires
-    enum-known-written
-    enum-told-2
-    returns
-    same-length
-    returns-2
-    same-length-2
-    returns-3)
+    (tie.spec enum-told (λ c. search needs) (λ c κs. search needs) (λ c. search needs) (λ c. search needs) returns
+    (λ c. search needs) returns-2 (λ c. search needs) returns-3)

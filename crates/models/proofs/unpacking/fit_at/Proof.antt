@@ -9,9 +9,6 @@ use Rattle.models.proofs.Unpacked.{fit-is}
 use Rattle.models.proofs.unpacking.fit_at.Statement.{statement}
 use Rattle.models.proofs.unpacking.fit_at.Tie as tie
 
-fill-table-requires : tie.Need-fill-table-requires
-fill-table-requires c κs = search needs
-
 -- where the table was written
 module _ (c : tie.After-fill-table) where
   abbrev start : tie.Start
@@ -20,12 +17,6 @@ module _ (c : tie.After-fill-table) where
   abbrev entries : List Float
   entries = let a = start .args in entriesIn (a .p .shelf) (a .p .mean) (a .window .end) (length (a .table .now))
 
-sub-masses-of : tie.Need-sub-masses-of
-sub-masses-of c = search needs
-
-part-masses-of-start : tie.Need-part-masses-of-start
-part-masses-of-start c = search needs
-
 part-masses-of-end : tie.Need-part-masses-of-end
 part-masses-of-end c =
     let filled = c .before .before .before in
@@ -33,15 +24,6 @@ part-masses-of-end c =
     let a = start filled .args in
     front-room (entries filled) (a .table .now) _ _ (fill .ensures .0) (fill .ensures .1)
     (entries-few (a .p .shelf) (a .p .mean) (a .window .end) (length (a .table .now)))
-
-masses-of-requires : tie.Need-masses-of-requires
-masses-of-requires c κs = search needs
-
-fit-of-requires : tie.Need-fit-of-requires
-fit-of-requires c κs = search needs
-
-same-length : tie.Need-same-length
-same-length c = search needs
 
 returns : tie.Need-returns
 returns c =
@@ -58,12 +40,5 @@ returns c =
 pub fit-at-spec : {M : Type 1} → statement M
 fit-at-spec =
     tie.close
-    (tie.spec
-    fill-table-requires
-    sub-masses-of
-    part-masses-of-start
-    part-masses-of-end
-    masses-of-requires
-    fit-of-requires
-    same-length
-    returns)
+    (tie.spec (λ c κs. search needs) (λ c. search needs) (λ c. search needs) part-masses-of-end (λ c κs. search needs)
+    (λ c κs. search needs) (λ c. search needs) returns)

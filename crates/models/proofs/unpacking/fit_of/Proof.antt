@@ -6,39 +6,6 @@ use borrow.Author.Needs.{needs}
 use Rattle.models.proofs.unpacking.fit_of.Statement.{statement}
 use Rattle.models.proofs.unpacking.fit_of.Tie as tie
 
-ln-requires : tie.Need-ln-requires
-ln-requires c κs = search needs
-
-log-total-requires : tie.Need-log-total-requires
-log-total-requires c κs = search needs
-
-log-total-requires-2 : tie.Need-log-total-requires-2
-log-total-requires-2 c κs = search needs
-
-log-total-requires-3 : tie.Need-log-total-requires-3
-log-total-requires-3 c κs = search needs
-
-exp-requires : tie.Need-exp-requires
-exp-requires c κs = search needs
-
-exp-requires-2 : tie.Need-exp-requires-2
-exp-requires-2 c κs = search needs
-
-exp-requires-3 : tie.Need-exp-requires-3
-exp-requires-3 c κs = search needs
-
-exp-requires-4 : tie.Need-exp-requires-4
-exp-requires-4 c κs = search needs
-
-exp-requires-5 : tie.Need-exp-requires-5
-exp-requires-5 c κs = search needs
-
-exp-requires-6 : tie.Need-exp-requires-6
-exp-requires-6 c κs = search needs
-
-list-length-requires : tie.Need-list-length-requires
-list-length-requires c κs = search needs
-
 -- the place after the first total, from that after the length
 abbrev first-total : tie.After-list-length → tie.After-log-total
 first-total c = c .before .before .before .before .before .before .before .before .before
@@ -47,15 +14,6 @@ int-to-float-t27 : tie.Need-int-to-float-t27
 int-to-float-t27 c =
     let start = first-total (c .before) .before .before .before .before .before in
     length-held (start .args .error) (start .args .genome) _ (c .before .list-length .ensures)
-
-ln-requires-2 : tie.Need-ln-requires-2
-ln-requires-2 c κs = search needs
-
-cast-t31 : tie.Need-cast-t31
-cast-t31 c = search needs
-
-conditional-deviance-requires : tie.Need-conditional-deviance-requires
-conditional-deviance-requires c κs = search needs
 
 returns : tie.Need-returns
 unfolding fitOf fitWith round ofBits
@@ -82,20 +40,7 @@ returns c =
 pub fit-of-spec : {M : Type 1} → statement M
 fit-of-spec =
     tie.close
-    (tie.spec
-    ln-requires
-    log-total-requires
-    log-total-requires-2
-    log-total-requires-3
-    exp-requires
-    exp-requires-2
-    exp-requires-3
-    exp-requires-4
-    exp-requires-5
-    exp-requires-6
-    list-length-requires
-    int-to-float-t27
-    ln-requires-2
-    cast-t31
-    conditional-deviance-requires
-    returns)
+    (tie.spec (λ c κs. search needs) (λ c κs. search needs) (λ c κs. search needs) (λ c κs. search needs)
+    (λ c κs. search needs) (λ c κs. search needs) (λ c κs. search needs) (λ c κs. search needs) (λ c κs. search needs)
+    (λ c κs. search needs) (λ c κs. search needs) int-to-float-t27 (λ c κs. search needs) (λ c. search needs)
+    (λ c κs. search needs) returns)

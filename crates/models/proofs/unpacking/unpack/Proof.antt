@@ -8,12 +8,6 @@ use Rattle.models.proofs.Unpacked.{refused-answer, refused-table, given
 use Rattle.models.proofs.unpacking.unpack.Statement.{statement}
 use Rattle.models.proofs.unpacking.unpack.Tie as tie
 
-fit-refusal-requires : tie.Need-fit-refusal-requires
-fit-refusal-requires c κs = search needs
-
-empty-fit-requires : tie.Need-empty-fit-requires
-empty-fit-requires c κs = search needs
-
 abbrev start : tie.After-fit-refusal → tie.Start
 start c = c .before .before .before .before
 
@@ -40,17 +34,11 @@ passed c =
 cast-window-of : tie.Need-cast-window-of
 cast-window-of c = let all = passed c in omega (arith, all .end-few)
 
-window-of-requires : tie.Need-window-of-requires
-window-of-requires c κs = search needs
-
 cast-unpack-at : tie.Need-cast-unpack-at
 cast-unpack-at c = let all = passed (c .before) in omega (arith, all .peak-few)
 
 unpack-at-requires : tie.Need-unpack-at-requires
 unpack-at-requires c κs = rw (c .before .window-of .ensures) (passed (c .before .before) .spectrum .end-some)
-
-same-length : tie.Need-same-length
-same-length c = search needs
 
 returns-2 : tie.Need-returns-2
 returns-2 c =
@@ -70,13 +58,5 @@ returns-2 c =
 pub unpack-spec : {M : Type 1} → statement M
 unpack-spec =
     tie.close
-    (tie.spec
-    fit-refusal-requires
-    empty-fit-requires
-    returns
-    cast-window-of
-    window-of-requires
-    cast-unpack-at
-    unpack-at-requires
-    same-length
-    returns-2)
+    (tie.spec (λ c κs. search needs) (λ c κs. search needs) returns cast-window-of (λ c κs. search needs)
+    cast-unpack-at unpack-at-requires (λ c. search needs) returns-2)

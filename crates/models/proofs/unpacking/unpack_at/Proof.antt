@@ -5,18 +5,6 @@ use Rattle.models.specs.Unpacking.{unpackAt}
 use Rattle.models.proofs.unpacking.unpack_at.Statement.{statement}
 use Rattle.models.proofs.unpacking.unpack_at.Tie as tie
 
-int-to-float-decode : tie.Need-int-to-float-decode
-int-to-float-decode c = search needs
-
-decode-requires : tie.Need-decode-requires
-decode-requires c κs = search needs
-
-fit-at-requires : tie.Need-fit-at-requires
-fit-at-requires c κs = search needs
-
-same-length : tie.Need-same-length
-same-length c = search needs
-
 returns : tie.Need-returns
 unfolding unpackAt
 returns c =
@@ -26,4 +14,4 @@ returns c =
 
 pub unpack-at-spec : {M : Type 1} → statement M
 unpack-at-spec =
-    tie.close (tie.spec int-to-float-decode decode-requires fit-at-requires same-length returns)
+    tie.close (tie.spec (λ c. search needs) (λ c κs. search needs) (λ c κs. search needs) (λ c. search needs) returns)

@@ -13,12 +13,6 @@ use borrow.Author.Needs.{needs}
 use Rattle.models.proofs.usable.error_usable.Statement.{statement}
 use Rattle.models.proofs.usable.error_usable.Tie as tie
 
-is-finite-requires : tie.Need-is-finite-requires
-is-finite-requires c κs = search needs
-
-shape-usable-requires : tie.Need-shape-usable-requires
-shape-usable-requires c κs = search needs
-
 abbrev two : ErrorParams → Bool
 two p = finite (p .«tail_exponent») && not (le (p .«tail_exponent») zero)
 
@@ -61,10 +55,4 @@ unfolding errorUsable
 returns-2 c = stopped _ (is-four (c .before)) (c .if4 .left) refl
 
 pub error-usable-spec : {M : Type 1} → statement M
-error-usable-spec =
-    tie.close
-    (tie.spec
-    is-finite-requires
-    shape-usable-requires
-    returns
-    returns-2)
+error-usable-spec = tie.close (tie.spec (λ c κs. search needs) (λ c κs. search needs) returns returns-2)

@@ -13,21 +13,6 @@ use borrow.Author.Needs.{needs}
 use Rattle.models.proofs.usable.params_usable.Statement.{statement}
 use Rattle.models.proofs.usable.params_usable.Tie as tie
 
-is-finite-requires : tie.Need-is-finite-requires
-is-finite-requires c κs = search needs
-
-is-finite-requires-2 : tie.Need-is-finite-requires-2
-is-finite-requires-2 c κs = search needs
-
-is-finite-requires-3 : tie.Need-is-finite-requires-3
-is-finite-requires-3 c κs = search needs
-
-error-usable-requires : tie.Need-error-usable-requires
-error-usable-requires c κs = search needs
-
-shelf-usable-requires : tie.Need-shelf-usable-requires
-shelf-usable-requires c κs = search needs
-
 abbrev two : Params → Bool
 two p = finite (p .mean) && finite (p .dispersion)
 
@@ -83,11 +68,5 @@ returns-2 c = stopped _ (is-five (c .before)) (c .if5 .left) refl
 pub params-usable-spec : {M : Type 1} → statement M
 params-usable-spec =
     tie.close
-    (tie.spec
-    is-finite-requires
-    is-finite-requires-2
-    is-finite-requires-3
-    error-usable-requires
-    shelf-usable-requires
-    returns
-    returns-2)
+    (tie.spec (λ c κs. search needs) (λ c κs. search needs) (λ c κs. search needs) (λ c κs. search needs)
+    (λ c κs. search needs) returns returns-2)

@@ -27,9 +27,6 @@ one-side single k p e = exp-probable _ ∙ ap (λ (x : Float). le x two) (sym e)
 loop-holds : tie.Need-loop-holds Inv-loop μ-loop
 loop-holds c = (omega arith, all-begins (probabilityOf (c .args .single)))
 
-probability-requires : tie.Need-probability-requires Inv-loop μ-loop
-probability-requires c κs = search needs
-
 returns : tie.Need-returns Inv-loop μ-loop
 returns c =
     let l = c .before .before .before in
@@ -52,9 +49,6 @@ loop-again c =
           (one-side (a .single) (l .loop .count) _ (c .before .probability .ensures) ∙ not-false _ (c .if1 .left)),
     )
 
-probability-requires-2 : tie.Need-probability-requires-2 Inv-loop μ-loop
-probability-requires-2 c κs = search needs
-
 returns-2 : tie.Need-returns-2 Inv-loop μ-loop
 returns-2 c =
     let l = c .before .before in
@@ -67,14 +61,5 @@ returns-2 c =
 pub all-probable-spec : {M : Type 1} → statement M
 all-probable-spec =
     tie.close
-    (tie.spec
-    Inv-loop
-    μ-loop
-    loop-holds
-    probability-requires
-    returns
-    add-count
-    loop-less
-    loop-again
-    probability-requires-2
-    returns-2)
+    (tie.spec Inv-loop μ-loop loop-holds (λ c κs. search needs) returns add-count loop-less loop-again
+    (λ c κs. search needs) returns-2)

@@ -21,20 +21,11 @@ Inv-loop single allowed ceiling cdf₀ count₀ cdf count =
 abbrev μ-loop : tie.MeasureT-loop
 μ-loop single allowed ceiling cdf₀ count₀ cdf count = ceiling - count
 
-probability-requires : tie.Need-probability-requires Inv-loop μ-loop
-probability-requires c κs = search needs
-
 loop-holds : tie.Need-loop-holds Inv-loop μ-loop
 loop-holds c =
     let a = c .before .args in
     walk-starts (probabilityOf (a .single)) (a .allowed) (a .ceiling)
     ∙ ap (walkFrom (probabilityOf (a .single)) (a .allowed) (a .ceiling - 1) 1) (sym (c .probability .ensures))
-
-probability-requires-2 : tie.Need-probability-requires-2 Inv-loop μ-loop
-probability-requires-2 c κs = search needs
-
-at-least-two-requires : tie.Need-at-least-two-requires Inv-loop μ-loop
-at-least-two-requires c κs = search needs
 
 -- the sum through the count, as the code has it and as the walk has it
 tested : (c : tie.After-probability2 Inv-loop μ-loop) (b : Bool) → let l = c .before .before in
@@ -83,15 +74,5 @@ returns-2 c =
 pub walk-spec : {M : Type 1} → statement M
 walk-spec =
     tie.close
-    (tie.spec
-    Inv-loop
-    μ-loop
-    probability-requires
-    loop-holds
-    probability-requires-2
-    at-least-two-requires
-    returns
-    add-count
-    loop-less
-    loop-again
-    returns-2)
+    (tie.spec Inv-loop μ-loop (λ c κs. search needs) loop-holds (λ c κs. search needs) (λ c κs. search needs) returns
+    add-count loop-less loop-again returns-2)

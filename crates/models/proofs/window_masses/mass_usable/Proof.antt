@@ -5,9 +5,6 @@ use borrow.Author.Needs.{needs}
 use Rattle.models.proofs.window_masses.mass_usable.Statement.{statement}
 use Rattle.models.proofs.window_masses.mass_usable.Tie as tie
 
-is-finite-requires : tie.Need-is-finite-requires
-is-finite-requires c κs = search needs
-
 returns : tie.Need-returns
 unfolding massUsable round ofBits
 returns c = cc
@@ -17,4 +14,4 @@ unfolding massUsable round ofBits
 returns-2 c = cc
 
 pub mass-usable-spec : {M : Type 1} → statement M
-mass-usable-spec = tie.close (tie.spec is-finite-requires returns returns-2)
+mass-usable-spec = tie.close (tie.spec (λ c κs. search needs) returns returns-2)

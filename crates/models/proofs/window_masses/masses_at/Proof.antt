@@ -9,24 +9,6 @@ use borrow.Author.Needs.{needs}
 use Rattle.models.proofs.window_masses.masses_at.Statement.{statement}
 use Rattle.models.proofs.window_masses.masses_at.Tie as tie
 
-ln-at-requires : tie.Need-ln-at-requires
-ln-at-requires c κs = search needs
-
-window-mass-with-requires : tie.Need-window-mass-with-requires
-window-mass-with-requires c κs = search needs
-
-window-end-requires : tie.Need-window-end-requires
-window-end-requires c κs = search needs
-
-lobe-masses-requires : tie.Need-lobe-masses-requires
-lobe-masses-requires c κs = search needs
-
-mix-mass-requires : tie.Need-mix-mass-requires
-mix-mass-requires c κs = search needs
-
-same-length : tie.Need-same-length
-same-length c = search needs
-
 returns : tie.Need-returns
 unfolding massesAt
 returns c =
@@ -44,11 +26,5 @@ returns c =
 pub masses-at-spec : {M : Type 1} → statement M
 masses-at-spec =
     tie.close
-    (tie.spec
-    ln-at-requires
-    window-mass-with-requires
-    window-end-requires
-    lobe-masses-requires
-    mix-mass-requires
-    same-length
-    returns)
+    (tie.spec (λ c κs. search needs) (λ c κs. search needs) (λ c κs. search needs) (λ c κs. search needs)
+    (λ c κs. search needs) (λ c. search needs) returns)

@@ -6,24 +6,6 @@ use borrow.Author.Needs.{needs}
 use Rattle.models.proofs.window_masses.masses_of.Statement.{statement}
 use Rattle.models.proofs.window_masses.masses_of.Tie as tie
 
-steady-of-requires : tie.Need-steady-of-requires
-steady-of-requires c κs = search needs
-
-sub-masses-at : tie.Need-sub-masses-at
-sub-masses-at c = search needs
-
-part-masses-at-start : tie.Need-part-masses-at-start
-part-masses-at-start c = search needs
-
-part-masses-at-end : tie.Need-part-masses-at-end
-part-masses-at-end c = search needs
-
-slice-aggregate-masses-at : tie.Need-slice-aggregate-masses-at
-slice-aggregate-masses-at c = search needs
-
-masses-at-requires : tie.Need-masses-at-requires
-masses-at-requires c κs = search needs
-
 returns : tie.Need-returns
 returns c =
     let at = c .before in
@@ -36,11 +18,5 @@ returns c =
 pub masses-of-spec : {M : Type 1} → statement M
 masses-of-spec =
     tie.close
-    (tie.spec
-    steady-of-requires
-    sub-masses-at
-    part-masses-at-start
-    part-masses-at-end
-    slice-aggregate-masses-at
-    masses-at-requires
-    returns)
+    (tie.spec (λ c κs. search needs) (λ c. search needs) (λ c. search needs) (λ c. search needs) (λ c. search needs)
+    (λ c κs. search needs) returns)

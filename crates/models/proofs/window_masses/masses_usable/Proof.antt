@@ -8,15 +8,6 @@ use borrow.Author.Needs.{needs}
 use Rattle.models.proofs.window_masses.masses_usable.Statement.{statement}
 use Rattle.models.proofs.window_masses.masses_usable.Tie as tie
 
-mass-usable-requires : tie.Need-mass-usable-requires
-mass-usable-requires c κs = search needs
-
-mass-usable-requires-2 : tie.Need-mass-usable-requires-2
-mass-usable-requires-2 c κs = search needs
-
-mass-usable-requires-3 : tie.Need-mass-usable-requires-3
-mass-usable-requires-3 c κs = search needs
-
 two : (c : tie.Joined1)
     → let m = c .before .before .args .m in c .if1 .if2 ≡ (massUsable (m .error) && massUsable (m .single))
 two c =
@@ -34,5 +25,4 @@ returns-2 c = stopped _ (two (c .before)) (c .if2 .left) refl
 
 pub masses-usable-spec : {M : Type 1} → statement M
 masses-usable-spec =
-    tie.close
-    (tie.spec mass-usable-requires mass-usable-requires-2 mass-usable-requires-3 returns returns-2)
+    tie.close (tie.spec (λ c κs. search needs) (λ c κs. search needs) (λ c κs. search needs) returns returns-2)

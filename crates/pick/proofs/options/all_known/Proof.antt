@@ -15,21 +15,12 @@ abbrev μ-loop : tie.MeasureT-loop
 μ-loop all i₀ i = all - i
 
 -- src/options.rt:164:9
-arg-count-requires : tie.Need-arg-count-requires Inv-loop μ-loop
-arg-count-requires c κs = search needs
-
 -- src/options.rt:166:5
 loop-holds : tie.Need-loop-holds Inv-loop μ-loop
 loop-holds c = omega arith
 
 -- src/options.rt:167:13
-is-known-requires : tie.Need-is-known-requires Inv-loop μ-loop
-is-known-requires c κs = search needs
-
 -- src/options.rt:168:13
-returns : tie.Need-returns Inv-loop μ-loop
-returns c = search needs
-
 -- src/options.rt:170:9
 add-i : tie.Need-add-i Inv-loop μ-loop
 add-i c = omega arith
@@ -43,20 +34,8 @@ loop-again : tie.Need-loop-again Inv-loop μ-loop
 loop-again c = omega arith
 
 -- src/options.rt:163:1
-returns-2 : tie.Need-returns-2 Inv-loop μ-loop
-returns-2 c = search needs
-
 pub all-known-spec : {M : Type 1} → statement M
 all-known-spec =
     tie.close
-    (tie.spec
-    Inv-loop
-    μ-loop
-    arg-count-requires
-    loop-holds
-    is-known-requires
-    returns
-    add-i
-    loop-less
-    loop-again
-    returns-2)
+    (tie.spec Inv-loop μ-loop (λ c κs. search needs) loop-holds (λ c κs. search needs) (λ c. search needs) add-i
+    loop-less loop-again (λ c. search needs))

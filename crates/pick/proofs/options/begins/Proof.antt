@@ -10,20 +10,12 @@ use Rattle.check.proofs.same.Reads as same-reads
 use Rattle.pick.proofs.options.least.Reads as least-reads
 
 -- src/options.rt:35:9
-least-requires : tie.Need-least-requires
-least-requires c κs = search needs
-
 -- src/options.rt:36:17
 slice-aggregate-same : tie.Need-slice-aggregate-same
 slice-aggregate-same c = sym (length-take-le _ _ (omega arith))
 
 -- src/options.rt:36:5
-same-requires : tie.Need-same-requires
-same-requires c κs = search needs
-
 -- src/options.rt:34:1
-returns : tie.Need-returns
-returns c = search needs
-
 pub begins-spec : {M : Type 1} → statement M
-begins-spec = tie.close (tie.spec least-requires slice-aggregate-same same-requires returns)
+begins-spec =
+    tie.close (tie.spec (λ c κs. search needs) slice-aggregate-same (λ c κs. search needs) (λ c. search needs))

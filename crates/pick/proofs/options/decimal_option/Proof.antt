@@ -18,29 +18,14 @@ abbrev μ-loop : tie.MeasureT-loop
 μ-loop name value all found₀ i₀ found i = all - i
 
 -- src/options.rt:133:9
-arg-count-requires : tie.Need-arg-count-requires Inv-loop μ-loop
-arg-count-requires c κs = search needs
-
 -- src/options.rt:140:5
 loop-holds : tie.Need-loop-holds Inv-loop μ-loop
 loop-holds c = omega arith
 
 -- src/options.rt:141:12
-word-begins-requires : tie.Need-word-begins-requires Inv-loop μ-loop
-word-begins-requires c κs = search needs
-
 -- src/options.rt:142:34
-more-requires : tie.Need-more-requires Inv-loop μ-loop
-more-requires c κs = search needs
-
 -- src/options.rt:142:53
-decimal-at-requires : tie.Need-decimal-at-requires Inv-loop μ-loop
-decimal-at-requires c κs = search needs
-
 -- src/options.rt:142:13
-decimal-read-requires : tie.Need-decimal-read-requires Inv-loop μ-loop
-decimal-read-requires c κs = search needs
-
 -- src/options.rt:144:9
 add-i : tie.Need-add-i Inv-loop μ-loop
 add-i c = omega arith
@@ -54,22 +39,8 @@ loop-again : tie.Need-loop-again Inv-loop μ-loop
 loop-again c = omega arith
 
 -- src/options.rt:132:1
-returns : tie.Need-returns Inv-loop μ-loop
-returns c = search needs
-
 pub decimal-option-spec : {M : Type 1} → statement M
 decimal-option-spec =
     tie.close
-    (tie.spec
-    Inv-loop
-    μ-loop
-    arg-count-requires
-    loop-holds
-    word-begins-requires
-    more-requires
-    decimal-at-requires
-    decimal-read-requires
-    add-i
-    loop-less
-    loop-again
-    returns)
+    (tie.spec Inv-loop μ-loop (λ c κs. search needs) loop-holds (λ c κs. search needs) (λ c κs. search needs)
+    (λ c κs. search needs) (λ c κs. search needs) add-i loop-less loop-again (λ c. search needs))

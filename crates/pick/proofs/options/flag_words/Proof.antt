@@ -16,21 +16,12 @@ abbrev μ-loop : tie.MeasureT-loop
 μ-loop name all count₀ i₀ count i = all - i
 
 -- src/options.rt:101:9
-arg-count-requires : tie.Need-arg-count-requires Inv-loop μ-loop
-arg-count-requires c κs = search needs
-
 -- src/options.rt:104:5
 loop-holds : tie.Need-loop-holds Inv-loop μ-loop
 loop-holds c = omega arith
 
 -- src/options.rt:105:12
-is-word-requires : tie.Need-is-word-requires Inv-loop μ-loop
-is-word-requires c κs = search needs
-
 -- src/options.rt:106:13
-more-requires : tie.Need-more-requires Inv-loop μ-loop
-more-requires c κs = search needs
-
 -- src/options.rt:108:9
 add-i : tie.Need-add-i Inv-loop μ-loop
 add-i c = omega arith
@@ -44,20 +35,8 @@ loop-again : tie.Need-loop-again Inv-loop μ-loop
 loop-again c = omega arith
 
 -- src/options.rt:100:1
-returns : tie.Need-returns Inv-loop μ-loop
-returns c = search needs
-
 pub flag-words-spec : {M : Type 1} → statement M
 flag-words-spec =
     tie.close
-    (tie.spec
-    Inv-loop
-    μ-loop
-    arg-count-requires
-    loop-holds
-    is-word-requires
-    more-requires
-    add-i
-    loop-less
-    loop-again
-    returns)
+    (tie.spec Inv-loop μ-loop (λ c κs. search needs) loop-holds (λ c κs. search needs) (λ c κs. search needs) add-i
+    loop-less loop-again (λ c. search needs))

@@ -18,29 +18,14 @@ abbrev μ-loop : tie.MeasureT-loop
 μ-loop name all found₀ i₀ found i = all - i
 
 -- src/options.rt:115:9
-arg-count-requires : tie.Need-arg-count-requires Inv-loop μ-loop
-arg-count-requires c κs = search needs
-
 -- src/options.rt:122:5
 loop-holds : tie.Need-loop-holds Inv-loop μ-loop
 loop-holds c = omega arith
 
 -- src/options.rt:123:12
-word-begins-requires : tie.Need-word-begins-requires Inv-loop μ-loop
-word-begins-requires c κs = search needs
-
 -- src/options.rt:124:32
-more-requires : tie.Need-more-requires Inv-loop μ-loop
-more-requires c κs = search needs
-
 -- src/options.rt:124:51
-whole-at-requires : tie.Need-whole-at-requires Inv-loop μ-loop
-whole-at-requires c κs = search needs
-
 -- src/options.rt:124:13
-whole-read-requires : tie.Need-whole-read-requires Inv-loop μ-loop
-whole-read-requires c κs = search needs
-
 -- src/options.rt:126:9
 add-i : tie.Need-add-i Inv-loop μ-loop
 add-i c = omega arith
@@ -54,22 +39,8 @@ loop-again : tie.Need-loop-again Inv-loop μ-loop
 loop-again c = omega arith
 
 -- src/options.rt:114:1
-returns : tie.Need-returns Inv-loop μ-loop
-returns c = search needs
-
 pub whole-option-spec : {M : Type 1} → statement M
 whole-option-spec =
     tie.close
-    (tie.spec
-    Inv-loop
-    μ-loop
-    arg-count-requires
-    loop-holds
-    word-begins-requires
-    more-requires
-    whole-at-requires
-    whole-read-requires
-    add-i
-    loop-less
-    loop-again
-    returns)
+    (tie.spec Inv-loop μ-loop (λ c κs. search needs) loop-holds (λ c κs. search needs) (λ c κs. search needs)
+    (λ c κs. search needs) (λ c κs. search needs) add-i loop-less loop-again (λ c. search needs))

@@ -18,17 +18,11 @@ loop-holds : tie.Need-loop-holds Inv-loop μ-loop
 loop-holds c = omega arith
 
 -- src/searches.rt:97:12
-mul-if1 : tie.Need-mul-if1 Inv-loop μ-loop
-mul-if1 c = search needs
-
 -- src/searches.rt:97:12
 shared-slice-read-if1 : tie.Need-shared-slice-read-if1 Inv-loop μ-loop
 shared-slice-read-if1 c = omega arith
 
 -- src/searches.rt:98:21
-mul-least : tie.Need-mul-least Inv-loop μ-loop
-mul-least c = search needs
-
 -- src/searches.rt:98:21
 shared-slice-read-least : tie.Need-shared-slice-read-least Inv-loop μ-loop
 shared-slice-read-least c = omega arith
@@ -46,21 +40,8 @@ loop-again : tie.Need-loop-again Inv-loop μ-loop
 loop-again c = omega arith
 
 -- src/searches.rt:93:1
-returns : tie.Need-returns Inv-loop μ-loop
-returns c = search needs
-
 pub least-cost-spec : {M : Type 1} → statement M
 least-cost-spec =
     tie.close
-    (tie.spec
-    Inv-loop
-    μ-loop
-    loop-holds
-    mul-if1
-    shared-slice-read-if1
-    mul-least
-    shared-slice-read-least
-    add-i
-    loop-less
-    loop-again
-    returns)
+    (tie.spec Inv-loop μ-loop loop-holds (λ c. search needs) shared-slice-read-if1 (λ c. search needs)
+    shared-slice-read-least add-i loop-less loop-again (λ c. search needs))

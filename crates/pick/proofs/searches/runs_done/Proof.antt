@@ -24,17 +24,8 @@ shared-slice-read-is-set : tie.Need-shared-slice-read-is-set Inv-loop μ-loop
 shared-slice-read-is-set c = omega arith
 
 -- src/searches.rt:97:23
-is-set-requires : tie.Need-is-set-requires Inv-loop μ-loop
-is-set-requires c κs = search needs
-
 -- src/searches.rt:97:35
-flag-at-requires : tie.Need-flag-at-requires Inv-loop μ-loop
-flag-at-requires c κs = search needs
-
 -- src/searches.rt:97:17
-ended-requires : tie.Need-ended-requires Inv-loop μ-loop
-ended-requires c κs = search needs
-
 -- src/searches.rt:97:9
 add-done : tie.Need-add-done Inv-loop μ-loop
 add-done c = omega arith
@@ -52,22 +43,8 @@ loop-again : tie.Need-loop-again Inv-loop μ-loop
 loop-again c = omega arith
 
 -- src/searches.rt:93:1
-returns : tie.Need-returns Inv-loop μ-loop
-returns c = search needs
-
 pub runs-done-spec : {M : Type 1} → statement M
 runs-done-spec =
     tie.close
-    (tie.spec
-    Inv-loop
-    μ-loop
-    loop-holds
-    shared-slice-read-is-set
-    is-set-requires
-    flag-at-requires
-    ended-requires
-    add-done
-    add-i
-    loop-less
-    loop-again
-    returns)
+    (tie.spec Inv-loop μ-loop loop-holds shared-slice-read-is-set (λ c κs. search needs) (λ c κs. search needs)
+    (λ c κs. search needs) add-done add-i loop-less loop-again (λ c. search needs))

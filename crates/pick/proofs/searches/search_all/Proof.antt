@@ -31,49 +31,16 @@ loop-holds : tie.Need-loop-holds Inv-loop μ-loop
 loop-holds c = (omega arith, refl, refl, refl, refl, refl, refl, refl, refl, refl, refl)
 
 -- src/searches.rt:168:13
-go-on-requires : tie.Need-go-on-requires Inv-loop μ-loop
-go-on-requires c κs = search needs
-
 -- src/searches.rt:171:9
-both-requires : tie.Need-both-requires Inv-loop μ-loop
-both-requires c κs = search needs
-
 -- src/searches.rt:173:30
-first-bytes-requires : tie.Need-first-bytes-requires Inv-loop μ-loop
-first-bytes-requires c κs = search needs
-
 -- src/searches.rt:173:58
-first-bytes-requires-2 : tie.Need-first-bytes-requires-2 Inv-loop μ-loop
-first-bytes-requires-2 c κs = search needs
-
 -- src/searches.rt:173:13
-runs-done-requires : tie.Need-runs-done-requires Inv-loop μ-loop
-runs-done-requires c κs = search needs
-
 -- src/searches.rt:174:36
-first-floats-requires : tie.Need-first-floats-requires Inv-loop μ-loop
-first-floats-requires c κs = search needs
-
 -- src/searches.rt:174:17
-least-cost-requires : tie.Need-least-cost-requires Inv-loop μ-loop
-least-cost-requires c κs = search needs
-
 -- src/searches.rt:175:53
-pattern-requires : tie.Need-pattern-requires Inv-loop μ-loop
-pattern-requires c κs = search needs
-
 -- src/searches.rt:175:13
-say-requires : tie.Need-say-requires Inv-loop μ-loop
-say-requires c κs = search needs
-
 -- src/searches.rt:177:9
-is-heard-requires : tie.Need-is-heard-requires Inv-loop μ-loop
-is-heard-requires c κs = search needs
-
 -- src/searches.rt:177:9
-next-slice-requires : tie.Need-next-slice-requires Inv-loop μ-loop
-next-slice-requires c κs = search needs
-
 -- src/searches.rt:167:5
 loop-less : tie.Need-loop-less Inv-loop μ-loop
 loop-less c = omega arith
@@ -99,9 +66,6 @@ loop-again c =
     )
 
 -- src/searches.rt:179:5
-both-requires-2 : tie.Need-both-requires-2 Inv-loop μ-loop
-both-requires-2 c κs = search needs
-
 -- src/searches.rt:147:1
 same-length : tie.Need-same-length Inv-loop μ-loop
 same-length c = c .before .before .loop .inv .1
@@ -143,38 +107,11 @@ same-length-10 : tie.Need-same-length-10 Inv-loop μ-loop
 same-length-10 c = c .before .before .loop .inv .10
 
 -- src/searches.rt:147:1
-returns : tie.Need-returns Inv-loop μ-loop
-returns c = search needs
-
 pub search-all-spec : {M : Type 1} → statement M
 search-all-spec =
     tie.close
-    (tie.spec
-    Inv-loop
-    μ-loop
-    loop-holds
-    go-on-requires
-    both-requires
-    first-bytes-requires
-    first-bytes-requires-2
-    runs-done-requires
-    first-floats-requires
-    least-cost-requires
-    pattern-requires
-    say-requires
-    is-heard-requires
-    next-slice-requires
-    loop-less
-    loop-again
-    both-requires-2
-    same-length
-    same-length-2
-    same-length-3
-    same-length-4
-    same-length-5
-    same-length-6
-    same-length-7
-    same-length-8
-    same-length-9
-    same-length-10
-    returns)
+    (tie.spec Inv-loop μ-loop loop-holds (λ c κs. search needs) (λ c κs. search needs) (λ c κs. search needs)
+    (λ c κs. search needs) (λ c κs. search needs) (λ c κs. search needs) (λ c κs. search needs) (λ c κs. search needs)
+    (λ c κs. search needs) (λ c κs. search needs) (λ c κs. search needs) loop-less loop-again (λ c κs. search needs)
+    same-length same-length-2 same-length-3 same-length-4 same-length-5 same-length-6 same-length-7 same-length-8
+    same-length-9 same-length-10 (λ c. search needs))

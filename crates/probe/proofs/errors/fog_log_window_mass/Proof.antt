@@ -3,18 +3,9 @@ use borrow.Author.Needs.{needs}
 use Rattle.probe.proofs.errors.fog_log_window_mass.Statement.{statement}
 use Rattle.probe.proofs.errors.fog_log_window_mass.Tie as tie
 
-errors-of-requires : tie.Need-errors-of-requires
-errors-of-requires c κs = search needs
-
-log-window-mass-requires : tie.Need-log-window-mass-requires
-log-window-mass-requires c κs = search needs
-
-flat-number-requires : tie.Need-flat-number-requires
-flat-number-requires c κs = search needs
-
 returns : tie.Need-returns
 returns c = rw (c .flat-number .ensures, c .before .log-window-mass .ensures, c .before .before .errors-of .ensures)
 
 pub fog-log-window-mass-spec : {M : Type 1} → statement M
 fog-log-window-mass-spec =
-    tie.close (tie.spec errors-of-requires log-window-mass-requires flat-number-requires returns)
+    tie.close (tie.spec (λ c κs. search needs) (λ c κs. search needs) (λ c κs. search needs) returns)

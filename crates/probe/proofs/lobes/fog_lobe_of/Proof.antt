@@ -3,14 +3,8 @@ use borrow.Author.Needs.{needs}
 use Rattle.probe.proofs.lobes.fog_lobe_of.Statement.{statement}
 use Rattle.probe.proofs.lobes.fog_lobe_of.Tie as tie
 
-lobe-of-requires : tie.Need-lobe-of-requires
-lobe-of-requires c κs = search needs
-
-byte-of-requires : tie.Need-byte-of-requires
-byte-of-requires c κs = search needs
-
 returns : tie.Need-returns
 returns c = rw (c .byte-of .ensures, c .before .lobe-of .ensures)
 
 pub fog-lobe-of-spec : {M : Type 1} → statement M
-fog-lobe-of-spec = tie.close (tie.spec lobe-of-requires byte-of-requires returns)
+fog-lobe-of-spec = tie.close (tie.spec (λ c κs. search needs) (λ c κs. search needs) returns)

@@ -3,11 +3,8 @@ use borrow.Author.Needs.{needs}
 use Rattle.probe.proofs.log_sums.fog_ln_softmax3.Statement.{statement}
 use Rattle.probe.proofs.log_sums.fog_ln_softmax3.Tie as tie
 
-ln-softmax3-requires : tie.Need-ln-softmax3-requires
-ln-softmax3-requires c κs = search needs
-
 returns : tie.Need-returns
 returns c = rw (c .ln-softmax3 .ensures)
 
 pub fog-ln-softmax3-spec : {M : Type 1} → statement M
-fog-ln-softmax3-spec = tie.close (tie.spec ln-softmax3-requires returns)
+fog-ln-softmax3-spec = tie.close (tie.spec (λ c κs. search needs) returns)

@@ -3,14 +3,8 @@ use borrow.Author.Needs.{needs}
 use Rattle.probe.proofs.masses.fog_mix_shelf.Statement.{statement}
 use Rattle.probe.proofs.masses.fog_mix_shelf.Tie as tie
 
-shelf-of-requires : tie.Need-shelf-of-requires
-shelf-of-requires c κs = search needs
-
-mix-shelf-requires : tie.Need-mix-shelf-requires
-mix-shelf-requires c κs = search needs
-
 returns : tie.Need-returns
 returns c = rw (c .mix-shelf .ensures, c .before .shelf-of .ensures)
 
 pub fog-mix-shelf-spec : {M : Type 1} → statement M
-fog-mix-shelf-spec = tie.close (tie.spec shelf-of-requires mix-shelf-requires returns)
+fog-mix-shelf-spec = tie.close (tie.spec (λ c κs. search needs) (λ c κs. search needs) returns)

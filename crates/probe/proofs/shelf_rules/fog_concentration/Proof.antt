@@ -3,14 +3,8 @@ use borrow.Author.Needs.{needs}
 use Rattle.probe.proofs.shelf_rules.fog_concentration.Statement.{statement}
 use Rattle.probe.proofs.shelf_rules.fog_concentration.Tie as tie
 
-shelf-of-requires : tie.Need-shelf-of-requires
-shelf-of-requires c κs = search needs
-
-concentration-requires : tie.Need-concentration-requires
-concentration-requires c κs = search needs
-
 returns : tie.Need-returns
 returns c = rw (c .concentration .ensures, c .before .shelf-of .ensures)
 
 pub fog-concentration-spec : {M : Type 1} → statement M
-fog-concentration-spec = tie.close (tie.spec shelf-of-requires concentration-requires returns)
+fog-concentration-spec = tie.close (tie.spec (λ c κs. search needs) (λ c κs. search needs) returns)

@@ -3,14 +3,8 @@ use borrow.Author.Needs.{needs}
 use Rattle.probe.proofs.shelf_rules.fog_retained.Statement.{statement}
 use Rattle.probe.proofs.shelf_rules.fog_retained.Tie as tie
 
-shelf-of-requires : tie.Need-shelf-of-requires
-shelf-of-requires c κs = search needs
-
-retained-requires : tie.Need-retained-requires
-retained-requires c κs = search needs
-
 returns : tie.Need-returns
 returns c = rw (c .retained .ensures, c .before .shelf-of .ensures)
 
 pub fog-retained-spec : {M : Type 1} → statement M
-fog-retained-spec = tie.close (tie.spec shelf-of-requires retained-requires returns)
+fog-retained-spec = tie.close (tie.spec (λ c κs. search needs) (λ c κs. search needs) returns)

@@ -5,11 +5,8 @@ use borrow.Author.Needs.{needs}
 use Rattle.probe.proofs.tables.fog_log_at.Statement.{statement}
 use Rattle.probe.proofs.tables.fog_log_at.Tie as tie
 
-log-at-requires : tie.Need-log-at-requires
-log-at-requires c κs = search needs
-
 returns : tie.Need-returns
 returns c = ap pairOf (c .log-at .ensures)
 
 pub fog-log-at-spec : {M : Type 1} → statement M
-fog-log-at-spec = tie.close (tie.spec log-at-requires returns)
+fog-log-at-spec = tie.close (tie.spec (λ c κs. search needs) returns)

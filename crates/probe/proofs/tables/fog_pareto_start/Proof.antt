@@ -5,15 +5,6 @@ use borrow.Author.Needs.{needs}
 use Rattle.probe.proofs.tables.fog_pareto_start.Statement.{statement}
 use Rattle.probe.proofs.tables.fog_pareto_start.Tie as tie
 
-pareto-starts-requires : tie.Need-pareto-starts-requires
-pareto-starts-requires c κs = search needs
-
-mul-result : tie.Need-mul-result
-mul-result c = search needs
-
-array-read-result : tie.Need-array-read-result
-array-read-result c = search needs
-
 returns : tie.Need-returns
 unfolding paretoStarts
 returns c = entry-within paretoStarts _ _ (c .before .pareto-starts .ensures) (c .if1 .taken)
@@ -24,4 +15,4 @@ returns-2 c = entry-behind paretoStarts _ (c .if1 .left)
 
 pub fog-pareto-start-spec : {M : Type 1} → statement M
 fog-pareto-start-spec =
-    tie.close (tie.spec pareto-starts-requires mul-result array-read-result returns returns-2)
+    tie.close (tie.spec (λ c κs. search needs) (λ c. search needs) (λ c. search needs) returns returns-2)

@@ -5,11 +5,8 @@ use borrow.Author.Needs.{needs}
 use Rattle.probe.proofs.tables.fog_piece_at.Statement.{statement}
 use Rattle.probe.proofs.tables.fog_piece_at.Tie as tie
 
-piece-at-requires : tie.Need-piece-at-requires
-piece-at-requires c κs = search needs
-
 returns : tie.Need-returns
 returns c = ap pairOf (c .piece-at .ensures)
 
 pub fog-piece-at-spec : {M : Type 1} → statement M
-fog-piece-at-spec = tie.close (tie.spec piece-at-requires returns)
+fog-piece-at-spec = tie.close (tie.spec (λ c κs. search needs) returns)

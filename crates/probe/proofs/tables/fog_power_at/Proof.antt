@@ -5,11 +5,8 @@ use borrow.Author.Needs.{needs}
 use Rattle.probe.proofs.tables.fog_power_at.Statement.{statement}
 use Rattle.probe.proofs.tables.fog_power_at.Tie as tie
 
-power-at-requires : tie.Need-power-at-requires
-power-at-requires c κs = search needs
-
 returns : tie.Need-returns
 returns c = ap ofPower (c .power-at .ensures)
 
 pub fog-power-at-spec : {M : Type 1} → statement M
-fog-power-at-spec = tie.close (tie.spec power-at-requires returns)
+fog-power-at-spec = tie.close (tie.spec (λ c κs. search needs) returns)

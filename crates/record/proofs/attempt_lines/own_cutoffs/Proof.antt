@@ -4,9 +4,6 @@ use borrow.Author.Needs.{needs}
 use Rattle.record.proofs.attempt_lines.own_cutoffs.Statement.{statement}
 use Rattle.record.proofs.attempt_lines.own_cutoffs.Tie as tie
 
-cutoffs-of-requires : tie.Need-cutoffs-of-requires
-cutoffs-of-requires c κs = search needs
-
 returns : tie.Need-returns
 unfolding ownCutoffs
 returns c = rw (c .before .if1 .taken) (c .cutoffs-of .ensures)
@@ -16,4 +13,4 @@ unfolding ownCutoffs
 returns-2 c = rw (c .if1 .left)
 
 pub own-cutoffs-spec : {M : Type 1} → statement M
-own-cutoffs-spec = tie.close (tie.spec cutoffs-of-requires returns returns-2)
+own-cutoffs-spec = tie.close (tie.spec (λ c κs. search needs) returns returns-2)

@@ -6,18 +6,6 @@ use Rattle.record.proofs.fit_lines.shelf_values.Tie as tie
 enum-told : tie.Need-enum-told
 enum-told c = search needs
 
-enum-known-part : tie.Need-enum-known-part
-enum-known-part c = search needs
-
-pattern-requires : tie.Need-pattern-requires
-pattern-requires c κs = search needs
-
-pattern-requires-2 : tie.Need-pattern-requires-2
-pattern-requires-2 c κs = search needs
-
-pattern-requires-3 : tie.Need-pattern-requires-3
-pattern-requires-3 c κs = search needs
-
 returns : tie.Need-returns
 returns c = rw (c .enum-told .given .1)
 
@@ -27,11 +15,5 @@ returns-2 c = rw (c .before .before .before .before .part .given .1, c .pattern3
 pub shelf-values-spec : {M : Type 1} → statement M
 shelf-values-spec =
     tie.close
-    (tie.spec
-    enum-told
-    enum-known-part
-    pattern-requires
-    pattern-requires-2
-    pattern-requires-3
-    returns
-    returns-2)
+    (tie.spec enum-told (λ c. search needs) (λ c κs. search needs) (λ c κs. search needs) (λ c κs. search needs)
+    returns returns-2)

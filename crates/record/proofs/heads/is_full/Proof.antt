@@ -11,11 +11,8 @@ use Rattle.record.proofs.heads.is_full.Tie as tie
 returns : tie.Need-returns
 returns c = let a = c .before .args in sym (le-ltb (6 * a .peak) (a .bins) (omega arith))
 
-sub-result : tie.Need-sub-result
-sub-result c = search needs
-
 returns-2 : tie.Need-returns-2
 returns-2 c = full-is _ _ (c .if1 .left)
 
 pub is-full-spec : {M : Type 1} → statement M
-is-full-spec = tie.close (tie.spec returns sub-result returns-2)
+is-full-spec = tie.close (tie.spec returns (λ c. search needs) returns-2)

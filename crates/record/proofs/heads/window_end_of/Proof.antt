@@ -8,12 +8,9 @@ returns : tie.Need-returns
 unfolding windowEndOf
 returns c = rw (c .if1 .taken)
 
-window-rule-requires : tie.Need-window-rule-requires
-window-rule-requires c κs = search needs
-
 returns-2 : tie.Need-returns-2
 unfolding windowEndOf
 returns-2 c = rw (c .before .if1 .left) (c .window-rule .ensures)
 
 pub window-end-of-spec : {M : Type 1} → statement M
-window-end-of-spec = tie.close (tie.spec returns window-rule-requires returns-2)
+window-end-of-spec = tie.close (tie.spec returns (λ c κs. search needs) returns-2)

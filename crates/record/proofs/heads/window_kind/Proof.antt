@@ -10,15 +10,9 @@ returns : tie.Need-returns
 unfolding windowKind
 returns c = rw (c .if1 .taken)
 
-is-full-requires : tie.Need-is-full-requires
-is-full-requires c κs = search needs
-
-flag-requires : tie.Need-flag-requires
-flag-requires c κs = search needs
-
 returns-2 : tie.Need-returns-2
 unfolding windowKind
 returns-2 c = rw (c .before .before .if1 .left) (c .flag .ensures ∙ ap flagOf (c .before .is-full .ensures))
 
 pub window-kind-spec : {M : Type 1} → statement M
-window-kind-spec = tie.close (tie.spec returns is-full-requires flag-requires returns-2)
+window-kind-spec = tie.close (tie.spec returns (λ c κs. search needs) (λ c κs. search needs) returns-2)

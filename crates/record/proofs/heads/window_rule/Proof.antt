@@ -8,9 +8,6 @@ use borrow.Author.Needs.{needs}
 use Rattle.record.proofs.heads.window_rule.Statement.{statement}
 use Rattle.record.proofs.heads.window_rule.Tie as tie
 
-is-full-requires : tie.Need-is-full-requires
-is-full-requires c κs = search needs
-
 mul-result : tie.Need-mul-result
 mul-result c = let a = c .before .before .args in let h = ltb-true (6 * a .peak) (a .bins) (sym (c .before .is-full .ensures) ∙ c .if1 .taken) in omega arith
 
@@ -22,13 +19,10 @@ returns-2 : tie.Need-returns-2
 unfolding windowRule
 returns-2 c = rw (sym (c .before .before .is-full .ensures) ∙ c .before .if1 .left, c .if2 .taken)
 
-sub-result : tie.Need-sub-result
-sub-result c = search needs
-
 returns-3 : tie.Need-returns-3
 unfolding windowRule
 returns-3 c = rw (sym (c .before .before .is-full .ensures) ∙ c .before .if1 .left)
 
 pub window-rule-spec : {M : Type 1} → statement M
 window-rule-spec =
-    tie.close (tie.spec is-full-requires mul-result returns returns-2 sub-result returns-3)
+    tie.close (tie.spec (λ c κs. search needs) mul-result returns returns-2 (λ c. search needs) returns-3)

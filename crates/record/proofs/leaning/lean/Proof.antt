@@ -5,18 +5,6 @@ use borrow.Author.Needs.{needs}
 use Rattle.record.proofs.leaning.lean.Statement.{statement}
 use Rattle.record.proofs.leaning.lean.Tie as tie
 
-is-valid-requires : tie.Need-is-valid-requires
-is-valid-requires c κs = search needs
-
-hole-of-requires : tie.Need-hole-of-requires
-hole-of-requires c κs = search needs
-
-vote-requires : tie.Need-vote-requires
-vote-requires c κs = search needs
-
-lean-on-requires : tie.Need-lean-on-requires
-lean-on-requires c κs = search needs
-
 returns : tie.Need-returns
 unfolding leanStep
 returns c = rw (sym (c .before .before .before .before .is-valid .ensures) ∙ c .before .before .before .if1 .taken) (rw (c .before .vote .ensures, c .before .before .hole-of .ensures) at (c .lean-on .ensures))
@@ -28,4 +16,5 @@ returns-2 c = rw (sym (c .before .is-valid .ensures) ∙ c .if1 .left)
 pub lean-spec : {M : Type 1} → statement M
 lean-spec =
     tie.close
-    (tie.spec is-valid-requires hole-of-requires vote-requires lean-on-requires returns returns-2)
+    (tie.spec (λ c κs. search needs) (λ c κs. search needs) (λ c κs. search needs) (λ c κs. search needs) returns
+    returns-2)

@@ -5,24 +5,9 @@ use borrow.Author.Needs.{needs}
 use Rattle.record.proofs.leaning.lean_on.Statement.{statement}
 use Rattle.record.proofs.leaning.lean_on.Tie as tie
 
-least-requires : tie.Need-least-requires
-least-requires c κs = search needs
-
-largest-requires : tie.Need-largest-requires
-largest-requires c κs = search needs
-
-add-t7 : tie.Need-add-t7
-add-t7 c = search needs
-
-add-t8 : tie.Need-add-t8
-add-t8 c = search needs
-
 returns : tie.Need-returns
 unfolding leantOn
 returns c = rw (eq-eqb _ _ (c .before .before .if1 .taken), c .before .before .before .before .least .ensures, c .before .before .before .largest .ensures)
-
-add-t9 : tie.Need-add-t9
-add-t9 c = search needs
 
 returns-2 : tie.Need-returns-2
 unfolding leantOn
@@ -30,4 +15,6 @@ returns-2 c = rw (ne-eqb _ _ (c .before .if1 .left), c .before .before .before .
 
 pub lean-on-spec : {M : Type 1} → statement M
 lean-on-spec =
-    tie.close (tie.spec least-requires largest-requires add-t7 add-t8 returns add-t9 returns-2)
+    tie.close
+    (tie.spec (λ c κs. search needs) (λ c κs. search needs) (λ c. search needs) (λ c. search needs) returns
+    (λ c. search needs) returns-2)

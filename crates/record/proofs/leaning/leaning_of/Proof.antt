@@ -6,9 +6,6 @@ use borrow.Author.Needs.{needs}
 use Rattle.record.proofs.leaning.leaning_of.Statement.{statement}
 use Rattle.record.proofs.leaning.leaning_of.Tie as tie
 
-lean-requires : tie.Need-lean-requires
-lean-requires c κs = search needs
-
 lean-requires-2 : tie.Need-lean-requires-2
 lean-requires-2 c κs = let f = still-few _ _ _ _ _ 0 (c .lean .ensures) (omega arith, omega arith) in (omega (arith, f .0), omega (arith, f .1))
 
@@ -30,5 +27,4 @@ unfolding leaningOf
 returns c = rw (c .lean4 .ensures, c .before .lean3 .ensures, c .before .before .lean2 .ensures, c .before .before .before .lean .ensures)
 
 pub leaning-of-spec : {M : Type 1} → statement M
-leaning-of-spec =
-    tie.close (tie.spec lean-requires lean-requires-2 lean-requires-3 lean-requires-4 returns)
+leaning-of-spec = tie.close (tie.spec (λ c κs. search needs) lean-requires-2 lean-requires-3 lean-requires-4 returns)

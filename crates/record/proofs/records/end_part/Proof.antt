@@ -9,12 +9,9 @@ returns : tie.Need-returns
 unfolding endPart
 returns c = rw (eq-eqb _ _ (c .if1 .taken))
 
-flag-requires : tie.Need-flag-requires
-flag-requires c κs = search needs
-
 returns-2 : tie.Need-returns-2
 unfolding endPart
 returns-2 c = rw (ne-eqb _ _ (c .before .if1 .left)) (c .flag .ensures)
 
 pub end-part-spec : {M : Type 1} → statement M
-end-part-spec = tie.close (tie.spec returns flag-requires returns-2)
+end-part-spec = tie.close (tie.spec returns (λ c κs. search needs) returns-2)

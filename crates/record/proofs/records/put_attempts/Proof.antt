@@ -5,21 +5,6 @@ use borrow.Author.Needs.{needs}
 use Rattle.record.proofs.records.put_attempts.Statement.{statement}
 use Rattle.record.proofs.records.put_attempts.Tie as tie
 
-put-attempt-requires : tie.Need-put-attempt-requires
-put-attempt-requires c κs = search needs
-
-put-attempt-requires-2 : tie.Need-put-attempt-requires-2
-put-attempt-requires-2 c κs = search needs
-
-put-attempt-requires-3 : tie.Need-put-attempt-requires-3
-put-attempt-requires-3 c κs = search needs
-
-put-attempt-requires-4 : tie.Need-put-attempt-requires-4
-put-attempt-requires-4 c κs = search needs
-
-same-length : tie.Need-same-length
-same-length c = search needs
-
 returns : tie.Need-returns
 unfolding attemptsText
 returns c =
@@ -30,10 +15,5 @@ returns c =
 pub put-attempts-spec : {M : Type 1} → statement M
 put-attempts-spec =
     tie.close
-    (tie.spec
-    put-attempt-requires
-    put-attempt-requires-2
-    put-attempt-requires-3
-    put-attempt-requires-4
-    same-length
-    returns)
+    (tie.spec (λ c κs. search needs) (λ c κs. search needs) (λ c κs. search needs) (λ c κs. search needs)
+    (λ c. search needs) returns)

@@ -5,21 +5,6 @@ use borrow.Author.Needs.{needs}
 use Rattle.record.proofs.records.write_broken.Statement.{statement}
 use Rattle.record.proofs.records.write_broken.Tie as tie
 
-put-asked-requires : tie.Need-put-asked-requires
-put-asked-requires c κs = search needs
-
-put-refusal-requires : tie.Need-put-refusal-requires
-put-refusal-requires c κs = search needs
-
-put-place-requires : tie.Need-put-place-requires
-put-place-requires c κs = search needs
-
-put-last-requires : tie.Need-put-last-requires
-put-last-requires c κs = search needs
-
-same-length : tie.Need-same-length
-same-length c = search needs
-
 returns : tie.Need-returns
 unfolding brokenOf
 returns c =
@@ -30,10 +15,5 @@ returns c =
 pub write-broken-spec : {M : Type 1} → statement M
 write-broken-spec =
     tie.close
-    (tie.spec
-    put-asked-requires
-    put-refusal-requires
-    put-place-requires
-    put-last-requires
-    same-length
-    returns)
+    (tie.spec (λ c κs. search needs) (λ c κs. search needs) (λ c κs. search needs) (λ c κs. search needs)
+    (λ c. search needs) returns)

@@ -5,24 +5,6 @@ use borrow.Author.Needs.{needs}
 use Rattle.record.proofs.records.write_record.Statement.{statement}
 use Rattle.record.proofs.records.write_record.Tie as tie
 
-select-fit-requires : tie.Need-select-fit-requires
-select-fit-requires c κs = search needs
-
-put-asked-requires : tie.Need-put-asked-requires
-put-asked-requires c κs = search needs
-
-put-spectrum-requires : tie.Need-put-spectrum-requires
-put-spectrum-requires c κs = search needs
-
-put-attempts-requires : tie.Need-put-attempts-requires
-put-attempts-requires c κs = search needs
-
-put-selected-requires : tie.Need-put-selected-requires
-put-selected-requires c κs = search needs
-
-same-length : tie.Need-same-length
-same-length c = search needs
-
 returns : tie.Need-returns
 unfolding recordOf
 returns c =
@@ -34,11 +16,5 @@ returns c =
 pub write-record-spec : {M : Type 1} → statement M
 write-record-spec =
     tie.close
-    (tie.spec
-    select-fit-requires
-    put-asked-requires
-    put-spectrum-requires
-    put-attempts-requires
-    put-selected-requires
-    same-length
-    returns)
+    (tie.spec (λ c κs. search needs) (λ c κs. search needs) (λ c κs. search needs) (λ c κs. search needs)
+    (λ c κs. search needs) (λ c. search needs) returns)

@@ -5,21 +5,6 @@ use borrow.Author.Needs.{needs}
 use Rattle.record.proofs.records.write_refused.Statement.{statement}
 use Rattle.record.proofs.records.write_refused.Tie as tie
 
-put-asked-requires : tie.Need-put-asked-requires
-put-asked-requires c κs = search needs
-
-put-spectrum-requires : tie.Need-put-spectrum-requires
-put-spectrum-requires c κs = search needs
-
-put-refusal-requires : tie.Need-put-refusal-requires
-put-refusal-requires c κs = search needs
-
-put-last-requires : tie.Need-put-last-requires
-put-last-requires c κs = search needs
-
-same-length : tie.Need-same-length
-same-length c = search needs
-
 returns : tie.Need-returns
 unfolding refusedOf
 returns c =
@@ -30,10 +15,5 @@ returns c =
 pub write-refused-spec : {M : Type 1} → statement M
 write-refused-spec =
     tie.close
-    (tie.spec
-    put-asked-requires
-    put-spectrum-requires
-    put-refusal-requires
-    put-last-requires
-    same-length
-    returns)
+    (tie.spec (λ c κs. search needs) (λ c κs. search needs) (λ c κs. search needs) (λ c κs. search needs)
+    (λ c. search needs) returns)

@@ -3,20 +3,8 @@ use borrow.Author.Needs.{needs}
 use Rattle.record.proofs.values.crossover_in.Statement.{statement}
 use Rattle.record.proofs.values.crossover_in.Tie as tie
 
-enum-known-answer : tie.Need-enum-known-answer
-enum-known-answer c = search needs
-
-cast-t4 : tie.Need-cast-t4
-cast-t4 c = search needs
-
 enum-told : tie.Need-enum-told
 enum-told c = search needs
-
-enum-told-2 : tie.Need-enum-told-2
-enum-told-2 c = search needs
-
-no-place-requires : tie.Need-no-place-requires
-no-place-requires c κs = search needs
 
 returns : tie.Need-returns
 returns c = rw (c .before .answer .given .1)
@@ -24,18 +12,8 @@ returns c = rw (c .before .answer .given .1)
 returns-2 : tie.Need-returns-2
 returns-2 c = rw (c .enum-told .given .1)
 
-returns-3 : tie.Need-returns-3
-returns-3 c = search needs
-
 pub crossover-in-spec : {M : Type 1} → statement M
 crossover-in-spec =
     tie.close
-    (tie.spec
-    enum-known-answer
-    cast-t4
-    enum-told
-    enum-told-2
-    no-place-requires
-    returns
-    returns-2
-    returns-3)
+    (tie.spec (λ c. search needs) (λ c. search needs) enum-told (λ c. search needs) (λ c κs. search needs) returns
+    returns-2 (λ c. search needs))

@@ -5,14 +5,8 @@ use borrow.Author.Needs.{needs}
 use Rattle.record.proofs.values.crossover_of.Statement.{statement}
 use Rattle.record.proofs.values.crossover_of.Tie as tie
 
-crossover-requires : tie.Need-crossover-requires
-crossover-requires c κs = search needs
-
-crossover-in-requires : tie.Need-crossover-in-requires
-crossover-in-requires c κs = search needs
-
 returns : tie.Need-returns
 returns c = c .crossover-in .ensures ∙ ap crossoverPlace (c .before .crossover .ensures)
 
 pub crossover-of-spec : {M : Type 1} → statement M
-crossover-of-spec = tie.close (tie.spec crossover-requires crossover-in-requires returns)
+crossover-of-spec = tie.close (tie.spec (λ c κs. search needs) (λ c κs. search needs) returns)

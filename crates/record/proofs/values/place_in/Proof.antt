@@ -6,12 +6,6 @@ use Rattle.record.proofs.values.place_in.Tie as tie
 enum-told : tie.Need-enum-told
 enum-told c = search needs
 
-enum-known-found : tie.Need-enum-known-found
-enum-known-found c = search needs
-
-cast-t4 : tie.Need-cast-t4
-cast-t4 c = search needs
-
 returns : tie.Need-returns
 returns c = rw (c .enum-told .given .1)
 
@@ -19,4 +13,4 @@ returns-2 : tie.Need-returns-2
 returns-2 c = rw (c .before .found .given .1)
 
 pub place-in-spec : {M : Type 1} → statement M
-place-in-spec = tie.close (tie.spec enum-told enum-known-found cast-t4 returns returns-2)
+place-in-spec = tie.close (tie.spec enum-told (λ c. search needs) (λ c. search needs) returns returns-2)

@@ -5,9 +5,6 @@ use borrow.Author.Needs.{needs}
 use Rattle.record.proofs.values.why_not.Statement.{statement}
 use Rattle.record.proofs.values.why_not.Tie as tie
 
-is-finite-requires : tie.Need-is-finite-requires
-is-finite-requires c κs = search needs
-
 returns : tie.Need-returns
 unfolding whyNot
 returns c = rw (sym (c .before .is-finite .ensures) ∙ c .if1 .taken)
@@ -17,4 +14,4 @@ unfolding whyNot
 returns-2 c = rw (sym (c .before .is-finite .ensures) ∙ c .if1 .left)
 
 pub why-not-spec : {M : Type 1} → statement M
-why-not-spec = tie.close (tie.spec is-finite-requires returns returns-2)
+why-not-spec = tie.close (tie.spec (λ c κs. search needs) returns returns-2)

@@ -23,20 +23,11 @@ returns c = λ h. absurd (false≢true h)
 loop-holds : tie.Need-loop-holds Inv-loop μ-loop
 loop-holds c = (omega arith, omega arith, below-none _)
 
-mul-same : tie.Need-mul-same Inv-loop μ-loop
-mul-same c = search needs
-
 shared-slice-read-same : tie.Need-shared-slice-read-same Inv-loop μ-loop
 shared-slice-read-same c = omega arith
 
-mul-same-2 : tie.Need-mul-same-2 Inv-loop μ-loop
-mul-same-2 c = search needs
-
 shared-slice-read-same-2 : tie.Need-shared-slice-read-same-2 Inv-loop μ-loop
 shared-slice-read-same-2 c = omega arith
-
-same-requires : tie.Need-same-requires Inv-loop μ-loop
-same-requires c κs = search needs
 
 returns-2 : tie.Need-returns-2 Inv-loop μ-loop
 returns-2 c = λ h. absurd (false≢true h)
@@ -61,18 +52,5 @@ returns-3 c =
 pub floats-agree-spec : {M : Type 1} → statement M
 floats-agree-spec =
     tie.close
-    (tie.spec
-    Inv-loop
-    μ-loop
-    returns
-    loop-holds
-    mul-same
-    shared-slice-read-same
-    mul-same-2
-    shared-slice-read-same-2
-    same-requires
-    returns-2
-    add-i
-    loop-less
-    loop-again
-    returns-3)
+    (tie.spec Inv-loop μ-loop returns loop-holds (λ c. search needs) shared-slice-read-same (λ c. search needs)
+    shared-slice-read-same-2 (λ c κs. search needs) returns-2 add-i loop-less loop-again returns-3)

@@ -14,21 +14,6 @@ Inv-loop words n flags₀ end i₀ flags i = (i ≤ end) × (end ≤ length flag
 abbrev μ-loop : tie.MeasureT-loop
 μ-loop words n flags₀ end i₀ flags i = end - i
 
-least-requires : tie.Need-least-requires Inv-loop μ-loop
-least-requires c κs = search needs
-
-loop-holds : tie.Need-loop-holds Inv-loop μ-loop
-loop-holds c = search needs
-
-word-requires : tie.Need-word-requires Inv-loop μ-loop
-word-requires c κs = search needs
-
-byte-requires : tie.Need-byte-requires Inv-loop μ-loop
-byte-requires c κs = search needs
-
-slice-write-flags : tie.Need-slice-write-flags Inv-loop μ-loop
-slice-write-flags c = search needs
-
 add-i : tie.Need-add-i Inv-loop μ-loop
 add-i c = omega arith
 
@@ -41,25 +26,11 @@ loop-again c =
     let kept = length-set (l .flags) (l .i) (c .byte .result) in
     (omega arith, omega (arith, kept), omega (arith, kept))
 
-same-length : tie.Need-same-length Inv-loop μ-loop
-same-length c = search needs
-
 returns : tie.Need-returns Inv-loop μ-loop
 returns c = counts _ _ (omega arith)
 
 pub fill-flags-spec : {M : Type 1} → statement M
 fill-flags-spec =
     tie.close
-    (tie.spec
-    Inv-loop
-    μ-loop
-    least-requires
-    loop-holds
-    word-requires
-    byte-requires
-    slice-write-flags
-    add-i
-    loop-less
-    loop-again
-    same-length
-    returns)
+    (tie.spec Inv-loop μ-loop (λ c κs. search needs) (λ c. search needs) (λ c κs. search needs) (λ c κs. search needs)
+    (λ c. search needs) add-i loop-less loop-again (λ c. search needs) returns)

@@ -14,21 +14,6 @@ Inv-loop words n places₀ end i₀ places i = (i ≤ end) × (end ≤ length pl
 abbrev μ-loop : tie.MeasureT-loop
 μ-loop words n places₀ end i₀ places i = end - i
 
-least-requires : tie.Need-least-requires Inv-loop μ-loop
-least-requires c κs = search needs
-
-loop-holds : tie.Need-loop-holds Inv-loop μ-loop
-loop-holds c = search needs
-
-word-requires : tie.Need-word-requires Inv-loop μ-loop
-word-requires c κs = search needs
-
-mul-places : tie.Need-mul-places Inv-loop μ-loop
-mul-places c = search needs
-
-slice-write-places : tie.Need-slice-write-places Inv-loop μ-loop
-slice-write-places c = search needs
-
 add-i : tie.Need-add-i Inv-loop μ-loop
 add-i c = omega arith
 
@@ -40,25 +25,11 @@ loop-again c =
     let kept = length-set (c .before .before .loop .places) (c .before .before .loop .i) (c .word .result) in
     (omega arith, omega (arith, kept), omega (arith, kept))
 
-same-length : tie.Need-same-length Inv-loop μ-loop
-same-length c = search needs
-
 returns : tie.Need-returns Inv-loop μ-loop
 returns c = counts _ _ (omega arith)
 
 pub fill-places-spec : {M : Type 1} → statement M
 fill-places-spec =
     tie.close
-    (tie.spec
-    Inv-loop
-    μ-loop
-    least-requires
-    loop-holds
-    word-requires
-    mul-places
-    slice-write-places
-    add-i
-    loop-less
-    loop-again
-    same-length
-    returns)
+    (tie.spec Inv-loop μ-loop (λ c κs. search needs) (λ c. search needs) (λ c κs. search needs) (λ c. search needs)
+    (λ c. search needs) add-i loop-less loop-again (λ c. search needs) returns)

@@ -11,9 +11,6 @@ use borrow.Author.Needs.{needs}
 use Rattle.replay.proofs.words.same.Statement.{statement}
 use Rattle.replay.proofs.words.same.Tie as tie
 
-float-requires : tie.Need-float-requires
-float-requires c κs = search needs
-
 returns : tie.Need-returns
 returns c = λ h. both-nan _ _ (c .if1 .taken) h ∙ c .before .float .ensures
 
@@ -37,11 +34,4 @@ returns-3 c =
 
 pub same-spec : {M : Type 1} → statement M
 same-spec =
-    tie.close
-    (tie.spec
-    float-requires
-    returns
-    returns-2
-    float-to-bits-result
-    float-to-bits-result-2
-    returns-3)
+    tie.close (tie.spec (λ c κs. search needs) returns returns-2 float-to-bits-result float-to-bits-result-2 returns-3)

@@ -5,12 +5,6 @@ use Rattle.routines.proofs.Saturates.{narrow}
 use Rattle.routines.proofs.casts.to_u32.Statement.{statement}
 use Rattle.routines.proofs.casts.to_u32.Tie as tie
 
-to-u64-requires : tie.Need-to-u64-requires
-to-u64-requires c κs = search needs
-
-cast-result : tie.Need-cast-result
-cast-result c = search needs
-
 returns : tie.Need-returns
 returns c = omega (arith, narrow (c .before .before .args .x))
 
@@ -18,4 +12,4 @@ returns-2 : tie.Need-returns-2
 returns-2 c = omega (arith, narrow (c .before .before .args .x))
 
 pub to-u32-spec : {M : Type 1} → statement M
-to-u32-spec = tie.close (tie.spec to-u64-requires cast-result returns returns-2)
+to-u32-spec = tie.close (tie.spec (λ c κs. search needs) (λ c. search needs) returns returns-2)

@@ -12,9 +12,6 @@ truncating-f64-to-u64-requires : tie.Need-truncating-f64-to-u64-requires
 unfolding ofBits neg
 truncating-f64-to-u64-requires c κs = (yes (c .before .if1 .taken), yes (c .if2 .taken))
 
-returns : tie.Need-returns
-returns c = search needs
-
 returns-2 : tie.Need-returns-2
 returns-2 c = over (c .before .before .args .x) (c .before .if1 .taken) (c .if2 .left)
 
@@ -22,4 +19,4 @@ returns-3 : tie.Need-returns-3
 returns-3 c = under (c .before .args .x) (c .if1 .left)
 
 pub to-u64-spec : {M : Type 1} → statement M
-to-u64-spec = tie.close (tie.spec truncating-f64-to-u64-requires returns returns-2 returns-3)
+to-u64-spec = tie.close (tie.spec truncating-f64-to-u64-requires (λ c. search needs) returns-2 returns-3)

@@ -10,17 +10,11 @@ use Rattle.routines.proofs.exp.exp.Tie as tie
 scaled-up-requires : tie.Need-scaled-up-requires
 scaled-up-requires c κs = least-no-nan _ _ (c .before .if1 .taken)
 
-beside-one-requires : tie.Need-beside-one-requires
-beside-one-requires c κs = search needs
-
 returns : tie.Need-returns
 unfolding expOf tee
 returns c =
     rw (c .before .before .before .if1 .taken, c .before .before .if2 .taken)
     (c .beside-one .ensures ∙ ap (besideOne _) (c .before .scaled-up .ensures))
-
-out-of-range-requires : tie.Need-out-of-range-requires
-out-of-range-requires c κs = search needs
 
 returns-2 : tie.Need-returns-2
 unfolding expOf tee
@@ -29,6 +23,4 @@ returns-2 c =
     ∙ ⊎-elim (λ w. rw (w .0 .taken, w .1 .left)) (λ w. rw (w .left)) (c .before .if1 .came)
 
 pub exp-spec : {M : Type 1} → statement M
-exp-spec =
-    tie.close
-    (tie.spec scaled-up-requires beside-one-requires returns out-of-range-requires returns-2)
+exp-spec = tie.close (tie.spec scaled-up-requires (λ c κs. search needs) returns (λ c κs. search needs) returns-2)

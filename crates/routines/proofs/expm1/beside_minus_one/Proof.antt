@@ -8,15 +8,6 @@ use borrow.Author.Needs.{needs}
 use Rattle.routines.proofs.expm1.beside_minus_one.Statement.{statement}
 use Rattle.routines.proofs.expm1.beside_minus_one.Tie as tie
 
-at-least-requires : tie.Need-at-least-requires
-at-least-requires c κs = search needs
-
-at-most-requires : tie.Need-at-most-requires
-at-most-requires c κs = search needs
-
-at-least-requires-2 : tie.Need-at-least-requires-2
-at-least-requires-2 c κs = search needs
-
 returns : tie.Need-returns
 unfolding besideMinusOne
 returns c =
@@ -29,4 +20,4 @@ returns-2 c = rw (c .before .if1 .left) (c .at-least2 .ensures)
 
 pub beside-minus-one-spec : {M : Type 1} → statement M
 beside-minus-one-spec =
-    tie.close (tie.spec at-least-requires at-most-requires at-least-requires-2 returns returns-2)
+    tie.close (tie.spec (λ c κs. search needs) (λ c κs. search needs) (λ c κs. search needs) returns returns-2)

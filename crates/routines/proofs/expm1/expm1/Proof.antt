@@ -14,18 +14,12 @@ returns c = rw (c .if1 .taken)
 less-one-requires : tie.Need-less-one-requires
 less-one-requires c κs = least-no-nan _ _ (c .before .if2 .taken)
 
-beside-minus-one-requires : tie.Need-beside-minus-one-requires
-beside-minus-one-requires c κs = search needs
-
 returns-2 : tie.Need-returns-2
 unfolding expm1Of teeM
 returns-2 c =
     let test = c .before .before in
     rw (test .before .before .if1 .left, test .before .if2 .taken, test .if3 .taken)
     (c .beside-minus-one .ensures ∙ ap (besideMinusOne _) (c .before .less-one .ensures))
-
-far-out-requires : tie.Need-far-out-requires
-far-out-requires c κs = search needs
 
 returns-3 : tie.Need-returns-3
 unfolding expm1Of teeM
@@ -35,11 +29,4 @@ returns-3 c =
 
 pub expm1-spec : {M : Type 1} → statement M
 expm1-spec =
-    tie.close
-    (tie.spec
-    returns
-    less-one-requires
-    beside-minus-one-requires
-    returns-2
-    far-out-requires
-    returns-3)
+    tie.close (tie.spec returns less-one-requires (λ c κs. search needs) returns-2 (λ c κs. search needs) returns-3)

@@ -4,9 +4,6 @@ use borrow.Author.Needs.{needs}
 use Rattle.routines.proofs.expm1.far_out.Statement.{statement}
 use Rattle.routines.proofs.expm1.far_out.Tie as tie
 
-exp-requires : tie.Need-exp-requires
-exp-requires c κs = search needs
-
 returns : tie.Need-returns
 unfolding farOut
 returns c = rw (c .if1 .taken)
@@ -20,4 +17,4 @@ unfolding farOut
 returns-3 c = rw (c .before .if1 .left, c .if2 .left)
 
 pub far-out-spec : {M : Type 1} → statement M
-far-out-spec = tie.close (tie.spec exp-requires returns returns-2 returns-3)
+far-out-spec = tie.close (tie.spec (λ c κs. search needs) returns returns-2 returns-3)

@@ -13,15 +13,6 @@ returns-2 : tie.Need-returns-2
 unfolding aboveZero
 returns-2 c = rw (c .before .before .if1 .taken, c .before .if2 .left, c .if3 .taken)
 
-ln-requires : tie.Need-ln-requires
-ln-requires c κs = search needs
-
-stirling-requires : tie.Need-stirling-requires
-stirling-requires c κs = search needs
-
-ln-requires-2 : tie.Need-ln-requires-2
-ln-requires-2 c κs = search needs
-
 returns-3 : tie.Need-returns-3
 unfolding aboveZero fourUp
 returns-3 c =
@@ -30,12 +21,6 @@ returns-3 c =
     rw (test .before .before .if1 .taken, test .before .if2 .left, test .if3 .left)
     (rw (up .stirling .ensures, up .before .ln .ensures, c .ln2 .ensures))
 
-ln-requires-3 : tie.Need-ln-requires-3
-ln-requires-3 c κs = search needs
-
-stirling-requires-2 : tie.Need-stirling-requires-2
-stirling-requires-2 c κs = search needs
-
 returns-4 : tie.Need-returns-4
 unfolding aboveZero
 returns-4 c = rw (c .before .before .if1 .left) (rw (c .stirling2 .ensures, c .before .ln3 .ensures))
@@ -43,13 +28,5 @@ returns-4 c = rw (c .before .before .if1 .left) (rw (c .stirling2 .ensures, c .b
 pub above-zero-spec : {M : Type 1} → statement M
 above-zero-spec =
     tie.close
-    (tie.spec
-    returns
-    returns-2
-    ln-requires
-    stirling-requires
-    ln-requires-2
-    returns-3
-    ln-requires-3
-    stirling-requires-2
-    returns-4)
+    (tie.spec returns returns-2 (λ c κs. search needs) (λ c κs. search needs) (λ c κs. search needs) returns-3
+    (λ c κs. search needs) (λ c κs. search needs) returns-4)

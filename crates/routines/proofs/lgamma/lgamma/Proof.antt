@@ -4,19 +4,13 @@ use borrow.Author.Needs.{needs}
 use Rattle.routines.proofs.lgamma.lgamma.Statement.{statement}
 use Rattle.routines.proofs.lgamma.lgamma.Tie as tie
 
-below-zero-requires : tie.Need-below-zero-requires
-below-zero-requires c κs = search needs
-
 returns : tie.Need-returns
 unfolding lgammaOf
 returns c = rw (c .before .if1 .taken) (c .below-zero .ensures)
-
-above-zero-requires : tie.Need-above-zero-requires
-above-zero-requires c κs = search needs
 
 returns-2 : tie.Need-returns-2
 unfolding lgammaOf
 returns-2 c = rw (c .before .if1 .left) (c .above-zero .ensures)
 
 pub lgamma-spec : {M : Type 1} → statement M
-lgamma-spec = tie.close (tie.spec below-zero-requires returns above-zero-requires returns-2)
+lgamma-spec = tie.close (tie.spec (λ c κs. search needs) returns (λ c κs. search needs) returns-2)

@@ -16,32 +16,11 @@ exponent q o h = omega arith
 digits : (q : ℕ) → (q % 4503599627370496 + 4604561183079399424) % 2 ^ 63 ≤ 2047 * 2 ^ 52
 digits q = omega arith
 
-float-to-bits-q : tie.Need-float-to-bits-q
-float-to-bits-q c = search needs
-
-add-q : tie.Need-add-q
-add-q c = search needs
-
-add-k : tie.Need-add-k
-add-k c = search needs
-
 float-from-bits-k : tie.Need-float-from-bits-k
 float-from-bits-k c = no-nan _ (exponent _ _ (c .pre .1))
 
-add-z : tie.Need-add-z
-add-z c = search needs
-
 float-from-bits-z : tie.Need-float-from-bits-z
 float-from-bits-z c = no-nan _ (digits _)
-
-piece-at-requires : tie.Need-piece-at-requires
-piece-at-requires c κs = search needs
-
-log-at-requires : tie.Need-log-at-requires
-log-at-requires c κs = search needs
-
-tail-requires : tie.Need-tail-requires
-tail-requires c κs = search needs
 
 returns : tie.Need-returns
 unfolding lnCore
@@ -61,14 +40,5 @@ returns c =
 pub core-spec : {M : Type 1} → statement M
 core-spec =
     tie.close
-    (tie.spec
-    float-to-bits-q
-    add-q
-    add-k
-    float-from-bits-k
-    add-z
-    float-from-bits-z
-    piece-at-requires
-    log-at-requires
-    tail-requires
-    returns)
+    (tie.spec (λ c. search needs) (λ c. search needs) (λ c. search needs) float-from-bits-k (λ c. search needs)
+    float-from-bits-z (λ c κs. search needs) (λ c κs. search needs) (λ c κs. search needs) returns)

@@ -16,9 +16,6 @@ returns : tie.Need-returns
 unfolding lnOf
 returns c = rw (c .before .if1 .taken, c .if2 .taken)
 
-not-above-zero-requires : tie.Need-not-above-zero-requires
-not-above-zero-requires c κs = search needs
-
 returns-2 : tie.Need-returns-2
 unfolding lnOf
 returns-2 c = rw (c .before .before .if1 .left, c .before .if3 .left) (c .not-above-zero .ensures)
@@ -34,9 +31,6 @@ core-requires c κs =
     (λ w. few-of _ _ (w .2) (w .3) (positive-times _ (w .1 .taken)) (lit≤ tt))
     (c .if1 .came)
 
-beside-zero-requires : tie.Need-beside-zero-requires
-beside-zero-requires c κs = search needs
-
 returns-3 : tie.Need-returns-3
 unfolding lnOf
 returns-3 c =
@@ -46,12 +40,4 @@ returns-3 c =
     (c .before .before .if1 .came)
 
 pub ln-spec : {M : Type 1} → statement M
-ln-spec =
-    tie.close
-    (tie.spec
-    returns
-    not-above-zero-requires
-    returns-2
-    core-requires
-    beside-zero-requires
-    returns-3)
+ln-spec = tie.close (tie.spec returns (λ c κs. search needs) returns-2 core-requires (λ c κs. search needs) returns-3)

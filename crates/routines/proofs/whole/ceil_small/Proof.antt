@@ -27,14 +27,8 @@ few c =
     subst (λ (n : ℕ). n < 2 ^ 53) (sym (whole-part c))
     (cut-small (c .before .args .x) (c .before .pre .0) (c .before .pre .1) .3)
 
-nearest-u64-to-f64-requires : tie.Need-nearest-u64-to-f64-requires
-nearest-u64-to-f64-requires c κs = search needs
-
 add-nearest-u64-to-f64 : tie.Need-add-nearest-u64-to-f64
 add-nearest-u64-to-f64 c = omega (arith, few (c .before .before))
-
-nearest-u64-to-f64-requires-2 : tie.Need-nearest-u64-to-f64-requires-2
-nearest-u64-to-f64-requires-2 c κs = search needs
 
 returns : tie.Need-returns
 returns c =
@@ -61,10 +55,5 @@ returns-2 c =
 pub ceil-small-spec : {M : Type 1} → statement M
 ceil-small-spec =
     tie.close
-    (tie.spec
-    truncating-f64-to-u64-requires
-    nearest-u64-to-f64-requires
-    add-nearest-u64-to-f64
-    nearest-u64-to-f64-requires-2
-    returns
-    returns-2)
+    (tie.spec truncating-f64-to-u64-requires (λ c κs. search needs) add-nearest-u64-to-f64 (λ c κs. search needs)
+    returns returns-2)

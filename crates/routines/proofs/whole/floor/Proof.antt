@@ -21,9 +21,6 @@ truncating-f64-to-u64-requires c κs =
     let k = cut-small (c .before .before .args .x) (is-small c .0) (is-small c .1) in
     (k .0, k .1)
 
-nearest-u64-to-f64-requires : tie.Need-nearest-u64-to-f64-requires
-nearest-u64-to-f64-requires c κs = search needs
-
 ceil-small-requires : tie.Need-ceil-small-requires
 ceil-small-requires c κs = small-neg (c .before .before .before .args .x) (c .before .if3 .taken) (c .if4 .taken)
 
@@ -56,4 +53,4 @@ returns-3 c =
 pub floor-spec : {M : Type 1} → statement M
 floor-spec =
     tie.close
-    (tie.spec truncating-f64-to-u64-requires nearest-u64-to-f64-requires ceil-small-requires returns returns-2 returns-3)
+    (tie.spec truncating-f64-to-u64-requires (λ c κs. search needs) ceil-small-requires returns returns-2 returns-3)

@@ -33,9 +33,6 @@ few c =
 add-nearest-u64-to-f64 : tie.Need-add-nearest-u64-to-f64
 add-nearest-u64-to-f64 c = omega (arith, few c)
 
-nearest-u64-to-f64-requires : tie.Need-nearest-u64-to-f64-requires
-nearest-u64-to-f64-requires c κs = search needs
-
 returns : tie.Need-returns
 returns c =
     let start = c .before .before in
@@ -47,4 +44,4 @@ returns c =
 
 pub round-small-spec : {M : Type 1} → statement M
 round-small-spec =
-    tie.close (tie.spec truncating-f64-to-u64-requires add-nearest-u64-to-f64 nearest-u64-to-f64-requires returns)
+    tie.close (tie.spec truncating-f64-to-u64-requires add-nearest-u64-to-f64 (λ c κs. search needs) returns)

@@ -38,20 +38,11 @@ module _ (w : tie.After-width) where
   abbrev lent : Lent
   lent = let a = start .args in lentOf (a .simplexes .now) (a .iterations .now) (a .stopped .now) (a .ready .now) (a .table .now)
 
-width-requires : tie.Need-width-requires
-width-requires c κs = search needs
-
-sub-d : tie.Need-sub-d
-sub-d c = search needs
-
 div-runs : tie.Need-div-runs
 div-runs c = long-some c
 
 rem-wrong : tie.Need-rem-wrong
 rem-wrong c = long-some c
-
-search-refusal-requires : tie.Need-search-refusal-requires
-search-refusal-requires c κs = search needs
 
 -- ---- what is refused
 refused-is : (r : tie.After-search-refusal) → let a = start (r .before) .args in
@@ -125,9 +116,6 @@ module _ (q : tie.After-prepare-window) where
       ap (λ (x : List Float). readyPriceOf (a .bins .now) (a .problem) x (length (a .table .now))) (q .prepare-window .ensures .1)
       ∙ ready-is-cost (a .bins .now) (a .problem) (a .ready .now) (t .end-some) (t .end-few) (t .ready-room) (length (a .table .now))
 
-prepare-window-requires : tie.Need-prepare-window-requires
-prepare-window-requires c κs = search needs
-
 begin-all-requires : tie.Need-begin-all-requires
 begin-all-requires c κs =
     let q = c .before .before .before .before .before .before .before in
@@ -146,21 +134,6 @@ begin-all-requires c κs =
       rw d (t .each-run .iterations-room),
       rw d (t .each-run .stopped-room),
     )
-
-same-length : tie.Need-same-length
-same-length c = search needs
-
-same-length-2 : tie.Need-same-length-2
-same-length-2 c = search needs
-
-same-length-3 : tie.Need-same-length-3
-same-length-3 c = search needs
-
-same-length-4 : tie.Need-same-length-4
-same-length-4 c = search needs
-
-same-length-5 : tie.Need-same-length-5
-same-length-5 c = search needs
 
 returns-2 : tie.Need-returns-2
 returns-2 c =
@@ -193,18 +166,6 @@ returns-2 c =
 pub begin-searches-spec : {M : Type 1} → statement M
 begin-searches-spec =
     tie.close
-    (tie.spec
-    width-requires
-    sub-d
-    div-runs
-    rem-wrong
-    search-refusal-requires
-    returns
-    prepare-window-requires
-    begin-all-requires
-    same-length
-    same-length-2
-    same-length-3
-    same-length-4
-    same-length-5
-    returns-2)
+    (tie.spec (λ c κs. search needs) (λ c. search needs) div-runs rem-wrong (λ c κs. search needs) returns
+    (λ c κs. search needs) begin-all-requires (λ c. search needs) (λ c. search needs) (λ c. search needs)
+    (λ c. search needs) (λ c. search needs) returns-2)

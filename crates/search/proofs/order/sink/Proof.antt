@@ -76,9 +76,6 @@ returns c =
     ∙ sunk-stays (rowsIn w w (at .loop .rows)) (at .loop .k) (rw rows-length h)
     (next-less w (at .loop .rows) (at .loop .inv .1 ∙ s .pre .0) (at .loop .k) h ∙ not-true _ (c .if1 .taken)))
 
-swap-next-requires : tie.Need-swap-next-requires Inv-loop μ-loop
-swap-next-requires c κs = search needs
-
 add-k : tie.Need-add-k Inv-loop μ-loop
 add-k c = omega arith
 
@@ -119,22 +116,5 @@ returns-2 c =
 pub sink-spec : {M : Type 1} → statement M
 sink-spec =
     tie.close
-    (tie.spec
-    Inv-loop
-    μ-loop
-    loop-holds
-    add-loop
-    mul-this
-    add-next
-    mul-if1
-    slice-read-if1
-    mul-if1-2
-    slice-read-if1-2
-    same-length
-    returns
-    swap-next-requires
-    add-k
-    loop-less
-    loop-again
-    same-length-2
-    returns-2)
+    (tie.spec Inv-loop μ-loop loop-holds add-loop mul-this add-next mul-if1 slice-read-if1 mul-if1-2 slice-read-if1-2
+    same-length returns (λ c κs. search needs) add-k loop-less loop-again same-length-2 returns-2)

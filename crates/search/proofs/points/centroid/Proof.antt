@@ -127,9 +127,6 @@ int-to-float-divide c =
     let k : a .w - 1 ≤ a .w = omega arith in
     width-held (a .w - 1) (lt-of-le-of-lt (mul-le-mul k k) h)
 
-divide-requires : tie.Need-divide-requires Inv-loop μ-loop
-divide-requires c κs = search needs
-
 same-length : tie.Need-same-length Inv-loop μ-loop
 same-length c =
     let d = c .before .before in
@@ -151,27 +148,6 @@ returns c =
 pub centroid-spec : {M : Type 1} → statement M
 centroid-spec =
     tie.close
-    (tie.spec
-    Inv-loop
-    μ-loop
-    sub-copy
-    part-copy-start
-    part-copy-end
-    copy-requires
-    sub-n
-    loop-holds
-    mul-from
-    add-from
-    add-to
-    mul-move-point
-    sub-move-point
-    part-move-point-start
-    part-move-point-end
-    move-point-requires
-    add-i
-    loop-less
-    loop-again
-    int-to-float-divide
-    divide-requires
-    same-length
-    returns)
+    (tie.spec Inv-loop μ-loop sub-copy part-copy-start part-copy-end copy-requires sub-n loop-holds mul-from add-from
+    add-to mul-move-point sub-move-point part-move-point-start part-move-point-end move-point-requires add-i loop-less
+    loop-again int-to-float-divide (λ c κs. search needs) same-length returns)

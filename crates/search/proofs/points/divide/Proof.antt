@@ -19,14 +19,8 @@ abbrev μ-loop : tie.MeasureT-loop
 loop-holds : tie.Need-loop-holds Inv-loop μ-loop
 loop-holds c = begins _ _ _
 
-mul-point : tie.Need-mul-point Inv-loop μ-loop
-mul-point c = search needs
-
 slice-read-point : tie.Need-slice-read-point Inv-loop μ-loop
 slice-read-point c = omega arith
-
-mul-point-2 : tie.Need-mul-point-2 Inv-loop μ-loop
-mul-point-2 c = search needs
 
 slice-write-point : tie.Need-slice-write-point Inv-loop μ-loop
 slice-write-point c = omega arith
@@ -51,16 +45,5 @@ returns c =
 pub divide-spec : {M : Type 1} → statement M
 divide-spec =
     tie.close
-    (tie.spec
-    Inv-loop
-    μ-loop
-    loop-holds
-    mul-point
-    slice-read-point
-    mul-point-2
-    slice-write-point
-    add-j
-    loop-less
-    loop-again
-    same-length
-    returns)
+    (tie.spec Inv-loop μ-loop loop-holds (λ c. search needs) slice-read-point (λ c. search needs) slice-write-point
+    add-j loop-less loop-again same-length returns)

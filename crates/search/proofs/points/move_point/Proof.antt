@@ -19,23 +19,11 @@ abbrev μ-loop : tie.MeasureT-loop
 loop-holds : tie.Need-loop-holds Inv-loop μ-loop
 loop-holds c = begins _ _ _
 
-mul-moved-by : tie.Need-mul-moved-by Inv-loop μ-loop
-mul-moved-by c = search needs
-
 slice-read-moved-by : tie.Need-slice-read-moved-by Inv-loop μ-loop
 slice-read-moved-by c = omega arith
 
-mul-moved-by-2 : tie.Need-mul-moved-by-2 Inv-loop μ-loop
-mul-moved-by-2 c = search needs
-
 shared-slice-read-moved-by : tie.Need-shared-slice-read-moved-by Inv-loop μ-loop
 shared-slice-read-moved-by c = omega arith
-
-moved-by-requires : tie.Need-moved-by-requires Inv-loop μ-loop
-moved-by-requires c κs = search needs
-
-mul-point : tie.Need-mul-point Inv-loop μ-loop
-mul-point c = search needs
 
 slice-write-point : tie.Need-slice-write-point Inv-loop μ-loop
 slice-write-point c = omega arith
@@ -65,19 +53,6 @@ returns c =
 pub move-point-spec : {M : Type 1} → statement M
 move-point-spec =
     tie.close
-    (tie.spec
-    Inv-loop
-    μ-loop
-    loop-holds
-    mul-moved-by
-    slice-read-moved-by
-    mul-moved-by-2
-    shared-slice-read-moved-by
-    moved-by-requires
-    mul-point
-    slice-write-point
-    add-j
-    loop-less
-    loop-again
-    same-length
-    returns)
+    (tie.spec Inv-loop μ-loop loop-holds (λ c. search needs) slice-read-moved-by (λ c. search needs)
+    shared-slice-read-moved-by (λ c κs. search needs) (λ c. search needs) slice-write-point add-j loop-less loop-again
+    same-length returns)

@@ -7,15 +7,6 @@ use Rattle.search.proofs.Stands.{prepared-stands}
 use Rattle.search.proofs.prices.price.Statement.{statement}
 use Rattle.search.proofs.prices.price.Tie as tie
 
-cost-prepared-requires : tie.Need-cost-prepared-requires
-cost-prepared-requires c κs = search needs
-
-price-said-requires : tie.Need-price-said-requires
-price-said-requires c κs = search needs
-
-same-length : tie.Need-same-length
-same-length c = search needs
-
 returns : tie.Need-returns
 unfolding readyPriceOf
 returns c =
@@ -29,4 +20,4 @@ returns c =
     )
 
 pub price-spec : {M : Type 1} → statement M
-price-spec = tie.close (tie.spec cost-prepared-requires price-said-requires same-length returns)
+price-spec = tie.close (tie.spec (λ c κs. search needs) (λ c κs. search needs) (λ c. search needs) returns)

@@ -5,16 +5,10 @@ use Rattle.search.proofs.Widths.{few-wide}
 use Rattle.search.proofs.prices.width.Statement.{statement}
 use Rattle.search.proofs.prices.width.Tie as tie
 
-list-length-requires : tie.Need-list-length-requires
-list-length-requires c κs = search needs
-
 add-result : tie.Need-add-result
 add-result c =
     let p = c .before .args .problem in
     omega (arith, c .list-length .ensures, few-wide (p .error) (p .genome))
 
-returns : tie.Need-returns
-returns c = search needs
-
 pub width-spec : {M : Type 1} → statement M
-width-spec = tie.close (tie.spec list-length-requires add-result returns)
+width-spec = tie.close (tie.spec (λ c κs. search needs) add-result (λ c. search needs))

@@ -12,9 +12,6 @@ use Rattle.search.proofs.Widths.{square-few, runs-few}
 use Rattle.search.proofs.refusing.runs_refusal.Statement.{statement}
 use Rattle.search.proofs.refusing.runs_refusal.Tie as tie
 
-width-requires : tie.Need-width-requires
-width-requires c κs = search needs
-
 -- the numbers of a simplex
 few : (c : tie.After-width) → c .width .result * c .width .result ≤ 144
 few c = let p = c .before .args .problem in square-few (p .error) (p .genome) _ (c .width .ensures)
@@ -58,5 +55,4 @@ returns-4 c =
     rw (long (e .before .before), le-ltb _ _ (e .if2 .left), le-ltb _ _ (c .if3 .left))
 
 pub runs-refusal-spec : {M : Type 1} → statement M
-runs-refusal-spec =
-    tie.close (tie.spec width-requires mul-if1 mul-if1-2 returns returns-2 returns-3 returns-4)
+runs-refusal-spec = tie.close (tie.spec (λ c κs. search needs) mul-if1 mul-if1-2 returns returns-2 returns-3 returns-4)

@@ -113,9 +113,6 @@ past-high c n h =
     past-low (low c) n (goes-on (aboveMost (highs s)) (inOrder (after-high s)) refl none n h)
 
 -- ---- 4, 5 and 6
-spectrum-refusal-requires : tie.Need-spectrum-refusal-requires
-spectrum-refusal-requires c κs = search needs
-
 -- behind 1 and 2 it says the number of these
 spectrum-says : (c : tie.After-spectrum-refusal) → c .spectrum-refusal .result ≡ firstOf (spectrum (start-high (c .before)))
 spectrum-says c =
@@ -163,9 +160,6 @@ past-wrong c n h =
     (goes-on (wrongStarts (s .args .wrong)) (inOrder (after-wrong s)) refl (starts-right _ (c .if8 .left)) n h)
 
 -- ---- 10
-table-refusal-requires : tie.Need-table-refusal-requires
-table-refusal-requires c κs = search needs
-
 abbrev start-table : tie.Else9 → tie.Start
 start-table c = start-spectrum (c .before .before .before)
 
@@ -222,16 +216,5 @@ returns-7 c =
 pub search-refusal-spec : {M : Type 1} → statement M
 search-refusal-spec =
     tie.close
-    (tie.spec
-    returns
-    returns-2
-    spectrum-refusal-requires
-    returns-3
-    returns-4
-    table-refusal-requires
-    returns-5
-    add-if10
-    mul-if10
-    returns-6
-    runs-refusal-requires
-    returns-7)
+    (tie.spec returns returns-2 (λ c κs. search needs) returns-3 returns-4 (λ c κs. search needs) returns-5 add-if10
+    mul-if10 returns-6 runs-refusal-requires returns-7)

@@ -38,17 +38,11 @@ mul-cost c = omega (arith, inside c, few (start c))
 shared-slice-read-cost : tie.Need-shared-slice-read-cost
 shared-slice-read-cost c = omega (arith, inside (c .before), start (c .before) .pre)
 
-has-converged-requires : tie.Need-has-converged-requires
-has-converged-requires c κs = search needs
-
 add-t9 : tie.Need-add-t9
 add-t9 c = let r = c .before .before in omega (arith, inside r, few (start r), start r .pre)
 
 add-t13 : tie.Need-add-t13
 add-t13 c = let r = c .before .before in omega (arith, inside r, few (start r), start r .pre)
-
-is-capped-requires : tie.Need-is-capped-requires
-is-capped-requires c κs = search needs
 
 returns : tie.Need-returns
 returns c =
@@ -62,13 +56,5 @@ returns c =
 pub find-spec : {M : Type 1} → statement M
 find-spec =
     tie.close
-    (tie.spec
-    least-row-requires
-    mul-at
-    mul-cost
-    shared-slice-read-cost
-    has-converged-requires
-    add-t9
-    add-t13
-    is-capped-requires
-    returns)
+    (tie.spec least-row-requires mul-at mul-cost shared-slice-read-cost (λ c κs. search needs) add-t9 add-t13
+    (λ c κs. search needs) returns)

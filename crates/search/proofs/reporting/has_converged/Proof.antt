@@ -9,9 +9,6 @@ use Rattle.search.proofs.reporting.has_converged.Tie as tie
 returns : tie.Need-returns
 returns c = not-stopped (c .before .args .cost) (c .before .args .stopped) (c .if1 .taken)
 
-is-finite-requires : tie.Need-is-finite-requires
-is-finite-requires c κs = search needs
-
 returns-2 : tie.Need-returns-2
 returns-2 c =
     let f = c .before in
@@ -25,4 +22,4 @@ returns-3 c =
     stopped-well (a .cost) (a .stopped) (f .before .if1 .left) (ap not (sym (f .is-finite .ensures)) ∙ c .if2 .left)
 
 pub has-converged-spec : {M : Type 1} → statement M
-has-converged-spec = tie.close (tie.spec returns is-finite-requires returns-2 returns-3)
+has-converged-spec = tie.close (tie.spec returns (λ c κs. search needs) returns-2 returns-3)

@@ -14,9 +14,6 @@ use Rattle.search.proofs.Widths.{few-wide}
 use Rattle.search.proofs.reporting.report_searches.Statement.{statement}
 use Rattle.search.proofs.reporting.report_searches.Tie as tie
 
-list-length-requires : tie.Need-list-length-requires
-list-length-requires c κs = search needs
-
 abbrev start : tie.After-list-length → tie.Start
 start c = c .before .before .before .before .before .before .before .before .before
 
@@ -67,9 +64,6 @@ returns c =
       ),
     )
 
-iteration-cap-requires : tie.Need-iteration-cap-requires
-iteration-cap-requires c κs = search needs
-
 -- ---- an answer
 passed : (c : tie.Else1) → let w = c .before .before in
     ReportPassed (w .list-length .result + 1) (start w .args .runs) (columns (start w))
@@ -95,21 +89,6 @@ write-found-requires c κs =
         ),
       ),
     )
-
-same-length : tie.Need-same-length
-same-length c = search needs
-
-same-length-2 : tie.Need-same-length-2
-same-length-2 c = search needs
-
-same-length-3 : tie.Need-same-length-3
-same-length-3 c = search needs
-
-same-length-4 : tie.Need-same-length-4
-same-length-4 c = search needs
-
-same-length-5 : tie.Need-same-length-5
-same-length-5 c = search needs
 
 abbrev written : tie.After-slice-known10 → tie.After-write-found
 written c = c .before .before .before .before .before .before .before .before .before .before
@@ -150,16 +129,5 @@ returns-2 c =
 pub report-searches-spec : {M : Type 1} → statement M
 report-searches-spec =
     tie.close
-    (tie.spec
-    list-length-requires
-    add-w
-    report-refusal-requires
-    returns
-    iteration-cap-requires
-    write-found-requires
-    same-length
-    same-length-2
-    same-length-3
-    same-length-4
-    same-length-5
-    returns-2)
+    (tie.spec (λ c κs. search needs) add-w report-refusal-requires returns (λ c κs. search needs) write-found-requires
+    (λ c. search needs) (λ c. search needs) (λ c. search needs) (λ c. search needs) (λ c. search needs) returns-2)

@@ -93,9 +93,6 @@ shared-slice-read-find c = let t = c .before .before in omega (arith, below t, s
 shared-slice-read-is-set : tie.Need-shared-slice-read-is-set Inv-loop μ-loop
 shared-slice-read-is-set c = let t = c .before .before .before in omega (arith, below t, start (t .before) .pre)
 
-is-set-requires : tie.Need-is-set-requires Inv-loop μ-loop
-is-set-requires c κs = search needs
-
 find-requires : tie.Need-find-requires Inv-loop μ-loop
 find-requires c κs =
     let t = c .before .before .before .before in
@@ -125,9 +122,6 @@ found c =
     c .find .ensures
     ∙ (λ j. foundOf (a .w) (a .cap) (rowsIn (a .w) (a .w) (rows j)) (i * square) (getD (a .iterations .now) i 0) (stopped j))
 
-byte-of-requires : tie.Need-byte-of-requires Inv-loop μ-loop
-byte-of-requires c κs = search needs
-
 slice-write-converged : tie.Need-slice-write-converged Inv-loop μ-loop
 slice-write-converged c = let t = turn (c .before) in omega (arith, below t, start (t .before) .pre, t .before .loop .inv .1 .long)
 
@@ -148,9 +142,6 @@ mul-lengths c = let t = turn (c .before) in omega (arith, below t, start (t .bef
 
 slice-write-lengths : tie.Need-slice-write-lengths Inv-loop μ-loop
 slice-write-lengths c = let t = turn (c .before) in omega (arith, below t, start (t .before) .pre, t .before .loop .inv .4 .long)
-
-byte-of-requires-2 : tie.Need-byte-of-requires-2 Inv-loop μ-loop
-byte-of-requires-2 c κs = search needs
 
 slice-write-caps : tie.Need-slice-write-caps Inv-loop μ-loop
 slice-write-caps c = let t = turn (c .before .before) in omega (arith, below t, start (t .before) .pre, t .before .loop .inv .5 .long)
@@ -212,39 +203,8 @@ returns c =
 pub write-found-spec : {M : Type 1} → statement M
 write-found-spec =
     tie.close
-    (tie.spec
-    Inv-loop
-    μ-loop
-    mul-square
-    sub-length
-    loop-holds
-    mul-from
-    add-to
-    mul-find
-    sub-find
-    part-find-start
-    part-find-end
-    mul-find-2
-    shared-slice-read-find
-    shared-slice-read-is-set
-    is-set-requires
-    find-requires
-    byte-of-requires
-    slice-write-converged
-    mul-costs
-    slice-write-costs
-    mul-places
-    slice-write-places
-    mul-lengths
-    slice-write-lengths
-    byte-of-requires-2
-    slice-write-caps
-    add-i
-    loop-less
-    loop-again
-    same-length
-    same-length-2
-    same-length-3
-    same-length-4
-    same-length-5
-    returns)
+    (tie.spec Inv-loop μ-loop mul-square sub-length loop-holds mul-from add-to mul-find sub-find part-find-start
+    part-find-end mul-find-2 shared-slice-read-find shared-slice-read-is-set (λ c κs. search needs) find-requires
+    (λ c κs. search needs) slice-write-converged mul-costs slice-write-costs mul-places slice-write-places mul-lengths
+    slice-write-lengths (λ c κs. search needs) slice-write-caps add-i loop-less loop-again same-length same-length-2
+    same-length-3 same-length-4 same-length-5 returns)

@@ -30,17 +30,8 @@ slice-write-rows c = omega (arith, inside (c .before .before))
 mul-copy : tie.Need-mul-copy
 mul-copy c = omega (arith, inside (c .before .before))
 
-sub-copy : tie.Need-sub-copy
-sub-copy c = search needs
-
-part-copy-start : tie.Need-part-copy-start
-part-copy-start c = search needs
-
 part-copy-end : tie.Need-part-copy-end
 part-copy-end c = simp length-set (omega (arith, inside (c .before .before)))
-
-copy-requires : tie.Need-copy-requires
-copy-requires c κs = search needs
 
 same-length : tie.Need-same-length
 same-length c = c .before .rows .given .1 ∙ simp length-set
@@ -55,16 +46,5 @@ returns c =
 pub put-spec : {M : Type 1} → statement M
 put-spec =
     tie.close
-    (tie.spec
-    mul-at
-    add-from
-    add-to
-    mul-rows
-    slice-write-rows
-    mul-copy
-    sub-copy
-    part-copy-start
-    part-copy-end
-    copy-requires
-    same-length
-    returns)
+    (tie.spec mul-at add-from add-to mul-rows slice-write-rows mul-copy (λ c. search needs) (λ c. search needs)
+    part-copy-end (λ c κs. search needs) same-length returns)

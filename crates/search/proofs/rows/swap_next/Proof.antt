@@ -60,95 +60,32 @@ add-mid c = omega (arith, inside (c .before))
 add-to : tie.Need-add-to
 add-to c = omega (arith, inside (c .before))
 
-sub-copy : tie.Need-sub-copy
-sub-copy c = search needs
-
-part-first-start : tie.Need-part-first-start
-part-first-start c = search needs
-
-part-first-end : tie.Need-part-first-end
-part-first-end c = search needs
-
 mul-copy : tie.Need-mul-copy
 mul-copy c = omega (arith, inside (c .before .before))
-
-sub-copy-2 : tie.Need-sub-copy-2
-sub-copy-2 c = search needs
-
-part-copy-start : tie.Need-part-copy-start
-part-copy-start c = search needs
 
 part-copy-end : tie.Need-part-copy-end
 part-copy-end c = omega (arith, inside (c .before .before .before))
 
-copy-requires : tie.Need-copy-requires
-copy-requires c κs = search needs
-
-sub-copy-3 : tie.Need-sub-copy-3
-sub-copy-3 c = search needs
-
-part-second-start : tie.Need-part-second-start
-part-second-start c = search needs
-
-part-second-end : tie.Need-part-second-end
-part-second-end c = search needs
-
 mul-copy-2 : tie.Need-mul-copy-2
 mul-copy-2 c = omega (arith, inside (c .before .before .before .before .before .before .before))
-
-sub-copy-4 : tie.Need-sub-copy-4
-sub-copy-4 c = search needs
-
-part-copy-start-2 : tie.Need-part-copy-start-2
-part-copy-start-2 c = search needs
 
 part-copy-end-2 : tie.Need-part-copy-end-2
 part-copy-end-2 c = omega (arith, inside (c .before .before .before .before .before .before .before .before))
 
-copy-requires-2 : tie.Need-copy-requires-2
-copy-requires-2 c κs = search needs
-
 mul-copy-3 : tie.Need-mul-copy-3
 mul-copy-3 c = omega (arith, inside (c .before .before .before .before .before .before .before .before .before .before .before))
-
-sub-copy-5 : tie.Need-sub-copy-5
-sub-copy-5 c = search needs
-
-part-copy-start-3 : tie.Need-part-copy-start-3
-part-copy-start-3 c = search needs
 
 part-copy-end-3 : tie.Need-part-copy-end-3
 part-copy-end-3 c = omega (arith, inside (c .before .before .before .before .before .before .before .before .before .before .before))
 
-sub-copy-6 : tie.Need-sub-copy-6
-sub-copy-6 c = search needs
-
-part-copy-start-4 : tie.Need-part-copy-start-4
-part-copy-start-4 c = search needs
-
 part-copy-end-4 : tie.Need-part-copy-end-4
 part-copy-end-4 c = simp length-append (omega (arith, second-long (c .before .before .before)))
-
-copy-requires-3 : tie.Need-copy-requires-3
-copy-requires-3 c κs = search needs
 
 mul-copy-4 : tie.Need-mul-copy-4
 mul-copy-4 c = omega (arith, inside (c .before .before .before .before .before .before .before .before .before .before .before .before .before .before .before .before .before))
 
-sub-copy-7 : tie.Need-sub-copy-7
-sub-copy-7 c = search needs
-
-part-copy-start-5 : tie.Need-part-copy-start-5
-part-copy-start-5 c = search needs
-
 part-copy-end-5 : tie.Need-part-copy-end-5
 part-copy-end-5 c = rw (c .before .rows3 .given .1) (inside (c .before .before .before .before .before .before .before .before .before .before .before .before .before .before .before .before .before))
-
-sub-copy-8 : tie.Need-sub-copy-8
-sub-copy-8 c = search needs
-
-part-copy-start-6 : tie.Need-part-copy-start-6
-part-copy-start-6 c = search needs
 
 part-copy-end-6 : tie.Need-part-copy-end-6
 part-copy-end-6 c = simp length-append (omega (arith, first-long (c .before .before .before .before .before .before .before .before .before .before .before .before .before .before)))
@@ -182,41 +119,9 @@ returns c =
 pub swap-next-spec : {M : Type 1} → statement M
 swap-next-spec =
     tie.close
-    (tie.spec
-    mul-from
-    add-mid
-    add-to
-    sub-copy
-    part-first-start
-    part-first-end
-    mul-copy
-    sub-copy-2
-    part-copy-start
-    part-copy-end
-    copy-requires
-    sub-copy-3
-    part-second-start
-    part-second-end
-    mul-copy-2
-    sub-copy-4
-    part-copy-start-2
-    part-copy-end-2
-    copy-requires-2
-    mul-copy-3
-    sub-copy-5
-    part-copy-start-3
-    part-copy-end-3
-    sub-copy-6
-    part-copy-start-4
-    part-copy-end-4
-    copy-requires-3
-    mul-copy-4
-    sub-copy-7
-    part-copy-start-5
-    part-copy-end-5
-    sub-copy-8
-    part-copy-start-6
-    part-copy-end-6
-    copy-requires-4
-    same-length
-    returns)
+    (tie.spec mul-from add-mid add-to (λ c. search needs) (λ c. search needs) (λ c. search needs) mul-copy
+    (λ c. search needs) (λ c. search needs) part-copy-end (λ c κs. search needs) (λ c. search needs)
+    (λ c. search needs) (λ c. search needs) mul-copy-2 (λ c. search needs) (λ c. search needs) part-copy-end-2
+    (λ c κs. search needs) mul-copy-3 (λ c. search needs) (λ c. search needs) part-copy-end-3 (λ c. search needs)
+    (λ c. search needs) part-copy-end-4 (λ c κs. search needs) mul-copy-4 (λ c. search needs) (λ c. search needs)
+    part-copy-end-5 (λ c. search needs) (λ c. search needs) part-copy-end-6 copy-requires-4 same-length returns)

@@ -84,9 +84,6 @@ slice-read-t21 c = let l = c .before .before in omega (arith, l .loop .inv .3 .l
 slice-read-is-set : tie.Need-slice-read-is-set Inv-loop μ-loop
 slice-read-is-set c = let l = c .before .before .before in omega (arith, l .loop .inv .4 .long, start l .pre .6)
 
-is-set-requires : tie.Need-is-set-requires Inv-loop μ-loop
-is-set-requires c κs = search needs
-
 mul-run : tie.Need-mul-run Inv-loop μ-loop
 mul-run c =
     let t = c .before .before .before in
@@ -130,9 +127,6 @@ mul-iterations c = omega (arith, start (c .before .before .before .before .befor
 
 slice-write-iterations : tie.Need-slice-write-iterations Inv-loop μ-loop
 slice-write-iterations c = let l = c .before .before .before .before .before .before .before .before .before .before .before in omega (arith, l .loop .inv .3 .long, start l .pre .5)
-
-byte-of-requires : tie.Need-byte-of-requires Inv-loop μ-loop
-byte-of-requires c κs = search needs
 
 slice-write-stopped : tie.Need-slice-write-stopped Inv-loop μ-loop
 slice-write-stopped c = let l = c .before .before .before .before .before .before .before .before .before .before .before .before in omega (arith, l .loop .inv .4 .long, start l .pre .6)
@@ -202,31 +196,7 @@ returns c =
 pub run-all-spec : {M : Type 1} → statement M
 run-all-spec =
     tie.close
-    (tie.spec
-    Inv-loop
-    μ-loop
-    mul-size
-    loop-holds
-    mul-from
-    add-to
-    mul-t19
-    slice-read-t21
-    slice-read-is-set
-    is-set-requires
-    mul-run
-    sub-run
-    part-run-start
-    part-run-end
-    run-requires
-    mul-iterations
-    slice-write-iterations
-    byte-of-requires
-    slice-write-stopped
-    add-i
-    loop-less
-    loop-again
-    same-length
-    same-length-2
-    same-length-3
-    same-length-4
-    returns)
+    (tie.spec Inv-loop μ-loop mul-size loop-holds mul-from add-to mul-t19 slice-read-t21 slice-read-is-set
+    (λ c κs. search needs) mul-run sub-run part-run-start part-run-end run-requires mul-iterations
+    slice-write-iterations (λ c κs. search needs) slice-write-stopped add-i loop-less loop-again same-length
+    same-length-2 same-length-3 same-length-4 returns)

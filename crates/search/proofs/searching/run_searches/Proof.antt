@@ -22,9 +22,6 @@ use Rattle.search.proofs.searching.run_searches.Tie as tie
 abbrev start : tie.After-search-refusal → tie.Start
 start r = r .before .before .before .before .before .before .before
 
-search-refusal-requires : tie.Need-search-refusal-requires
-search-refusal-requires c κs = search needs
-
 -- what the slices come to by the answer x
 module _ (s : tie.Start) where
   abbrev price : List Float → Float
@@ -98,15 +95,6 @@ module _ (w : tie.After-width) where
       ap (λ (x : List Float). readyPriceOf (a .bins .now) (a .problem) x (length (a .table .now))) (w .before .before .before .before .prepare-window .ensures .1)
       ∙ ready-is-cost (a .bins .now) (a .problem) (a .ready .now) (t .end-some) (t .end-few) (t .ready-room) (length (a .table .now))
 
-prepare-window-requires : tie.Need-prepare-window-requires
-prepare-window-requires c κs = search needs
-
-iteration-cap-requires : tie.Need-iteration-cap-requires
-iteration-cap-requires c κs = search needs
-
-width-requires : tie.Need-width-requires
-width-requires c κs = search needs
-
 run-all-requires : tie.Need-run-all-requires
 run-all-requires c κs =
     let w = c .before .before .before .before .before in
@@ -121,21 +109,6 @@ run-all-requires c κs =
       t .each-run .iterations-room,
       t .each-run .stopped-room,
     )
-
-same-length : tie.Need-same-length
-same-length c = search needs
-
-same-length-2 : tie.Need-same-length-2
-same-length-2 c = search needs
-
-same-length-3 : tie.Need-same-length-3
-same-length-3 c = search needs
-
-same-length-4 : tie.Need-same-length-4
-same-length-4 c = search needs
-
-same-length-5 : tie.Need-same-length-5
-same-length-5 c = search needs
 
 returns-2 : tie.Need-returns-2
 returns-2 c =
@@ -172,16 +145,6 @@ returns-2 c =
 pub run-searches-spec : {M : Type 1} → statement M
 run-searches-spec =
     tie.close
-    (tie.spec
-    search-refusal-requires
-    returns
-    prepare-window-requires
-    iteration-cap-requires
-    width-requires
-    run-all-requires
-    same-length
-    same-length-2
-    same-length-3
-    same-length-4
-    same-length-5
-    returns-2)
+    (tie.spec (λ c κs. search needs) returns (λ c κs. search needs) (λ c κs. search needs) (λ c κs. search needs)
+    run-all-requires (λ c. search needs) (λ c. search needs) (λ c. search needs) (λ c. search needs)
+    (λ c. search needs) returns-2)

@@ -18,17 +18,8 @@ Inv-loop rows w mean sum₀ i₀ sum i = Folded (addSquare w rows mean) (squareA
 abbrev μ-loop : tie.MeasureT-loop
 μ-loop rows w mean sum₀ i₀ sum i = w - i
 
-mean-cost-requires : tie.Need-mean-cost-requires Inv-loop μ-loop
-mean-cost-requires c κs = search needs
-
-square-at-requires : tie.Need-square-at-requires Inv-loop μ-loop
-square-at-requires c κs = search needs
-
 loop-holds : tie.Need-loop-holds Inv-loop μ-loop
 loop-holds c = begins _ _ _ _ _ (omega arith) (c .square-at .ensures)
-
-square-at-requires-2 : tie.Need-square-at-requires-2 Inv-loop μ-loop
-square-at-requires-2 c κs = search needs
 
 add-i : tie.Need-add-i Inv-loop μ-loop
 add-i c = omega arith
@@ -57,15 +48,5 @@ returns c =
 pub deviation-spec : {M : Type 1} → statement M
 deviation-spec =
     tie.close
-    (tie.spec
-    Inv-loop
-    μ-loop
-    mean-cost-requires
-    square-at-requires
-    loop-holds
-    square-at-requires-2
-    add-i
-    loop-less
-    loop-again
-    int-to-float-result
-    returns)
+    (tie.spec Inv-loop μ-loop (λ c κs. search needs) (λ c κs. search needs) loop-holds (λ c κs. search needs) add-i
+    loop-less loop-again int-to-float-result returns)

@@ -31,9 +31,6 @@ module _ (t : tie.After-try-point) where
   some : 0 < s .args .w
   some = omega arith
 
-sub-n : tie.Need-sub-n
-sub-n c = search needs
-
 mul-worst : tie.Need-mul-worst
 mul-worst c = omega (arith, last-fits c)
 
@@ -46,38 +43,14 @@ add-to c = omega (arith, last-fits c)
 mul-try-point : tie.Need-mul-try-point
 mul-try-point c = omega (arith, last-fits (c .before))
 
-sub-try-point : tie.Need-sub-try-point
-sub-try-point c = search needs
-
-part-try-point-start : tie.Need-part-try-point-start
-part-try-point-start c = search needs
-
 part-try-point-end : tie.Need-part-try-point-end
 part-try-point-end c = omega (arith, last-fits (c .before .before))
-
-try-point-requires : tie.Need-try-point-requires
-try-point-requires c κs = search needs
 
 mul-if1 : tie.Need-mul-if1
 mul-if1 c = omega (arith, last-fits (c .before .before .before .before .before .before .before .before .before .before))
 
 slice-read-if1 : tie.Need-slice-read-if1
 slice-read-if1 c = omega (arith, last-fits (c .before .before .before .before .before .before .before .before .before .before .before))
-
-put-requires : tie.Need-put-requires
-put-requires c κs = search needs
-
-same-length : tie.Need-same-length
-same-length c = search needs
-
-same-length-2 : tie.Need-same-length-2
-same-length-2 c = search needs
-
-same-length-3 : tie.Need-same-length-3
-same-length-3 c = search needs
-
-same-length-4 : tie.Need-same-length-4
-same-length-4 c = search needs
 
 returns : tie.Need-returns
 returns c =
@@ -91,21 +64,6 @@ returns c =
           (t .try-point .ensures .1 .0) (then .if1 .taken),
       t .try-point .ensures .1 .1,
     )
-
-shrink-requires : tie.Need-shrink-requires
-shrink-requires c κs = search needs
-
-same-length-5 : tie.Need-same-length-5
-same-length-5 c = search needs
-
-same-length-6 : tie.Need-same-length-6
-same-length-6 c = search needs
-
-same-length-7 : tie.Need-same-length-7
-same-length-7 c = search needs
-
-same-length-8 : tie.Need-same-length-8
-same-length-8 c = search needs
 
 returns-2 : tie.Need-returns-2
 returns-2 c =
@@ -125,27 +83,7 @@ returns-2 c =
 pub contract-in-spec : {M : Type 1} → statement M
 contract-in-spec =
     tie.close
-    (tie.spec
-    sub-n
-    mul-worst
-    add-from
-    add-to
-    mul-try-point
-    sub-try-point
-    part-try-point-start
-    part-try-point-end
-    try-point-requires
-    mul-if1
-    slice-read-if1
-    put-requires
-    same-length
-    same-length-2
-    same-length-3
-    same-length-4
-    returns
-    shrink-requires
-    same-length-5
-    same-length-6
-    same-length-7
-    same-length-8
-    returns-2)
+    (tie.spec (λ c. search needs) mul-worst add-from add-to mul-try-point (λ c. search needs) (λ c. search needs)
+    part-try-point-end (λ c κs. search needs) mul-if1 slice-read-if1 (λ c κs. search needs) (λ c. search needs)
+    (λ c. search needs) (λ c. search needs) (λ c. search needs) returns (λ c κs. search needs) (λ c. search needs)
+    (λ c. search needs) (λ c. search needs) (λ c. search needs) returns-2)

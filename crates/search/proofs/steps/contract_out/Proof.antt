@@ -24,27 +24,6 @@ module _ (t : tie.After-try-point) where
   some : 0 < s .args .w
   some = omega arith
 
-try-point-requires : tie.Need-try-point-requires
-try-point-requires c κs = search needs
-
-sub-put : tie.Need-sub-put
-sub-put c = search needs
-
-put-requires : tie.Need-put-requires
-put-requires c κs = search needs
-
-same-length : tie.Need-same-length
-same-length c = search needs
-
-same-length-2 : tie.Need-same-length-2
-same-length-2 c = search needs
-
-same-length-3 : tie.Need-same-length-3
-same-length-3 c = search needs
-
-same-length-4 : tie.Need-same-length-4
-same-length-4 c = search needs
-
 returns : tie.Need-returns
 returns c =
     let k = c .before .before in
@@ -56,21 +35,6 @@ returns c =
           (t .try-point .ensures .0) (t .try-point .ensures .1 .0) (then .if1 .taken),
       t .try-point .ensures .1 .1,
     )
-
-shrink-requires : tie.Need-shrink-requires
-shrink-requires c κs = search needs
-
-same-length-5 : tie.Need-same-length-5
-same-length-5 c = search needs
-
-same-length-6 : tie.Need-same-length-6
-same-length-6 c = search needs
-
-same-length-7 : tie.Need-same-length-7
-same-length-7 c = search needs
-
-same-length-8 : tie.Need-same-length-8
-same-length-8 c = search needs
 
 returns-2 : tie.Need-returns-2
 returns-2 c =
@@ -89,18 +53,6 @@ returns-2 c =
 pub contract-out-spec : {M : Type 1} → statement M
 contract-out-spec =
     tie.close
-    (tie.spec
-    try-point-requires
-    sub-put
-    put-requires
-    same-length
-    same-length-2
-    same-length-3
-    same-length-4
-    returns
-    shrink-requires
-    same-length-5
-    same-length-6
-    same-length-7
-    same-length-8
-    returns-2)
+    (tie.spec (λ c κs. search needs) (λ c. search needs) (λ c κs. search needs) (λ c. search needs)
+    (λ c. search needs) (λ c. search needs) (λ c. search needs) returns (λ c κs. search needs) (λ c. search needs)
+    (λ c. search needs) (λ c. search needs) (λ c. search needs) returns-2)

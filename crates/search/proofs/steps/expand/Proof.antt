@@ -24,9 +24,6 @@ start c = c .before .before .before .before .before .before .before
 last-fits : (c : tie.After-slice-known3) → let w = start c .args .w in (w - 1) * w + w ≤ w * w
 last-fits c = row-fits (start c .args .w - 1) (start c .args .w) (start c .args .w) (omega arith)
 
-sub-n : tie.Need-sub-n
-sub-n c = search needs
-
 mul-from : tie.Need-mul-from
 mul-from c = omega (arith, last-fits c)
 
@@ -39,29 +36,8 @@ add-to c = omega (arith, last-fits c)
 mul-try-point : tie.Need-mul-try-point
 mul-try-point c = omega (arith, last-fits c)
 
-sub-try-point : tie.Need-sub-try-point
-sub-try-point c = search needs
-
-part-try-point-start : tie.Need-part-try-point-start
-part-try-point-start c = search needs
-
 part-try-point-end : tie.Need-part-try-point-end
 part-try-point-end c = omega (arith, last-fits (c .before))
-
-try-point-requires : tie.Need-try-point-requires
-try-point-requires c κs = search needs
-
-put-requires : tie.Need-put-requires
-put-requires c κs = search needs
-
-same-length : tie.Need-same-length
-same-length c = search needs
-
-same-length-2 : tie.Need-same-length-2
-same-length-2 c = search needs
-
-same-length-3 : tie.Need-same-length-3
-same-length-3 c = search needs
 
 -- what is put into the last row is what the rule has
 module _ (t : tie.After-try-point) where
@@ -97,18 +73,6 @@ returns c =
       t .try-point .ensures .1 .1,
     )
 
-put-requires-2 : tie.Need-put-requires-2
-put-requires-2 c κs = search needs
-
-same-length-4 : tie.Need-same-length-4
-same-length-4 c = search needs
-
-same-length-5 : tie.Need-same-length-5
-same-length-5 c = search needs
-
-same-length-6 : tie.Need-same-length-6
-same-length-6 c = search needs
-
 returns-2 : tie.Need-returns-2
 returns-2 c =
     let k = c .before .before in
@@ -121,23 +85,7 @@ returns-2 c =
 pub expand-spec : {M : Type 1} → statement M
 expand-spec =
     tie.close
-    (tie.spec
-    sub-n
-    mul-from
-    add-from
-    add-to
-    mul-try-point
-    sub-try-point
-    part-try-point-start
-    part-try-point-end
-    try-point-requires
-    put-requires
-    same-length
-    same-length-2
-    same-length-3
-    returns
-    put-requires-2
-    same-length-4
-    same-length-5
-    same-length-6
+    (tie.spec (λ c. search needs) mul-from add-from add-to mul-try-point (λ c. search needs) (λ c. search needs)
+    part-try-point-end (λ c κs. search needs) (λ c κs. search needs) (λ c. search needs) (λ c. search needs)
+    (λ c. search needs) returns (λ c κs. search needs) (λ c. search needs) (λ c. search needs) (λ c. search needs)
     returns-2)

@@ -47,9 +47,6 @@ module _ (t : tie.After-try-point) where
   some : 0 < s .args .w
   some = omega arith
 
-sub-n : tie.Need-sub-n
-sub-n c = search needs
-
 mul-worst : tie.Need-mul-worst
 mul-worst c = omega (arith, last-fits c)
 
@@ -62,44 +59,14 @@ add-from c = omega (arith, last-fits c)
 add-to : tie.Need-add-to
 add-to c = omega (arith, last-fits c)
 
-centroid-requires : tie.Need-centroid-requires
-centroid-requires c κs = search needs
-
 mul-try-point : tie.Need-mul-try-point
 mul-try-point c = omega (arith, last-fits (c .before .before .before .before .before .before))
-
-sub-try-point : tie.Need-sub-try-point
-sub-try-point c = search needs
-
-part-try-point-start : tie.Need-part-try-point-start
-part-try-point-start c = search needs
 
 part-try-point-end : tie.Need-part-try-point-end
 part-try-point-end c = omega (arith, last-fits (c .before .before .before .before .before .before .before))
 
-try-point-requires : tie.Need-try-point-requires
-try-point-requires c κs = search needs
-
 slice-read-if1 : tie.Need-slice-read-if1
 slice-read-if1 c = omega (arith, last-fits (first (tried c)))
-
-expand-requires : tie.Need-expand-requires
-expand-requires c κs = search needs
-
-same-length : tie.Need-same-length
-same-length c = search needs
-
-same-length-2 : tie.Need-same-length-2
-same-length-2 c = search needs
-
-same-length-3 : tie.Need-same-length-3
-same-length-3 c = search needs
-
-same-length-4 : tie.Need-same-length-4
-same-length-4 c = search needs
-
-same-length-5 : tie.Need-same-length-5
-same-length-5 c = search needs
 
 returns : tie.Need-returns
 returns c =
@@ -122,21 +89,6 @@ mul-if2 c = omega (arith, last-fits (first (tried (c .before))), start (first (t
 slice-read-if2 : tie.Need-slice-read-if2
 slice-read-if2 c = omega (arith, last-fits (first (tried (c .before .before))))
 
-put-requires : tie.Need-put-requires
-put-requires c κs = search needs
-
-same-length-6 : tie.Need-same-length-6
-same-length-6 c = search needs
-
-same-length-7 : tie.Need-same-length-7
-same-length-7 c = search needs
-
-same-length-8 : tie.Need-same-length-8
-same-length-8 c = search needs
-
-same-length-9 : tie.Need-same-length-9
-same-length-9 c = search needs
-
 returns-2 : tie.Need-returns-2
 returns-2 c =
     let k = c .before .before in
@@ -156,24 +108,6 @@ mul-if3 c = omega (arith, last-fits (first (tried (c .before .before .before))),
 slice-read-if3 : tie.Need-slice-read-if3
 slice-read-if3 c = omega (arith, last-fits (first (tried (c .before .before .before .before))))
 
-contract-out-requires : tie.Need-contract-out-requires
-contract-out-requires c κs = search needs
-
-same-length-10 : tie.Need-same-length-10
-same-length-10 c = search needs
-
-same-length-11 : tie.Need-same-length-11
-same-length-11 c = search needs
-
-same-length-12 : tie.Need-same-length-12
-same-length-12 c = search needs
-
-same-length-13 : tie.Need-same-length-13
-same-length-13 c = search needs
-
-same-length-14 : tie.Need-same-length-14
-same-length-14 c = search needs
-
 returns-3 : tie.Need-returns-3
 returns-3 c =
     let k = c .before .before .before .before .before .before .before .before in
@@ -190,24 +124,6 @@ returns-3 c =
           (t .try-point .ensures .1 .0) (else .if1 .left) (second .if2 .left) (then .if3 .taken),
       k .contract-out .ensures .1 ∙ t .try-point .ensures .1 .1,
     )
-
-contract-in-requires : tie.Need-contract-in-requires
-contract-in-requires c κs = search needs
-
-same-length-15 : tie.Need-same-length-15
-same-length-15 c = search needs
-
-same-length-16 : tie.Need-same-length-16
-same-length-16 c = search needs
-
-same-length-17 : tie.Need-same-length-17
-same-length-17 c = search needs
-
-same-length-18 : tie.Need-same-length-18
-same-length-18 c = search needs
-
-same-length-19 : tie.Need-same-length-19
-same-length-19 c = search needs
 
 returns-4 : tie.Need-returns-4
 returns-4 c =
@@ -229,47 +145,11 @@ returns-4 c =
 pub step-with-spec : {M : Type 1} → statement M
 step-with-spec =
     tie.close
-    (tie.spec
-    sub-n
-    mul-worst
-    sub-second
-    add-from
-    add-to
-    centroid-requires
-    mul-try-point
-    sub-try-point
-    part-try-point-start
-    part-try-point-end
-    try-point-requires
-    slice-read-if1
-    expand-requires
-    same-length
-    same-length-2
-    same-length-3
-    same-length-4
-    same-length-5
-    returns
-    mul-if2
-    slice-read-if2
-    put-requires
-    same-length-6
-    same-length-7
-    same-length-8
-    same-length-9
-    returns-2
-    mul-if3
-    slice-read-if3
-    contract-out-requires
-    same-length-10
-    same-length-11
-    same-length-12
-    same-length-13
-    same-length-14
-    returns-3
-    contract-in-requires
-    same-length-15
-    same-length-16
-    same-length-17
-    same-length-18
-    same-length-19
-    returns-4)
+    (tie.spec (λ c. search needs) mul-worst sub-second add-from add-to (λ c κs. search needs) mul-try-point
+    (λ c. search needs) (λ c. search needs) part-try-point-end (λ c κs. search needs) slice-read-if1
+    (λ c κs. search needs) (λ c. search needs) (λ c. search needs) (λ c. search needs) (λ c. search needs)
+    (λ c. search needs) returns mul-if2 slice-read-if2 (λ c κs. search needs) (λ c. search needs) (λ c. search needs)
+    (λ c. search needs) (λ c. search needs) returns-2 mul-if3 slice-read-if3 (λ c κs. search needs)
+    (λ c. search needs) (λ c. search needs) (λ c. search needs) (λ c. search needs) (λ c. search needs) returns-3
+    (λ c κs. search needs) (λ c. search needs) (λ c. search needs) (λ c. search needs) (λ c. search needs)
+    (λ c. search needs) returns-4)

@@ -9,21 +9,6 @@ use Rattle.search.specs.Prices.{readyPriceOf}
 use Rattle.search.proofs.steps.try_point.Statement.{statement}
 use Rattle.search.proofs.steps.try_point.Tie as tie
 
-copy-requires : tie.Need-copy-requires
-copy-requires c κs = search needs
-
-move-point-requires : tie.Need-move-point-requires
-move-point-requires c κs = search needs
-
-price-requires : tie.Need-price-requires
-price-requires c κs = search needs
-
-same-length : tie.Need-same-length
-same-length c = search needs
-
-same-length-2 : tie.Need-same-length-2
-same-length-2 c = search needs
-
 returns : tie.Need-returns
 returns c =
     let p = c .before .before in
@@ -41,4 +26,5 @@ returns c =
 pub try-point-spec : {M : Type 1} → statement M
 try-point-spec =
     tie.close
-    (tie.spec copy-requires move-point-requires price-requires same-length same-length-2 returns)
+    (tie.spec (λ c κs. search needs) (λ c κs. search needs) (λ c κs. search needs) (λ c. search needs)
+    (λ c. search needs) returns)

@@ -24,32 +24,14 @@ price c =
 abbrev found : tie.After-order → State
 found c = let a = start c .args in stateOf (a .w) (a .rows .now) (a .progress)
 
-order-requires : tie.Need-order-requires
-order-requires c κs = search needs
-
-is-settled-requires : tie.Need-is-settled-requires
-is-settled-requires c κs = search needs
-
-same-length : tie.Need-same-length
-same-length c = search needs
-
 returns : tie.Need-returns
 returns c =
     let t = c .before in
     let o = t .before .before .before .before in
     (settles (price o) (found o) _ (o .order .ensures) (sym (t .is-settled .ensures) ∙ c .if1 .taken), refl)
 
-step-requires : tie.Need-step-requires
-step-requires c κs = search needs
-
 add-t18 : tie.Need-add-t18
 add-t18 c = omega arith
-
-same-length-2 : tie.Need-same-length-2
-same-length-2 c = search needs
-
-same-length-3 : tie.Need-same-length-3
-same-length-3 c = search needs
 
 returns-2 : tie.Need-returns-2
 returns-2 c =
@@ -64,13 +46,5 @@ returns-2 c =
 pub turn-spec : {M : Type 1} → statement M
 turn-spec =
     tie.close
-    (tie.spec
-    order-requires
-    is-settled-requires
-    same-length
-    returns
-    step-requires
-    add-t18
-    same-length-2
-    same-length-3
-    returns-2)
+    (tie.spec (λ c κs. search needs) (λ c κs. search needs) (λ c. search needs) returns (λ c κs. search needs) add-t18
+    (λ c. search needs) (λ c. search needs) returns-2)

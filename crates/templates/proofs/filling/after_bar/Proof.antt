@@ -9,12 +9,9 @@ returns : tie.Need-returns
 unfolding afterBar
 returns c = rw (eq-eqb _ _ (c .if1 .taken))
 
-sub-result : tie.Need-sub-result
-sub-result c = search needs
-
 returns-2 : tie.Need-returns-2
 unfolding afterBar
 returns-2 c = rw (ne-eqb _ _ (c .if1 .left))
 
 pub after-bar-spec : {M : Type 1} → statement M
-after-bar-spec = tie.close (tie.spec returns sub-result returns-2)
+after-bar-spec = tie.close (tie.spec returns (λ c. search needs) returns-2)

@@ -5,9 +5,6 @@ use borrow.Author.Needs.{needs}
 use Rattle.templates.proofs.filling.next_place.Statement.{statement}
 use Rattle.templates.proofs.filling.next_place.Tie as tie
 
-add-result : tie.Need-add-result
-add-result c = search needs
-
 returns : tie.Need-returns
 unfolding nextPlace
 returns c = rw (lt-ltb _ _ (c .if1 .taken))
@@ -17,4 +14,4 @@ unfolding nextPlace
 returns-2 c = rw (le-ltb _ _ (c .if1 .left))
 
 pub next-place-spec : {M : Type 1} → statement M
-next-place-spec = tie.close (tie.spec add-result returns returns-2)
+next-place-spec = tie.close (tie.spec (λ c. search needs) returns returns-2)

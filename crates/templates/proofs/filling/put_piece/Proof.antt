@@ -6,43 +6,19 @@ use borrow.Author.Needs.{needs}
 use Rattle.templates.proofs.filling.put_piece.Statement.{statement}
 use Rattle.templates.proofs.filling.put_piece.Tie as tie
 
-put-decimal-requires : tie.Need-put-decimal-requires
-put-decimal-requires c κs = search needs
-
-same-length : tie.Need-same-length
-same-length c = search needs
-
 returns : tie.Need-returns
 returns c = put-same _ _ _ _ _ _ (sym (piece-whole _ _ (c .before .before .before .before .if1 .taken))) (c .before .before .put-decimal .ensures)
-
-put-float-requires : tie.Need-put-float-requires
-put-float-requires c κs = search needs
-
-same-length-2 : tie.Need-same-length-2
-same-length-2 c = search needs
 
 returns-2 : tie.Need-returns-2
 returns-2 c =
     let float = c .before .before .before .before in
     put-same _ _ _ _ _ _ (sym (piece-float _ _ (float .before .if1 .left) (float .if2 .taken))) (c .before .before .put-float .ensures)
 
-is-bracket-requires : tie.Need-is-bracket-requires
-is-bracket-requires c κs = search needs
-
 returns-3 : tie.Need-returns-3
 returns-3 c =
     let bracket = c .before in
     let none = piece-bracket _ _ (bracket .before .before .if1 .left) (bracket .before .if2 .left) (sym (bracket .is-bracket .ensures) ∙ c .if3 .taken) in
     put-same _ _ _ _ _ _ (sym none) (no-text _ _)
-
-slice-aggregate-put-text : tie.Need-slice-aggregate-put-text
-slice-aggregate-put-text c = search needs
-
-put-text-requires : tie.Need-put-text-requires
-put-text-requires c κs = search needs
-
-same-length-3 : tie.Need-same-length-3
-same-length-3 c = search needs
 
 returns-4 : tie.Need-returns-4
 returns-4 c =
@@ -54,16 +30,5 @@ returns-4 c =
 pub put-piece-spec : {M : Type 1} → statement M
 put-piece-spec =
     tie.close
-    (tie.spec
-    put-decimal-requires
-    same-length
-    returns
-    put-float-requires
-    same-length-2
-    returns-2
-    is-bracket-requires
-    returns-3
-    slice-aggregate-put-text
-    put-text-requires
-    same-length-3
-    returns-4)
+    (tie.spec (λ c κs. search needs) (λ c. search needs) returns (λ c κs. search needs) (λ c. search needs) returns-2
+    (λ c κs. search needs) returns-3 (λ c. search needs) (λ c κs. search needs) (λ c. search needs) returns-4)

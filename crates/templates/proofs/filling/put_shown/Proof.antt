@@ -10,15 +10,6 @@ use Rattle.templates.proofs.filling.put_shown.Tie as tie
 returns : tie.Need-returns
 returns c = put-same _ _ _ _ _ _ (sym (hidden _ _ _ (c .if1 .taken))) (no-text _ _)
 
-value-at-requires : tie.Need-value-at-requires
-value-at-requires c κs = search needs
-
-put-piece-requires : tie.Need-put-piece-requires
-put-piece-requires c κs = search needs
-
-same-length : tie.Need-same-length
-same-length c = search needs
-
 returns-2 : tie.Need-returns-2
 returns-2 c =
     let v = c .before .before .before in
@@ -27,4 +18,4 @@ returns-2 c =
 
 pub put-shown-spec : {M : Type 1} → statement M
 put-shown-spec =
-    tie.close (tie.spec returns value-at-requires put-piece-requires same-length returns-2)
+    tie.close (tie.spec returns (λ c κs. search needs) (λ c κs. search needs) (λ c. search needs) returns-2)

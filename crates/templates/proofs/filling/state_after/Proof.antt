@@ -6,18 +6,9 @@ use borrow.Author.Needs.{needs}
 use Rattle.templates.proofs.filling.state_after.Statement.{statement}
 use Rattle.templates.proofs.filling.state_after.Tie as tie
 
-value-at-requires : tie.Need-value-at-requires
-value-at-requires c κs = search needs
-
-next-place-requires : tie.Need-next-place-requires
-next-place-requires c κs = search needs
-
 returns : tie.Need-returns
 unfolding after
 returns c = rw (eq-eqb _ _ (c .before .before .if1 .taken), c .next-place .ensures, c .before .value-at .ensures)
-
-after-bar-requires : tie.Need-after-bar-requires
-after-bar-requires c κs = search needs
 
 returns-2 : tie.Need-returns-2
 unfolding after
@@ -26,12 +17,6 @@ returns-2 c = rw (ne-eqb _ _ (c .before .before .if1 .left), eq-eqb _ _ (c .befo
 returns-3 : tie.Need-returns-3
 unfolding after
 returns-3 c = rw (ne-eqb _ _ (c .before .before .if1 .left), ne-eqb _ _ (c .before .if2 .left), eq-eqb _ _ (c .if3 .taken))
-
-takes-value-requires : tie.Need-takes-value-requires
-takes-value-requires c κs = search needs
-
-next-place-requires-2 : tie.Need-next-place-requires-2
-next-place-requires-2 c κs = search needs
 
 returns-4 : tie.Need-returns-4
 unfolding after
@@ -48,14 +33,5 @@ returns-5 c =
 pub state-after-spec : {M : Type 1} → statement M
 state-after-spec =
     tie.close
-    (tie.spec
-    value-at-requires
-    next-place-requires
-    returns
-    after-bar-requires
-    returns-2
-    returns-3
-    takes-value-requires
-    next-place-requires-2
-    returns-4
-    returns-5)
+    (tie.spec (λ c κs. search needs) (λ c κs. search needs) returns (λ c κs. search needs) returns-2 returns-3
+    (λ c κs. search needs) (λ c κs. search needs) returns-4 returns-5)

@@ -13,8 +13,5 @@ returns c = above-is-nan _ (c .if1 .taken)
 float-from-bits-result : tie.Need-float-from-bits-result
 float-from-bits-result c = no-nan _ (c .if1 .left)
 
-returns-2 : tie.Need-returns-2
-returns-2 c = search needs
-
 pub float-spec : {M : Type 1} → statement M
-float-spec = tie.close (tie.spec returns float-from-bits-result returns-2)
+float-spec = tie.close (tie.spec returns float-from-bits-result (λ c. search needs))

@@ -9,33 +9,6 @@ use borrow.Author.Needs.{needs}
 use Rattle.templates.proofs.floats.put_float.Statement.{statement}
 use Rattle.templates.proofs.floats.put_float.Tie as tie
 
-hex-requires : tie.Need-hex-requires
-hex-requires c κs = search needs
-
-array-share-prefix-digits : tie.Need-array-share-prefix-digits
-array-share-prefix-digits c = search needs
-
-slice-aggregate-put-text : tie.Need-slice-aggregate-put-text
-slice-aggregate-put-text c = search needs
-
-put-text-requires : tie.Need-put-text-requires
-put-text-requires c κs = search needs
-
-slice-aggregate-put-text-2 : tie.Need-slice-aggregate-put-text-2
-slice-aggregate-put-text-2 c = search needs
-
-put-text-requires-2 : tie.Need-put-text-requires-2
-put-text-requires-2 c κs = search needs
-
-float-requires : tie.Need-float-requires
-float-requires c κs = search needs
-
-put-eyes-requires : tie.Need-put-eyes-requires
-put-eyes-requires c κs = search needs
-
-same-length : tie.Need-same-length
-same-length c = search needs
-
 returns : tie.Need-returns
 unfolding floatOf
 returns c =
@@ -53,14 +26,6 @@ returns c =
 pub put-float-spec : {M : Type 1} → statement M
 put-float-spec =
     tie.close
-    (tie.spec
-    hex-requires
-    array-share-prefix-digits
-    slice-aggregate-put-text
-    put-text-requires
-    slice-aggregate-put-text-2
-    put-text-requires-2
-    float-requires
-    put-eyes-requires
-    same-length
+    (tie.spec (λ c κs. search needs) (λ c. search needs) (λ c. search needs) (λ c κs. search needs)
+    (λ c. search needs) (λ c κs. search needs) (λ c κs. search needs) (λ c κs. search needs) (λ c. search needs)
     returns)

@@ -7,30 +7,6 @@ use borrow.Author.Needs.{needs}
 use Rattle.templates.proofs.floats.put_places.Statement.{statement}
 use Rattle.templates.proofs.floats.put_places.Tie as tie
 
-parts-of-requires : tie.Need-parts-of-requires
-parts-of-requires c κs = search needs
-
-put-decimal-requires : tie.Need-put-decimal-requires
-put-decimal-requires c κs = search needs
-
-slice-aggregate-put-text : tie.Need-slice-aggregate-put-text
-slice-aggregate-put-text c = search needs
-
-put-text-requires : tie.Need-put-text-requires
-put-text-requires c κs = search needs
-
-six-requires : tie.Need-six-requires
-six-requires c κs = search needs
-
-slice-aggregate-put-text-2 : tie.Need-slice-aggregate-put-text-2
-slice-aggregate-put-text-2 c = search needs
-
-put-text-requires-2 : tie.Need-put-text-requires-2
-put-text-requires-2 c κs = search needs
-
-same-length : tie.Need-same-length
-same-length c = search needs
-
 returns : tie.Need-returns
 unfolding placesOf
 returns c =
@@ -46,13 +22,5 @@ returns c =
 pub put-places-spec : {M : Type 1} → statement M
 put-places-spec =
     tie.close
-    (tie.spec
-    parts-of-requires
-    put-decimal-requires
-    slice-aggregate-put-text
-    put-text-requires
-    six-requires
-    slice-aggregate-put-text-2
-    put-text-requires-2
-    same-length
-    returns)
+    (tie.spec (λ c κs. search needs) (λ c κs. search needs) (λ c. search needs) (λ c κs. search needs)
+    (λ c κs. search needs) (λ c. search needs) (λ c κs. search needs) (λ c. search needs) returns)

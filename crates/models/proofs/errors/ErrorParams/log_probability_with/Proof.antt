@@ -4,21 +4,9 @@ use borrow.Author.Needs.{needs}
 use Rattle.models.proofs.errors.ErrorParams.log_probability_with.Statement.{statement}
 use Rattle.models.proofs.errors.ErrorParams.log_probability_with.Tie as tie
 
-ln-requires : tie.Need-ln-requires
-ln-requires c κs = search needs
-
 returns : tie.Need-returns
 unfolding logProbabilityOf
 returns c = rw (c .before .if1 .taken) (c .ln .ensures)
-
-log-survival-from-two-requires : tie.Need-log-survival-from-two-requires
-log-survival-from-two-requires c κs = search needs
-
-log-survival-from-two-requires-2 : tie.Need-log-survival-from-two-requires-2
-log-survival-from-two-requires-2 c κs = search needs
-
-ln-sub-exp-requires : tie.Need-ln-sub-exp-requires
-ln-sub-exp-requires c κs = search needs
 
 returns-2 : tie.Need-returns-2
 unfolding logProbabilityOf
@@ -31,10 +19,5 @@ returns-2 c =
 pub log-probability-with-spec : {M : Type 1} → statement M
 log-probability-with-spec =
     tie.close
-    (tie.spec
-    ln-requires
-    returns
-    log-survival-from-two-requires
-    log-survival-from-two-requires-2
-    ln-sub-exp-requires
+    (tie.spec (λ c κs. search needs) returns (λ c κs. search needs) (λ c κs. search needs) (λ c κs. search needs)
     returns-2)

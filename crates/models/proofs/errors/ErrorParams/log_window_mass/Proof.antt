@@ -15,12 +15,6 @@ returns-2 : tie.Need-returns-2
 unfolding logWindowMassOf
 returns-2 c = simp (le-ltb _ _ (c .before .if1 .left), eq-eqb _ _ (c .if2 .taken))
 
-cast-log-window-mass-to : tie.Need-cast-log-window-mass-to
-cast-log-window-mass-to c = search needs
-
-log-window-mass-to-requires : tie.Need-log-window-mass-to-requires
-log-window-mass-to-requires c κs = search needs
-
 returns-3 : tie.Need-returns-3
 unfolding logWindowMassOf
 returns-3 c =
@@ -28,6 +22,4 @@ returns-3 c =
     simp (le-ltb _ _ (some .before .if1 .left), ne-eqb _ _ (some .if2 .left)) (ap give (c .log-window-mass-to .ensures))
 
 pub log-window-mass-spec : {M : Type 1} → statement M
-log-window-mass-spec =
-    tie.close
-    (tie.spec returns returns-2 cast-log-window-mass-to log-window-mass-to-requires returns-3)
+log-window-mass-spec = tie.close (tie.spec returns returns-2 (λ c. search needs) (λ c κs. search needs) returns-3)

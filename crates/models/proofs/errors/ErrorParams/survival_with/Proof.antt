@@ -4,12 +4,9 @@ use borrow.Author.Needs.{needs}
 use Rattle.models.proofs.errors.ErrorParams.survival_with.Statement.{statement}
 use Rattle.models.proofs.errors.ErrorParams.survival_with.Tie as tie
 
-factor-requires : tie.Need-factor-requires
-factor-requires c κs = search needs
-
 returns : tie.Need-returns
 unfolding survivalWith
 returns c = rw (c .factor .ensures)
 
 pub survival-with-spec : {M : Type 1} → statement M
-survival-with-spec = tie.close (tie.spec factor-requires returns)
+survival-with-spec = tie.close (tie.spec (λ c κs. search needs) returns)
