@@ -1,6 +1,6 @@
 -- e ^ t against a fraction, by its series, for a t of size up to 1: e ^ |t| lies between the sum of the terms up to
 -- |t| ^ 31 / 31! and that sum with its last term twice. That the tests say what they are for is a theorem of
--- crates/accuracy, in proofs/LnTable.antt. Definitions only. Assumes nothing.
+-- crates/accuracy, in proofs/Claims/LnRestNearest.antt. Definitions only. Assumes nothing.
 use Prim.Native.Nat.{ℕ, zero, suc, _+_, _*_, _^_}
 use mathlib.Core.Bool.{Bool, true, false, _&&_}
 use lib.Dec.{leb, ltb}

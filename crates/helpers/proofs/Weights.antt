@@ -23,7 +23,7 @@ use Rattle.routines.proofs.Commutes.{add-commutes}
 use Rattle.routines.proofs.Levels.{exp-level}
 use Rattle.routines.proofs.Tests.{yes}
 use Rattle.accuracy.specs.Far.{MINUS40}
-use Rattle.accuracy.proofs.Absorbed.{absorbed, absorbed-two}
+use Rattle.accuracy.proofs.Claims.Absorbed.{absorbed, absorbed-two}
 use Rattle.helpers.specs.LogSums.{weightOf}
 
 -- ---- a sum of 1 has the logarithm +0
