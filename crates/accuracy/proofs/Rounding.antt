@@ -8,3 +8,5 @@ pub mod TimesPowerOfTwo
 -- ---- a number before its rounding, and how far apart doubles lie
 pub mod HalfPlace
 pub mod Spacing
+-- ---- doubles as numbers of units
+pub mod InUnits

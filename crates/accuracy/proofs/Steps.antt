@@ -15,6 +15,7 @@ pub mod IndexBits
 -- ---- step 7's sum, and with the power of two
 pub mod SumRounded
 pub mod SumNear
+pub mod Octaves
 pub mod PartsTogether
 pub mod NearForIndex
 -- ---- steps 1 and 3 to 7 at every |x| ≤ 770

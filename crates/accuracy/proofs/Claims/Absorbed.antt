@@ -28,11 +28,13 @@ use Rattle.accuracy.specs.Far.{MINUS40}
 use Rattle.accuracy.proofs.Rounding.AnyFormat.{Sg, add-is}
 use Rattle.accuracy.proofs.Rounding.Binary64.{L-pos, pair-of}
 use Rattle.accuracy.proofs.Rounding.TimesPowerOfTwo.{digits-of}
-use Rattle.accuracy.proofs.Steps.BesideOneAnswers.{size-mono, ulp-mono, ulp-L, one-is, holds}
-use Rattle.accuracy.proofs.Rounding.Spacing.{Digits, Multiple, power-digits, multiple, gap-above}
+use Rattle.accuracy.proofs.Steps.BesideOneAnswers.{ulp-L}
+use Rattle.accuracy.proofs.Rounding.Spacing.{Digits, Multiple, power-digits, multiple, gap-above, size-mono}
+use Rattle.accuracy.proofs.Rounding.Spacing.{ulp-mono}
 use Rattle.accuracy.proofs.Claims.StepEightChangesNothing.{same-double, one-fits}
 use Rattle.accuracy.proofs.Claims.ExpFaithful.{under-top, top-power}
 use Rattle.accuracy.proofs.Claims.FarBelow.{Far, far-units}
+use Rattle.accuracy.proofs.Rounding.InUnits.{one-is, holds}
 
 -- ---- S + W units, rounded, are S units, where W is less than half an ulp of S
 -- S + W has as many digits as S

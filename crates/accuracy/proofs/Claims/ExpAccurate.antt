@@ -9,9 +9,10 @@ use Rattle.routines.specs.Exp.{expOf, tee, scaledUp, besideOne, outOfRange, LEA
 use Rattle.accuracy.specs.Accuracy.{L, Is, Answers}
 use Rattle.accuracy.proofs.Steps.ValueUpTo770.{Valued, value-is}
 use Rattle.accuracy.proofs.Steps.ValueAnswers.{value-answers}
-use Rattle.accuracy.proofs.Steps.RangeTests.{units-of, passed, failed}
+use Rattle.accuracy.proofs.Steps.RangeTests.{passed, failed}
 use Rattle.accuracy.proofs.Steps.BesideOneAnswers.{beside-answers}
 use Rattle.accuracy.proofs.Steps.OutOfRangeAnswers.{outOfRange-answers}
+use Rattle.accuracy.proofs.Rounding.InUnits.{units-of}
 
 -- steps 3 to 7
 pub scaled-valued : (x : Float) (s : Bool) (X : ℕ) → Is x s X → X ≤ 770 * L → Valued s X (scaledUp x (tee x))

@@ -18,19 +18,18 @@ use Rattle.routines.proofs.Compared.{le-is}
 use Rattle.accuracy.specs.Accuracy.{L, Is, InUlps, Answers}
 use Rattle.accuracy.specs.Faithful.{Double, Over, Under, Faithful}
 use Rattle.accuracy.proofs.Rounding.Binary64.{L-pos}
-use Rattle.accuracy.proofs.Steps.PartsTogether.{octave}
 use Rattle.accuracy.proofs.Rounding.TimesPowerOfTwo.{Exact, Small, digits-of}
-use Rattle.accuracy.proofs.Euler.AsClaimed.{far-out}
 use Rattle.accuracy.proofs.Steps.ValueUpTo770.{Valued}
 use Rattle.accuracy.proofs.Steps.ValueAnswers.{value-answers}
-use Rattle.accuracy.proofs.Steps.RangeTests.{unique, failed}
-use Rattle.accuracy.proofs.Steps.BesideOneAnswers.{zero-is, holds, less-is, below-zero, not-below}
+use Rattle.accuracy.proofs.Steps.RangeTests.{failed}
 use Rattle.accuracy.proofs.Steps.OutOfRangeAnswers.{octave-pos, tiny}
 use Rattle.accuracy.proofs.Claims.ExpAccurate.{scaled-valued, in-range}
 use Rattle.accuracy.proofs.Rounding.Spacing.{Digits, PowerOf, gap-above, gap-below}
 use Rattle.accuracy.proofs.Claims.UlpAway.{over-of, under-of, ulp-above, ulp-below}
 use Rattle.accuracy.proofs.Claims.StepEightChangesNothing.{zero-fits, scaled-fits, exp-without-step-8}
 use Rattle.accuracy.proofs.Claims.BelowPowersOfTwo.{power-under}
+use Rattle.accuracy.proofs.Steps.Octaves.{octave, far-out}
+use Rattle.accuracy.proofs.Rounding.InUnits.{unique, zero-is, holds, less-is, below-zero, not-below}
 
 digits : (w : Float) (Y : ℕ) → Double w Y → Digits Y
 digits w Y c = digits-of w Y (c .0) (c .1)

@@ -16,13 +16,14 @@ use Rattle.accuracy.specs.Far.{MINUS40, TINY}
 use Rattle.accuracy.proofs.Euler.Bounds.{Below}
 use Rattle.accuracy.proofs.Euler.EveryN.{lowered}
 use Rattle.accuracy.proofs.Rounding.Binary64.{L-pos}
-use Rattle.accuracy.proofs.Steps.PartsTogether.{below-stretch}
-use Rattle.accuracy.proofs.Euler.AsClaimed.{below-more, below-one}
+use Rattle.accuracy.proofs.Euler.AsClaimed.{below-one}
 use Rattle.accuracy.proofs.Steps.ValueAnswers.{by-size}
-use Rattle.accuracy.proofs.Steps.RangeTests.{units-of}
 use Rattle.accuracy.proofs.Claims.BoundsAgree.{bounds-agree}
 use Rattle.accuracy.proofs.Claims.ExpAccurate.{exp-answers}
 use Rattle.accuracy.proofs.Claims.StepEightChangesNothing.{no-infinity}
+use Rattle.accuracy.proofs.Euler.Powers.{below-stretch}
+use Rattle.accuracy.proofs.Euler.Weaker.{below-more}
+use Rattle.accuracy.proofs.Rounding.InUnits.{units-of}
 
 -- ---- e ^ 40 is more than 2 ^ 57: Euler's (1 + 40 / n) ^ n is, at n = 1700
 abbrev top : ℕ

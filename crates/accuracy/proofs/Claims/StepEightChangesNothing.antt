@@ -23,13 +23,13 @@ use Rattle.accuracy.proofs.Rounding.Binary64.{L-pos}
 use Rattle.accuracy.proofs.Rounding.TimesPowerOfTwo.{L-pow, digits-of}
 use Rattle.accuracy.proofs.Euler.AsClaimed.{below-one}
 use Rattle.accuracy.proofs.Steps.ValueAnswers.{pow-lt-back, value-answers}
-use Rattle.accuracy.proofs.Steps.RangeTests.{units-of}
-use Rattle.accuracy.proofs.Steps.BesideOneAnswers.{one-is, zero-is, not-less, below-zero, not-below, over-one}
+use Rattle.accuracy.proofs.Steps.BesideOneAnswers.{over-one}
 use Rattle.accuracy.proofs.Steps.BesideOneAnswers.{from-one, inf-up}
 use Rattle.accuracy.proofs.Claims.BoundsAgree.{bounds-agree}
 use Rattle.accuracy.proofs.Claims.ExpAccurate.{scaled-valued, in-range}
 use Rattle.accuracy.proofs.Rounding.Spacing.{Digits, PowerOf, power-digits, gap-above, gap-below, ulp-power}
 use Rattle.accuracy.proofs.Claims.UlpAway.{ulp-above, ulp-below}
+use Rattle.accuracy.proofs.Rounding.InUnits.{units-of, one-is, zero-is, not-less, below-zero, not-below}
 
 -- ---- a double is known by its sign and its units
 abbrev code : Bool → ℕ → ℕ

@@ -1,6 +1,6 @@
 -- A bound of e ^ t gives every weaker one; and what it is that e ^ t is W / B up to one part in E. Assumes nothing.
 use Prim.Native.Nat.{ℕ, suc, _+_, _*_, _^_, _≤_, _<_}
-use native.Mathlib.Nat.{mul-le-mul-right, le-of-mul-le-mul-left}
+use native.Mathlib.Nat.{mul-le-mul-right, le-of-mul-le-mul-left, le-trans, mul-le-mul-left, pow-le-pow-left}
 use native.Mathlib.Omega.{arith}
 use Rattle.accuracy.proofs.Euler.Bounds.{Above, Below}
 
@@ -27,6 +27,13 @@ below-weaken a c P Q P' Q' z h (n, hn, k) = (n, hn, go ((c * n + a) ^ n) P Q P' 
 
     go : (p P Q P' Q' u : ℕ) → 0 < Q → P' * Q ≤ P * Q' → P * u ≤ Q * p → P' * u ≤ Q' * p
     go p P Q P' Q' u z h k = le-of-mul-le-mul-left (flat p P Q P' Q' u h k) z
+
+-- e ^ t grows with t
+pub below-more : (a a' c P Q : ℕ) → a ≤ a' → Below a c P Q → Below a' c P Q
+below-more a a' c P Q h (n, hn, k) = (n, hn, le-trans k (mul-le-mul-left Q (pow-le-pow-left (more (c * n) a a' h) n)))
+  where
+    more : (x a b : ℕ) → a ≤ b → x + a ≤ x + b
+    more x a b h = omega arith
 
 -- e ^ (a / c) is W / B up to one part in E
 pub record Near (a c W B E : ℕ) : Type 0 where

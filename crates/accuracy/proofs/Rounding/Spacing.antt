@@ -5,15 +5,23 @@ use mathlib.Core.Path.{_≡_, sym, ap, _∙_, subst}
 use mathlib.Core.Logic.{_⊎_, inl, inr}
 use mathlib.Core.Bool.{Bool, true, false, not}
 use Prim.Native.Nat.{ℕ, suc, _+_, _-_, _*_, _^_, _≤_, _<_}
-use native.Mathlib.Nat.{le-refl, le-trans, le-of-eq, le-of-lt, lt-of-le-of-lt, lt-of-lt-of-le, lt-of-not-le, not-le-of-lt}
-use native.Mathlib.Nat.{eq-or-lt-of-le, mul-assoc, mul-le-mul-right, lt-of-mul-lt-mul-right}
+use native.Mathlib.Nat.{le-refl, le-trans, le-of-eq, le-of-lt, lt-of-le-of-lt, lt-of-lt-of-le, lt-of-not-le}
+use native.Mathlib.Nat.{not-le-of-lt, eq-or-lt-of-le, mul-assoc, mul-le-mul-right, lt-of-mul-lt-mul-right}
 use native.Mathlib.Omega.{arith}
 use lib.Dec.{T, leb, leb→le, nleb→lt, lit<}
 use lib.Pow.{pow-add, pow-mono, pow-lt, shl-lt}
 use lib.Ieee.{size}
 use lib.Ieee.Digits.{size-lt, size-le, size-reaches}
 use Rattle.accuracy.specs.Accuracy.{ulp}
-use Rattle.accuracy.proofs.Steps.BesideOneAnswers.{size-mono, ulp-mono}
+
+pub size-mono : (a b : ℕ) → a ≤ b → size a ≤ size b
+size-mono a b h = size-le a (size b) (lt-of-le-of-lt h (size-lt b))
+
+pub ulp-mono : (a b : ℕ) → a ≤ b → ulp a ≤ ulp b
+ulp-mono a b h = pow-mono (less (size a) (size b) (size-mono a b h))
+  where
+    less : (a b : ℕ) → a ≤ b → a - 53 ≤ b - 53
+    less a b h = omega arith
 
 -- W has at most 53 digits, and then zeros: a double has, by `digits-of`
 abbrev pub Digits : ℕ → Type 0

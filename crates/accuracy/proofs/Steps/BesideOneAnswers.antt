@@ -4,22 +4,21 @@ use mathlib.Core.Path.{_≡_, refl, sym, ap, _∙_, subst}
 use mathlib.Core.Logic.{_⊎_, inl, inr}
 use mathlib.Core.Bool.{Bool, true, false, not, cond, true≢false}
 use Prim.Native.Nat.{ℕ, suc, _+_, _-_, _*_, _^_, _≤_, _<_}
-use native.Mathlib.Nat.{le-refl, le-trans, le-of-eq, le-of-lt, lt-of-le-of-lt, not-le-of-lt, lt-of-not-le, le-of-suc-le-suc, mul-le-mul, mul-le-mul-left, mul-le-mul-right, eq-of-mul-eq-mul-right, le-add-right, sub-le}
+use native.Mathlib.Nat.{le-refl, le-trans, le-of-eq, le-of-lt, not-le-of-lt, mul-le-mul, mul-le-mul-left}
+use native.Mathlib.Nat.{mul-le-mul-right, le-add-right, sub-le}
 use native.Mathlib.Omega.{arith}
-use lib.Dec.{T, leb, leb→le, nltb→le, lit≤, lit<, T-not}
-use lib.Ieee.{Float, nan, inf, fin, binary64, up, down, lt, ofBits, size}
-use lib.Ieee.Digits.{size-lt, size-le}
-use lib.Ieee.Fits.{down-pos}
-use lib.Pow.{pow-mono}
+use lib.Dec.{T, leb, leb→le, lit≤, lit<}
+use lib.Ieee.{Float, inf, lt, ofBits, size}
 use Rattle.routines.specs.Held.{atLeast, atMost}
 use Rattle.routines.specs.Constants.{zero as nought, one}
 use Rattle.routines.specs.Exp.{besideOne}
-use Rattle.routines.proofs.Values.{Holds}
-use Rattle.routines.proofs.Compared.{lt-is}
-use Rattle.accuracy.specs.Accuracy.{L, Is, slack, ulp, ofSmall, ofNormal, hundredths, ExpAtMost, ExpAtLeast, Within, InUlps, Answers}
+use Rattle.accuracy.specs.Accuracy.{L, Is, slack, ulp, ofSmall, ofNormal, hundredths, ExpAtMost, ExpAtLeast}
+use Rattle.accuracy.specs.Accuracy.{Within, InUlps, Answers}
 use Rattle.accuracy.proofs.Steps.ValueAnswers.{by-size, ulp-one, finite, infinite}
 use Rattle.accuracy.proofs.Euler.AsClaimed.{reshape, below-one, at-zero}
 use Rattle.accuracy.proofs.Rounding.Binary64.{place-low}
+use Rattle.accuracy.proofs.Rounding.InUnits.{one-is, zero-is, not-less, below-zero, not-below}
+use Rattle.accuracy.proofs.Rounding.Spacing.{ulp-mono}
 
 -- ---- the answer 1
 slack-L : slack L ≡ 0
@@ -101,15 +100,6 @@ high-one s X h = (
 )
 
 -- ---- the places of 1 and of W
-pub size-mono : (a b : ℕ) → a ≤ b → size a ≤ size b
-size-mono a b h = size-le a (size b) (lt-of-le-of-lt h (size-lt b))
-
-pub ulp-mono : (a b : ℕ) → a ≤ b → ulp a ≤ ulp b
-ulp-mono a b h = pow-mono (less (size a) (size b) (size-mono a b h))
-  where
-    less : (a b : ℕ) → a ≤ b → a - 53 ≤ b - 53
-    less a b h = omega arith
-
 pub ulp-L : 2 ^ 52 * ulp L ≡ L
 unfolding L size
 ulp-L = refl
@@ -172,54 +162,6 @@ Huge s X = ExpAtLeast s X L (2 ^ 1024 * 2 ^ 52) (suc (2 ^ 52))
 huge-one : (s : Bool) (X : ℕ) → Huge s X → ExpAtLeast s X L 1 1
 huge-one s X h = reshape (not s) X L (suc (2 ^ 52)) (2 ^ 1024 * 2 ^ 52) 1 1 1 (suc (2 ^ 52)) (lit< tt) (lit≤ tt)
     (lit≤ tt) h
-
-pub one-is : Is one false L
-unfolding L ofBits
-one-is = (refl, refl)
-
-pub zero-is : Is nought false 0
-unfolding L ofBits
-zero-is = (refl, refl)
-
--- ---- the tests
-pub holds : (x : Float) (a : ℕ) → Is x false a → Holds binary64 x a
-unfolding L
-holds nan a h = absurd h
-holds (inf s) a h = absurd h
-holds (fin true m e) a h = absurd (true≢false (h .0))
-holds (fin false m e) a h = record { known = tt; sign = tt; value = h .1 }
-
-pub less-is : (x y : Float) (a b : ℕ) → Is x false a → Is y false b → T (lt x y) → a < b
-less-is x y a b h k t = lt-is binary64 x y a b (holds x a h) (holds y b k) .0 t
-
-pub not-less : (x y : Float) (a b : ℕ) → Is x false a → Is y false b → T (not (lt x y)) → b ≤ a
-not-less x y a b h k t = le-of-suc-le-suc
-    (lt-of-not-le (λ (g : suc a ≤ b). T-not (lt x y) t (lt-is binary64 x y a b (holds x a h) (holds y b k) .1 g)))
-
--- x < 0 is a sign and a size
-pub below-zero : (x : Float) (s : Bool) (X : ℕ) → Is x s X → T (lt x nought) → s ≡ true
-below-zero x true X h t = refl
-below-zero x false X h t = absurd (never X (less-is x nought X 0 h zero-is t))
-  where
-    never : (X : ℕ) → X < 0 → ⊥
-    never X h = omega arith
-
-pub not-below : (x : Float) (s : Bool) (X : ℕ) → Is x s X → T (not (lt x nought)) → (s ≡ false) ⊎ (X ≡ 0)
-unfolding lt ofBits
-not-below x false X h t = inl refl
-not-below nan true X h t = absurd h
-not-below (inf u) true X h t = absurd h
-not-below (fin false m e) true X h t = inl (sym (absurd (true≢false (sym (h .0)))))
-not-below (fin true m e) true X h t = inr
-    (eq-of-mul-eq-mul-right (down e) (down-pos e) X 0
-    (sym (h .1) ∙ ap (λ (z : ℕ). z * L) (nil (m * up e) (down e) (nltb→le 0 (m * up e * 1 + 0 * 1 * down e) t))
-    ∙ none L (down e)))
-  where
-    nil : (a d : ℕ) → a * 1 + 0 * 1 * d ≤ 0 → a ≡ 0
-    nil a d h = omega arith
-
-    none : (l d : ℕ) → 0 * l ≡ 0 * d
-    none l d = omega arith
 
 -- ---- step 8
 -- x < 0: v held to 0 and above, and to 1 and below

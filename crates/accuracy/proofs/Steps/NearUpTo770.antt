@@ -16,7 +16,7 @@ use Rattle.accuracy.proofs.Rounding.AnyFormat.{Sg, plus, less-of}
 use Rattle.accuracy.proofs.Rounding.Binary64.{L, L-pos, Is, pair-of}
 use Rattle.accuracy.proofs.Steps.TableNear.{A, rowAt}
 use Rattle.accuracy.proofs.Euler.AnySign.{Nearly}
-use Rattle.accuracy.proofs.Steps.PartsTogether.{octave, two-up, sharp}
+use Rattle.accuracy.proofs.Steps.PartsTogether.{sharp}
 use Rattle.accuracy.proofs.Steps.Reduction.{hi, lo}
 use Rattle.accuracy.proofs.Steps.SumRounded.{Rounded}
 use Rattle.accuracy.proofs.Steps.NearForIndex.{Scaled, main}
@@ -24,6 +24,7 @@ use Rattle.accuracy.proofs.Steps.TableRows.{row-is}
 use Rattle.accuracy.proofs.Steps.IndexExact.{N0, gap, gap-small, whole-is}
 use Rattle.accuracy.proofs.Steps.IndexBits.{bits-are, row-number, octave-number}
 use Rattle.accuracy.proofs.Euler.EveryN.{said-plus, said-minus}
+use Rattle.accuracy.proofs.Steps.Octaves.{octave, two-up}
 
 lam : hi + lo ≡ A * 2 ^ 978
 unfolding hi lo

@@ -12,10 +12,11 @@ use Rattle.routines.specs.Constants.{zero as nought}
 use Rattle.routines.specs.Exp.{outOfRange}
 use Rattle.routines.proofs.Compared.{le-is}
 use Rattle.accuracy.specs.Accuracy.{L, Is, shifted, slack, ulp, ofSmall, hundredths, ExpAtMost, ExpAtLeast, Answers}
-use Rattle.accuracy.proofs.Steps.PartsTogether.{octave}
 use Rattle.accuracy.proofs.Steps.ValueAnswers.{ulp-one, finite, infinite}
-use Rattle.accuracy.proofs.Euler.AsClaimed.{reshape, far-out}
-use Rattle.accuracy.proofs.Steps.BesideOneAnswers.{Near, Huge, zero-is, holds, below-zero, not-below}
+use Rattle.accuracy.proofs.Euler.AsClaimed.{reshape}
+use Rattle.accuracy.proofs.Steps.BesideOneAnswers.{Near, Huge}
+use Rattle.accuracy.proofs.Steps.Octaves.{octave, far-out}
+use Rattle.accuracy.proofs.Rounding.InUnits.{zero-is, holds, below-zero, not-below}
 
 far-number : (suc (2 ^ 80) * (2 * L) ≤ 2 ^ 1099 * 2 ^ 80) × (suc (2 ^ 80) * 2 ^ 1024 ≤ 2 ^ 1099 * 2 ^ 80)
 unfolding L

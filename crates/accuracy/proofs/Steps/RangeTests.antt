@@ -4,41 +4,28 @@ use mathlib.Core.Path.{_≡_, refl, sym, _∙_, subst}
 use mathlib.Core.Logic.{inl, inr}
 use mathlib.Core.Bool.{Bool, true, false, not, true≢false}
 use Prim.Native.Nat.{ℕ, suc, _+_, _*_, _/_, _^_, _≤_, _<_}
-use native.Mathlib.Nat.{le-trans, le-of-suc-le-suc, lt-of-not-le, le-of-eq, le-of-lt, mul-pos, mul-le-mul-left, mul-le-mul-right, le-of-mul-le-mul-left, le-of-mul-le-mul-right, eq-of-mul-eq-mul-right, mul-comm}
+use native.Mathlib.Nat.{le-trans, le-of-suc-le-suc, lt-of-not-le, le-of-eq, le-of-lt, mul-pos, mul-le-mul-left}
+use native.Mathlib.Nat.{mul-le-mul-right, le-of-mul-le-mul-left, le-of-mul-le-mul-right, mul-comm}
 use native.Mathlib.Omega.{arith}
 use lib.Dec.{T, leb, ltb, leb→le, nleb→lt, ltb→lt, nltb→le, lit≤, lit<}
-use lib.Ieee.{Float, nan, inf, fin, binary64, down, unlike, round, add, mul, le, fits, ofBits, size, sub}
+use lib.Ieee.{Float, nan, inf, fin, binary64, down, unlike, round, add, mul, le, ofBits, size, sub}
 use lib.Ieee.Exact.{HasValue}
-use lib.Ieee.Fits.{add-fits, mul-fits, down-pos}
+use lib.Ieee.Fits.{add-fits, mul-fits}
 use lib.Ieee.Order.{le-of-values}
 use lib.Ieee.Positive.{positive, between, values-of-le, positive-finite}
 use lib.Ieee.Scale.{finite, grid}
 use Rattle.routines.specs.Exp.{PER-STEP, SHIFT, LEAST, MOST}
-use Rattle.routines.specs.Units.{unitsIn}
 use Rattle.routines.specs.Units.{Off}
 use Rattle.routines.proofs.Rounding.{Half, rounded, rounded-off, grid-relative, grid-absolute}
-use Rattle.routines.proofs.Values.{has-units}
 use Rattle.accuracy.specs.Accuracy.{L, Is}
 use Rattle.accuracy.proofs.Rounding.AnyFormat.{Sg, plus, less-of, add-is, mul-is, plus-le, less-le}
 use Rattle.accuracy.proofs.Rounding.Binary64.{L-pos, e, pair-of}
 use Rattle.accuracy.proofs.Steps.Reduction.{hi, lo}
-use Rattle.accuracy.proofs.Steps.PartsTogether.{octave}
+use Rattle.accuracy.proofs.Steps.Octaves.{octave}
 use Rattle.accuracy.proofs.Steps.IndexExact.{N0, inv, inv-is, inv-size, she-is, gap, Whole, whole-is}
 use Rattle.accuracy.proofs.Steps.NearUpTo770.{tee, octave-is}
 use Rattle.accuracy.proofs.Rounding.TimesPowerOfTwo.{round-either}
-
--- ---- every finite double is a number of units
-pub units-of : (x : Float) → T (fits binary64 x) → T (finite x) → (s : Bool) × (X : ℕ) × Is x s X
-unfolding L
-units-of nan f k = absurd k
-units-of (inf s) f k = absurd k
-units-of (fin s m e) f k = (s, unitsIn binary64 (fin s m e), (refl, has-units binary64 (fin s m e) f k))
-
-pub unique : (x : Float) (s s' : Bool) (a b c : ℕ) → 0 < c → HasValue x s a c → HasValue x s' b c → (s ≡ s') × (a ≡ b)
-unique nan s s' a b c h v w = absurd v
-unique (inf t) s s' a b c h v w = absurd v
-unique (fin t m e) s s' a b c h v w =
-    (sym (v .0) ∙ w .0, eq-of-mul-eq-mul-right (down e) (down-pos e) a b (sym (v .1) ∙ w .1))
+use Rattle.accuracy.proofs.Rounding.InUnits.{unique, units-of}
 
 -- ---- the bounds
 least-is : Is LEAST false (6755399441086016 * L)

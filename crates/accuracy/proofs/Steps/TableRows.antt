@@ -13,9 +13,10 @@ use Rattle.accuracy.proofs.Rounding.Binary64.{L, L-pos, Is, pair-of}
 use Rattle.accuracy.proofs.Euler.Weaker.{Near}
 use Rattle.accuracy.proofs.Steps.TableNear.{A, C, good, top, bottom, table-near, rowAt, each-row}
 use Rattle.accuracy.proofs.Euler.AnySign.{Nearly, nearly-plus}
-use Rattle.accuracy.proofs.Steps.PartsTogether.{near-stretch, stretchL}
 use Rattle.accuracy.proofs.Steps.NearForIndex.{Row}
 use Rattle.meaning.specs.Table.{wrong}
+use Rattle.accuracy.proofs.Euler.Powers.{near-stretch}
+use Rattle.accuracy.proofs.Steps.Octaves.{stretchL}
 
 sign : Float → Bool
 sign nan = false
