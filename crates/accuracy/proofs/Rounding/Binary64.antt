@@ -31,21 +31,21 @@ wide : (j : ℕ) → 2 ^ (54 + j) ≡ 2 ^ 54 * bit j
 unfolding bit
 wide j = pow-add 2 54 j
 
-pub mul-u : (x y : Float) (s t : Bool) (a b j : ℕ) → Is x s a → Is y t b → 55 + j ≤ 2098
+mul-within-bit : (x y : Float) (s t : Bool) (a b j : ℕ) → Is x s a → Is y t b → 55 + j ≤ 2098
     → a * b < L * (2 ^ 54 * bit j)
     → (g : ℕ) × Is (mul binary64 x y) (unlike s t) g × Close (g * L) (a * b) (L * bit j)
 unfolding L bit
-mul-u x y s t a b j h k o l = mul-mag binary64 x y s t a b j h k (le-trans (le-of-eq (same j)) o)
+mul-within-bit x y s t a b j h k o l = mul-mag binary64 x y s t a b j h k (le-trans (le-of-eq (same j)) o)
     (subst (λ (z : ℕ). a * b < L * z) (sym (wide j)) l)
   where
     same : (j : ℕ) → suc (54 + j) ≡ 55 + j
     same j = omega arith
 
-pub add-s : (x y : Float) (p m p' m' j : ℕ) → Pair x p m → Pair y p' m' → 55 + j ≤ 2098
+add-signed-bit : (x y : Float) (p m p' m' j : ℕ) → Pair x p m → Pair y p' m' → 55 + j ≤ 2098
     → p + p' < m + m' + 2 ^ 54 * bit j → m + m' < p + p' + 2 ^ 54 * bit j
     → (s : Bool) × (g : ℕ) × Is (add binary64 x y) s g × Close (plus s g + (m + m')) (p + p' + less-of s g) (bit j)
 unfolding L bit
-add-s x y p m p' m' j h k o b1 b2 =
+add-signed-bit x y p m p' m' j h k o b1 b2 =
     let r = add-val binary64 x y p m p' m' j h k (le-trans (le-of-eq (same j)) o)
     (subst (λ (z : ℕ). p + p' < m + m' + z) (sym (wide j)) b1)
     (subst (λ (z : ℕ). m + m' < p + p' + z) (sym (wide j)) b2) in
@@ -54,24 +54,24 @@ add-s x y p m p' m' j h k o b1 b2 =
     same : (j : ℕ) → suc (54 + j) ≡ 55 + j
     same j = omega arith
 
-pub sub-s : (x y : Float) (p m p' m' j : ℕ) → Pair x p m → Pair y p' m' → 55 + j ≤ 2098
+sub-signed-bit : (x y : Float) (p m p' m' j : ℕ) → Pair x p m → Pair y p' m' → 55 + j ≤ 2098
     → p + m' < m + p' + 2 ^ 54 * bit j → m + p' < p + m' + 2 ^ 54 * bit j
     → (s : Bool) × (g : ℕ) × Is (sub binary64 x y) s g × Close (plus s g + (m + p')) (p + m' + less-of s g) (bit j)
-sub-s x y p m p' m' j h k o b1 b2 =
-    let r = add-s x (neg y) p m m' p' j h (neg-val binary64 y p' m' k) o b1 b2 in
+sub-signed-bit x y p m p' m' j h k o b1 b2 =
+    let r = add-signed-bit x (neg y) p m m' p' j h (neg-val binary64 y p' m' k) o b1 b2 in
     (r .0, r .1, subst (λ (z : Float). Is z (r .0) (r .1)) (sym (sub-opened binary64 x y)) (r .2), r .3)
 
 -- a sum that is above its error is positive
-pub add-u : (x y : Float) (p m p' m' j : ℕ) → Pair x p m → Pair y p' m' → 55 + j ≤ 2098
+add-within-bit : (x y : Float) (p m p' m' j : ℕ) → Pair x p m → Pair y p' m' → 55 + j ≤ 2098
     → p + p' < m + m' + 2 ^ 54 * bit j → m + m' + bit j < p + p'
     → (g : ℕ) × Is (add binary64 x y) false g × Close (g + (m + m')) (p + p') (bit j)
-add-u x y p m p' m' j h k o b1 b2 = go (r .0) (r .1) (r .2) (r .3)
+add-within-bit x y p m p' m' j h k o b1 b2 = go (r .0) (r .1) (r .2) (r .3)
   where
     less2 : (a b e z : ℕ) → a + e < b → a < b + z
     less2 a b e z h = omega arith
 
     r : (s : Bool) × (g : ℕ) × Is (add binary64 x y) s g × Close (plus s g + (m + m')) (p + p' + less-of s g) (bit j)
-    r = add-s x y p m p' m' j h k o b1 (less2 (m + m') (p + p') (bit j) (2 ^ 54 * bit j) b2)
+    r = add-signed-bit x y p m p' m' j h k o b1 (less2 (m + m') (p + p') (bit j) (2 ^ 54 * bit j) b2)
 
     go : (s : Bool) (g : ℕ) → Is (add binary64 x y) s g → Close (plus s g + (m + m')) (p + p' + less-of s g) (bit j)
         → (g : ℕ) × Is (add binary64 x y) false g × Close (g + (m + m')) (p + p') (bit j)
@@ -99,9 +99,9 @@ pub halves : 2 * (2 ^ 79 * e) ≡ L
 unfolding L e
 halves = refl
 
-pub x20 : 64 * (2 ^ 54 * (2 ^ 20 * e)) ≡ L
+pub sixty-fourth : 64 * (2 ^ 54 * (2 ^ 20 * e)) ≡ L
 unfolding L e
-x20 = refl
+sixty-fourth = refl
 
 -- an error of 2 ^ k e is small against 1
 pub small-e : (k : ℕ) → k ≤ 60 → 1048576 * (2 ^ k * e) ≤ L
@@ -132,9 +132,9 @@ place-low n h = le-trans (le-of-eq (sym (pow-add 2 52 (size n - 53))))
     full z h = omega arith
 
 -- ---- bounds of products
-pub fit : (n1 m1 n2 m2 a b L X : ℕ) → 0 < L → n1 * a ≤ m1 * L → n2 * b ≤ m2 * L → m1 * m2 * L < n1 * n2 * X
+pub product-below : (n1 m1 n2 m2 a b L X : ℕ) → 0 < L → n1 * a ≤ m1 * L → n2 * b ≤ m2 * L → m1 * m2 * L < n1 * n2 * X
     → a * b < L * X
-fit n1 m1 n2 m2 a b L X hL h k l =
+product-below n1 m1 n2 m2 a b L X hL h k l =
     lt-of-mul-lt-mul-right (n1 * n2) (lt-of-le-of-lt
     (le-trans (le-of-eq (e1 n1 n2 a b)) (le-trans (mul-le-mul h k) (le-of-eq (e2 m1 m2 L))))
     (lt-of-lt-of-le (mul-lt-mul-of-pos-right l hL) (le-of-eq (e3 n1 n2 X L))))
@@ -149,9 +149,9 @@ fit n1 m1 n2 m2 a b L X hL h k l =
     e3 n1 n2 X L = omega arith
 
 -- g is a b / L up to w
-pub sized-by : (n1 m1 n2 m2 a b g w L : ℕ) → 0 < L → n1 * a ≤ m1 * L → n2 * b ≤ m2 * L → g * L ≤ a * b + L * w
+pub product-at-most : (n1 m1 n2 m2 a b g w L : ℕ) → 0 < L → n1 * a ≤ m1 * L → n2 * b ≤ m2 * L → g * L ≤ a * b + L * w
     → n1 * n2 * g ≤ m1 * m2 * L + n1 * n2 * w
-sized-by n1 m1 n2 m2 a b g w L hL h k l =
+product-at-most n1 m1 n2 m2 a b g w L hL h k l =
     le-of-mul-le-mul-left
     (flat n1 n2 (m1 * m2) a b g w L (le-trans (le-of-eq (mul-mul-mul-comm n1 n2 a b))
     (le-trans (mul-le-mul h k) (le-of-eq (e2 m1 m2 L)))) (mul-le-mul-left (n1 * n2) l)) hL
@@ -163,33 +163,36 @@ sized-by n1 m1 n2 m2 a b g w L hL h k l =
         → L * (n1 * n2 * g) ≤ L * (m * L + n1 * n2 * w)
     flat n1 n2 m a b g w L h k = omega arith
 
-pub mul-w : (x y : Float) (s t : Bool) (a b w : ℕ) → Power w → Is x s a → Is y t b → a * b < L * (2 ^ 54 * w)
+pub mul-within : (x y : Float) (s t : Bool) (a b w : ℕ) → Power w → Is x s a → Is y t b → a * b < L * (2 ^ 54 * w)
     → (g : ℕ) × Is (mul binary64 x y) (unlike s t) g × Close (g * L) (a * b) (L * w)
-mul-w x y s t a b w u h k l =
+mul-within x y s t a b w u h k l =
     subst (λ (z : ℕ). (g : ℕ) × Is (mul binary64 x y) (unlike s t) g × Close (g * L) (a * b) (L * z)) (u .is)
-    (mul-u x y s t a b (u .at) h k (u .low) (subst (λ (z : ℕ). a * b < L * (2 ^ 54 * z)) (sym (u .is)) l))
+    (mul-within-bit x y s t a b (u .at) h k (u .low) (subst (λ (z : ℕ). a * b < L * (2 ^ 54 * z)) (sym (u .is)) l))
 
-pub add-w : (x y : Float) (p m p' m' w : ℕ) → Power w → Pair x p m → Pair y p' m' → p + p' < m + m' + 2 ^ 54 * w
+pub add-within : (x y : Float) (p m p' m' w : ℕ) → Power w → Pair x p m → Pair y p' m' → p + p' < m + m' + 2 ^ 54 * w
     → m + m' + w < p + p' → (g : ℕ) × Is (add binary64 x y) false g × Close (g + (m + m')) (p + p') w
-add-w x y p m p' m' w u h k b1 b2 =
+add-within x y p m p' m' w u h k b1 b2 =
     subst (λ (z : ℕ). (g : ℕ) × Is (add binary64 x y) false g × Close (g + (m + m')) (p + p') z) (u .is)
-    (add-u x y p m p' m' (u .at) h k (u .low) (subst (λ (z : ℕ). p + p' < m + m' + 2 ^ 54 * z) (sym (u .is)) b1)
+    (add-within-bit x y p m p' m' (u .at) h k (u .low)
+    (subst (λ (z : ℕ). p + p' < m + m' + 2 ^ 54 * z) (sym (u .is)) b1)
     (subst (λ (z : ℕ). m + m' + z < p + p') (sym (u .is)) b2))
 
-pub add-sw : (x y : Float) (p m p' m' w : ℕ) → Power w → Pair x p m → Pair y p' m' → p + p' < m + m' + 2 ^ 54 * w
+pub add-signed : (x y : Float) (p m p' m' w : ℕ) → Power w → Pair x p m → Pair y p' m' → p + p' < m + m' + 2 ^ 54 * w
     → m + m' < p + p' + 2 ^ 54 * w
     → (s : Bool) × (g : ℕ) × Is (add binary64 x y) s g × Close (plus s g + (m + m')) (p + p' + less-of s g) w
-add-sw x y p m p' m' w u h k b1 b2 =
+add-signed x y p m p' m' w u h k b1 b2 =
     subst (λ (z : ℕ). (s : Bool) × (g : ℕ) × Is (add binary64 x y) s g × Close (plus s g + (m + m'))
     (p + p' + less-of s g) z) (u .is)
-    (add-s x y p m p' m' (u .at) h k (u .low) (subst (λ (z : ℕ). p + p' < m + m' + 2 ^ 54 * z) (sym (u .is)) b1)
+    (add-signed-bit x y p m p' m' (u .at) h k (u .low)
+    (subst (λ (z : ℕ). p + p' < m + m' + 2 ^ 54 * z) (sym (u .is)) b1)
     (subst (λ (z : ℕ). m + m' < p + p' + 2 ^ 54 * z) (sym (u .is)) b2))
 
-pub sub-sw : (x y : Float) (p m p' m' w : ℕ) → Power w → Pair x p m → Pair y p' m' → p + m' < m + p' + 2 ^ 54 * w
+pub sub-signed : (x y : Float) (p m p' m' w : ℕ) → Power w → Pair x p m → Pair y p' m' → p + m' < m + p' + 2 ^ 54 * w
     → m + p' < p + m' + 2 ^ 54 * w
     → (s : Bool) × (g : ℕ) × Is (sub binary64 x y) s g × Close (plus s g + (m + p')) (p + m' + less-of s g) w
-sub-sw x y p m p' m' w u h k b1 b2 =
+sub-signed x y p m p' m' w u h k b1 b2 =
     subst (λ (z : ℕ). (s : Bool) × (g : ℕ) × Is (sub binary64 x y) s g × Close (plus s g + (m + p'))
     (p + m' + less-of s g) z) (u .is)
-    (sub-s x y p m p' m' (u .at) h k (u .low) (subst (λ (z : ℕ). p + m' < m + p' + 2 ^ 54 * z) (sym (u .is)) b1)
+    (sub-signed-bit x y p m p' m' (u .at) h k (u .low)
+    (subst (λ (z : ℕ). p + m' < m + p' + 2 ^ 54 * z) (sym (u .is)) b1)
     (subst (λ (z : ℕ). m + p' < p + m' + 2 ^ 54 * z) (sym (u .is)) b2))

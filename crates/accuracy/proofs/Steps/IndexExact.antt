@@ -13,7 +13,8 @@ use lib.Ieee.Exact.{round-exact}
 use lib.Ieee.Fits.{add-fits}
 use Rattle.routines.specs.Exp.{PER-STEP, SHIFT}
 use Rattle.accuracy.proofs.Rounding.AnyFormat.{Close, Sg, plus, less-of, add-is, neg-val, sub-opened, plus-le, less-le, unlike-plus}
-use Rattle.accuracy.proofs.Rounding.Binary64.{L, e, L-pos, Is, power, pair-of, mul-w, add-w, fit, small-e}
+use Rattle.accuracy.proofs.Rounding.Binary64.{L, e, L-pos, Is, power, pair-of, mul-within, add-within}
+use Rattle.accuracy.proofs.Rounding.Binary64.{product-below, small-e}
 use Rattle.accuracy.proofs.Rounding.Binary64.{halves}
 use Rattle.accuracy.proofs.Steps.Reduction.{hi, lo, sign-close}
 use Rattle.routines.proofs.Sizes.{large}
@@ -29,9 +30,9 @@ pub inv-is : Is PER-STEP false inv
 unfolding L inv ofBits
 inv-is = (refl, refl)
 
-pub she-is : Is SHIFT false (N0 * L)
+pub shift-is : Is SHIFT false (N0 * L)
 unfolding L ofBits
-she-is = (refl, refl)
+shift-is = (refl, refl)
 
 pub inv-size : (46 * L ≤ inv) × (inv ≤ 47 * L)
 unfolding L inv
@@ -107,7 +108,7 @@ whole-sub : (x : Float) (N : ℕ) → Is x false (N * L) → N ≤ N0 + 36192 �
 unfolding L
 whole-sub x N h a b =
     let q = add-is binary64 x (neg SHIFT) (N * L) 0 0 (N0 * L) (pair-of x false (N * L) h)
-    (neg-val binary64 SHIFT (N0 * L) 0 (pair-of SHIFT false (N0 * L) she-is)) in
+    (neg-val binary64 SHIFT (N0 * L) 0 (pair-of SHIFT false (N0 * L) shift-is)) in
     let k = diff (q .0) (q .1) N N0 L L-pos (q .3) in
     let few : k .0 ≤ 36192 = small (q .0) (k .0) N N0 a b (k .2) in
     let v = round-exact binary64 (q .0) (k .0 * L) L (k .0) 1074 L-pos (lt-of-le-of-lt few (lit< tt))
@@ -222,8 +223,8 @@ pub record Whole (t k : Float) (xp xm : ℕ) : Type 0 where
 module _ (x : Float) (s : Bool) (X : ℕ) (hx : Is x s X) (range : X ≤ 770 * L) where
   q : (g : ℕ) × Is (mul binary64 x PER-STEP) s g × Close (g * L) (X * inv) (L * (2 ^ 42 * e))
   q =
-      let p = mul-w x PER-STEP s false X inv (2 ^ 42 * e) (power 42 (lit≤ tt)) hx inv-is
-      (fit 1 770 1 47 X inv L (2 ^ 54 * (2 ^ 42 * e)) L-pos (le-trans (le-of-eq (one-mul X)) range)
+      let p = mul-within x PER-STEP s false X inv (2 ^ 42 * e) (power 42 (lit≤ tt)) hx inv-is
+      (product-below 1 770 1 47 X inv L (2 ^ 54 * (2 ^ 42 * e)) L-pos (le-trans (le-of-eq (one-mul X)) range)
       (le-trans (le-of-eq (one-mul inv)) (inv-size .1)) q-number) in
       (p .0, subst (λ (b : Bool). Is (mul binary64 x PER-STEP) b (p .0)) (unlike-plus s) (p .1), p .2)
 
@@ -237,8 +238,8 @@ module _ (x : Float) (s : Bool) (X : ℕ) (hx : Is x s X) (range : X ≤ 770 * L
 
   t : (g : ℕ) × Is (add binary64 (mul binary64 x PER-STEP) SHIFT) false g
       × Close (g + (less-of s (q .0) + 0)) (plus s (q .0) + N0 * L) (2 ^ 79 * e)
-  t = add-w (mul binary64 x PER-STEP) SHIFT (plus s (q .0)) (less-of s (q .0)) (N0 * L) 0 (2 ^ 79 * e) (power 79 (lit≤ tt))
-      (pair-of (mul binary64 x PER-STEP) s (q .0) (q .1)) (pair-of SHIFT false (N0 * L) she-is)
+  t = add-within (mul binary64 x PER-STEP) SHIFT (plus s (q .0)) (less-of s (q .0)) (N0 * L) 0 (2 ^ 79 * e)
+      (power 79 (lit≤ tt)) (pair-of (mul binary64 x PER-STEP) s (q .0) (q .1)) (pair-of SHIFT false (N0 * L) shift-is)
       (a L (q .0) (plus s (q .0)) (less-of s (q .0)) (2 ^ 54 * (2 ^ 79 * e)) L-pos X79 q-small (plus-le s (q .0)))
       (b L (q .0) (plus s (q .0)) (less-of s (q .0)) (2 ^ 79 * e) L-pos halves q-small (less-le s (q .0)))
     where

@@ -11,9 +11,9 @@ use Rattle.accuracy.proofs.Rounding.AnyFormat.{plus, less-of, plus-le, 
 use Rattle.accuracy.proofs.Rounding.Binary64.{L, Is, Pair, Power, pair-of}
 use Rattle.accuracy.proofs.Steps.TableNear.{good}
 use Rattle.accuracy.proofs.Euler.AnySign.{Nearly}
-use Rattle.accuracy.proofs.Steps.SumRounded.{Rounded, Seventh, seventh}
+use Rattle.accuracy.proofs.Steps.SumRounded.{Rounded, Seventh, sum-rounded}
 use Rattle.accuracy.proofs.Steps.TailNear.{Poly, poly-plus-all, poly-minus-all}
-use Rattle.accuracy.proofs.Steps.SumNear.{last, core}
+use Rattle.accuracy.proofs.Steps.SumNear.{last, sum-near}
 use Rattle.accuracy.proofs.Steps.Reduction.{hi, lo, Reduced, reduced-is}
 use Rattle.accuracy.proofs.Steps.PartsTogether.{sharp, together}
 
@@ -75,7 +75,7 @@ module _ (x k y d : Float) (xp xm : ℕ) (s : Bool) (K b : ℕ) (hx : Pair x xp 
   po = poly r (rd .sign) (rd .R) (rd .is) (rd .small)
 
   sev : Seventh (scaledBy y d r (expTail r)) Y dp dm rp rm (po .H) w
-  sev = seventh y d r (expTail r) Y dp dm rp rm (po .H) w (sc .power) (sc .is) (row .held)
+  sev = sum-rounded y d r (expTail r) Y dp dm rp rm (po .H) w (sc .power) (sc .is) (row .held)
       (pair-of r (rd .sign) (rd .R) (rd .is)) (po .is) (sc .from) (sc .to) (sc .pos) (sc .top)
       (less dp L (row .small .0), less dm L (row .small .1)) r-small (po .small)
     where
@@ -83,14 +83,14 @@ module _ (x k y d : Float) (xp xm : ℕ) (s : Bool) (K b : ℕ) (hx : Pair x xp 
       less d L h = omega arith
 
   cr : Nearly (sp + rp) (0 + rm) L (tn * sev .n) (td * Y) last × (0 < sev .n)
-  cr = core (scaledBy y d r (expTail r)) (expTail r) Y dp dm rp rm w (row .D) (row .W) (row .B) tn td sp po sev
+  cr = sum-near (scaledBy y d r (expTail r)) (expTail r) Y dp dm rp rm w (row .D) (row .W) (row .B) tn td sp po sev
       (sc .from) (sc .pos) (row .small) (row .sum) r-small (row .is) (row .W-pos) (row .B-pos) (row .tn-pos)
       (row .td-pos) (row .near)
 
   -- THE THEOREM: step 7's value is n units, rounded, and with 2 ^ M = P / Q: e ^ x is 2 ^ M T n / y up to 1 / sharp
-  pub main : (n : ℕ) × Rounded (scaledBy y d (reduced x k) (expTail (reduced x k))) n
+  pub near-for-index : (n : ℕ) × Rounded (scaledBy y d (reduced x k) (expTail (reduced x k))) n
       × Nearly xp xm L (P * (tn * n)) (Q * (td * Y)) sharp
-  main =
+  near-for-index =
       let Pp = plus s (K * hi + K * lo) in
       let Mm = less-of s (K * hi + K * lo) in (
         sev .n,

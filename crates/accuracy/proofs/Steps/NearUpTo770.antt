@@ -19,7 +19,7 @@ use Rattle.accuracy.proofs.Euler.AnySign.{Nearly}
 use Rattle.accuracy.proofs.Steps.PartsTogether.{sharp}
 use Rattle.accuracy.proofs.Steps.Reduction.{hi, lo}
 use Rattle.accuracy.proofs.Steps.SumRounded.{Rounded}
-use Rattle.accuracy.proofs.Steps.NearForIndex.{Scaled, main}
+use Rattle.accuracy.proofs.Steps.NearForIndex.{Scaled, near-for-index}
 use Rattle.accuracy.proofs.Steps.TableRows.{row-is}
 use Rattle.accuracy.proofs.Steps.IndexExact.{N0, gap, gap-small, whole-is}
 use Rattle.accuracy.proofs.Steps.IndexBits.{bits-are, row-number, octave-number}
@@ -37,7 +37,7 @@ octave-is = refl
 steps-is : (i : ℕ) → i * A * 2 ^ 978 ≡ i * (hi + lo)
 steps-is i = mul-assoc i A (2 ^ 978) ∙ ap (λ (z : ℕ). i * z) (sym lam)
 
--- k and what is known of it, in the form that `main` wants
+-- k and what is known of it, in the form that `near-for-index` wants
 near-a : (r : Bool) (K N z h l xp xm g : ℕ) → Sg r K N z → xp + z * (h + l) ≤ xm + N * (h + l) + g
     → xp + less-of r (K * h + K * l) ≤ xm + plus r (K * h + K * l) + g
 near-a false K N z h l xp xm g q c = go K z h l xp xm g (subst (λ (n : ℕ). xp + z * (h + l) ≤ xm + n * (h + l) + g) q c)
@@ -186,8 +186,8 @@ exp-computes x s X hx range =
       octaves-few = subst (λ (u : ℕ). (900 ≤ u) × (u ≤ 3200)) (sym (octave-number (k .N))
           ∙ ap (λ (u : ℕ). u / 32 % 4096) (sym bits)) (middle (k .sign) (k .K) (k .N) (k .few) (k .pair));
       near = λ (y : Float) (Y w : ℕ) (sc : Scaled y Y w).
-          let m = main x (kOf x) y (restIn (rowAt i)) (plus s X) (less-of s X) (k .sign) (k .K) gap (pair-of x s X hx)
-          (k .is) (le-trans (k .few) (lit≤ tt)) gap-small
+          let m = near-for-index x (kOf x) y (restIn (rowAt i)) (plus s X) (less-of s X) (k .sign) (k .K) gap
+          (pair-of x s X hx) (k .is) (le-trans (k .few) (lit≤ tt)) gap-small
           (near-a (k .sign) (k .K) (k .N) N0 hi lo (plus s X) (less-of s X) gap (k .pair) (k .near1))
           (near-b (k .sign) (k .K) (k .N) N0 hi lo (plus s X) (less-of s X) gap (k .pair) (k .near2))
           (r .0) (r .1) (num (valueIn (rowAt i))) (den (valueIn (rowAt i))) (i * A * 2 ^ 978) Y w (r .2) sc (o .tp)

@@ -22,7 +22,7 @@ use Rattle.accuracy.proofs.Rounding.AnyFormat.{Sg, plus, less-of, add-i
 use Rattle.accuracy.proofs.Rounding.Binary64.{L-pos, e, pair-of}
 use Rattle.accuracy.proofs.Steps.Reduction.{hi, lo}
 use Rattle.accuracy.proofs.Steps.Octaves.{octave}
-use Rattle.accuracy.proofs.Steps.IndexExact.{N0, inv, inv-is, inv-size, she-is, gap, Whole, whole-is}
+use Rattle.accuracy.proofs.Steps.IndexExact.{N0, inv, inv-is, inv-size, shift-is, gap, Whole, whole-is}
 use Rattle.accuracy.proofs.Steps.NearUpTo770.{tee, octave-is}
 use Rattle.accuracy.proofs.Rounding.TimesPowerOfTwo.{round-either}
 use Rattle.accuracy.proofs.Rounding.InUnits.{unique, units-of}
@@ -186,7 +186,7 @@ sum-rounds : (q : Float) (s : Bool) (g : ℕ) → Is q s g
     × Sg r n (plus s g + N0 * L) (less-of s g + 0)
 unfolding L
 sum-rounds q s g h = add-is binary64 q SHIFT (plus s g) (less-of s g) (N0 * L) 0 (pair-of q s g h)
-    (pair-of SHIFT false (N0 * L) she-is)
+    (pair-of SHIFT false (N0 * L) shift-is)
 
 pub passed : (x : Float) (s : Bool) (X : ℕ) → Is x s X → T (le LEAST (tee x)) → T (le (tee x) MOST) → X ≤ 770 * L
 passed x s X hx a b =

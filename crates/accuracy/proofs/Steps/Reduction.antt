@@ -13,7 +13,8 @@ use lib.Ieee.Exact.{HasValue, round-exact}
 use Rattle.routines.specs.Exp.{STEP-HIGH, STEP-LOW, reduced}
 use Rattle.accuracy.proofs.Rounding.AnyFormat.{Close, plus, less-of, mul-is, plus-le, less-le, unlike-plus}
 use Rattle.accuracy.proofs.Rounding.AnyFormat.{lower}
-use Rattle.accuracy.proofs.Rounding.Binary64.{L, e, L-pos, Is, Pair, power, pair-of, mul-w, sub-sw, small-e, x20}
+use Rattle.accuracy.proofs.Rounding.Binary64.{L, e, L-pos, Is, Pair, power, pair-of, mul-within, sub-signed}
+use Rattle.accuracy.proofs.Rounding.Binary64.{small-e, sixty-fourth}
 
 -- the two parts in units
 unfoldable pub hi : ℕ
@@ -64,7 +65,7 @@ lo-tiny = lit≤ tt
 k-lo : (k : Float) (s : Bool) (K : ℕ) → Is k s (K * L) → K ≤ 65536
     → (g : ℕ) × Is (mul binary64 k STEP-LOW) s g × Close g (K * lo) e
 k-lo k s K hk small =
-    let p = mul-w k STEP-LOW s false (K * L) lo (2 ^ 0 * e) (power 0 (lit≤ tt)) hk lo-is
+    let p = mul-within k STEP-LOW s false (K * L) lo (2 ^ 0 * e) (power 0 (lit≤ tt)) hk lo-is
     (fits K L lo (2 ^ 54 * (2 ^ 0 * e)) L-pos (lt-of-le-of-lt (mul-le-mul-right lo small) lo-small)) in (
       p .0,
       subst (λ (b : Bool). Is (mul binary64 k STEP-LOW) b (p .0)) (unlike-plus s) (p .1),
@@ -113,14 +114,14 @@ module _ (x k : Float) (xp xm : ℕ) (s : Bool) (K b : ℕ) (hx : Pair x xp xm) 
 
   first : (t : Bool) × (g : ℕ) × Is (sub binary64 x (mul binary64 k STEP-HIGH)) t g
       × Close (plus t g + (xm + plus s (K * hi))) (xp + less-of s (K * hi) + less-of t g) (2 ^ 20 * e)
-  first = sub-sw x (mul binary64 k STEP-HIGH) xp xm (plus s (K * hi)) (less-of s (K * hi)) (2 ^ 20 * e) (power 20 (lit≤ tt))
-      hx (pair-of (mul binary64 k STEP-HIGH) s (K * hi) (k-hi k s K hk small))
+  first = sub-signed x (mul binary64 k STEP-HIGH) xp xm (plus s (K * hi)) (less-of s (K * hi)) (2 ^ 20 * e)
+      (power 20 (lit≤ tt)) hx (pair-of (mul binary64 k STEP-HIGH) s (K * hi) (k-hi k s K hk small))
       (a L b xp xm (plus s (K * hi)) (less-of s (K * hi)) (plus s (K * lo)) (less-of s (K * lo))
-      (plus s (K * hi + K * lo)) (less-of s (K * hi + K * lo)) (K * lo) (2 ^ 54 * (2 ^ 20 * e)) L-pos b-small x20
-      tiny (plus-le s (K * lo)) (plus-add s (K * hi) (K * lo)) (less-add s (K * hi) (K * lo)) near1)
+      (plus s (K * hi + K * lo)) (less-of s (K * hi + K * lo)) (K * lo) (2 ^ 54 * (2 ^ 20 * e)) L-pos b-small
+      sixty-fourth tiny (plus-le s (K * lo)) (plus-add s (K * hi) (K * lo)) (less-add s (K * hi) (K * lo)) near1)
       (c L b xp xm (plus s (K * hi)) (less-of s (K * hi)) (plus s (K * lo)) (less-of s (K * lo))
-      (plus s (K * hi + K * lo)) (less-of s (K * hi + K * lo)) (K * lo) (2 ^ 54 * (2 ^ 20 * e)) L-pos b-small x20
-      tiny (less-le s (K * lo)) (plus-add s (K * hi) (K * lo)) (less-add s (K * hi) (K * lo)) near2)
+      (plus s (K * hi + K * lo)) (less-of s (K * hi + K * lo)) (K * lo) (2 ^ 54 * (2 ^ 20 * e)) L-pos b-small
+      sixty-fourth tiny (less-le s (K * lo)) (plus-add s (K * hi) (K * lo)) (less-add s (K * hi) (K * lo)) near2)
     where
       a : (L b xp xm hp hm lp lm P M t X : ℕ) → 0 < L → 10000 * b ≤ 109 * L → 64 * X ≡ L → 1048576 * t ≤ L → lp ≤ t
           → P ≡ hp + lp → M ≡ hm + lm → xp + M ≤ xm + P + b → xp + hm < xm + hp + X
@@ -172,16 +173,16 @@ module _ (x k : Float) (xp xm : ℕ) (s : Bool) (K b : ℕ) (hx : Pair x xp xm) 
   third : (t : Bool) × (g : ℕ) × Is (sub binary64 (sub binary64 x (mul binary64 k STEP-HIGH)) (mul binary64 k STEP-LOW)) t g
       × Close (plus t g + (less-of (first .0) (first .1) + plus s (second .0))) (plus (first .0) (first .1)
       + less-of s (second .0) + less-of t g) (2 ^ 20 * e)
-  third = sub-sw (sub binary64 x (mul binary64 k STEP-HIGH)) (mul binary64 k STEP-LOW) (plus (first .0) (first .1))
+  third = sub-signed (sub binary64 x (mul binary64 k STEP-HIGH)) (mul binary64 k STEP-LOW) (plus (first .0) (first .1))
       (less-of (first .0) (first .1)) (plus s (second .0)) (less-of s (second .0)) (2 ^ 20 * e) (power 20 (lit≤ tt))
       (pair-of (sub binary64 x (mul binary64 k STEP-HIGH)) (first .0) (first .1) (first .2))
       (pair-of (mul binary64 k STEP-LOW) s (second .0) (second .1))
       (a L b xp xm (plus s (K * hi + K * lo)) (less-of s (K * hi + K * lo))
       (plus (first .0) (first .1) + less-of s (second .0)) (less-of (first .0) (first .1) + plus s (second .0))
-      (2 ^ 20 * e + e) (2 ^ 54 * (2 ^ 20 * e)) L-pos b-small x20 e21 near1 (ex .0))
+      (2 ^ 20 * e + e) (2 ^ 54 * (2 ^ 20 * e)) L-pos b-small sixty-fourth e21 near1 (ex .0))
       (c L b xp xm (plus s (K * hi + K * lo)) (less-of s (K * hi + K * lo))
       (plus (first .0) (first .1) + less-of s (second .0)) (less-of (first .0) (first .1) + plus s (second .0))
-      (2 ^ 20 * e + e) (2 ^ 54 * (2 ^ 20 * e)) L-pos b-small x20 e21 near2 (ex .1))
+      (2 ^ 20 * e + e) (2 ^ 54 * (2 ^ 20 * e)) L-pos b-small sixty-fourth e21 near2 (ex .1))
     where
       a : (L b xp xm P M gp gm u X : ℕ) → 0 < L → 10000 * b ≤ 109 * L → 64 * X ≡ L → 1048576 * u ≤ L
           → xp + M ≤ xm + P + b → gp + (xm + P) ≤ xp + M + gm + u → gp < gm + X

@@ -313,5 +313,5 @@ module _ (v h : Float) (Y dp dm rp rm w D W B tn td sp : ℕ) (p : Poly h rp rm)
           go L D h k = omega arith
 
   -- THE CORE
-  pub core : Nearly (sp + rp) (0 + rm) L (tn * q .n) (td * Y) last × (0 < q .n)
-  core = (near-core, n-pos)
+  pub sum-near : Nearly (sp + rp) (0 + rm) L (tn * q .n) (td * Y) last × (0 < q .n)
+  sum-near = (near-core, n-pos)

@@ -14,7 +14,8 @@ use Rattle.routines.specs.Exp.{scaledBy}
 use Rattle.routines.specs.Units.{Off}
 use Rattle.routines.proofs.Rounding.{Half, rounded, scaled}
 use Rattle.accuracy.proofs.Rounding.AnyFormat.{Close, plus, less-of, add-rel, plus-le, less-le, unlike-minus}
-use Rattle.accuracy.proofs.Rounding.Binary64.{L, e, L-pos, Is, Pair, Power, power, pair-of, mul-w, add-sw, place-low, small-e, x20}
+use Rattle.accuracy.proofs.Rounding.Binary64.{L, e, L-pos, Is, Pair, Power, power, pair-of, mul-within}
+use Rattle.accuracy.proofs.Rounding.Binary64.{add-signed, place-low, small-e, sixty-fourth}
 use Rattle.accuracy.proofs.Steps.TailErrors.{close-scale}
 
 scaled-opened : (y d r h : Float)
@@ -77,9 +78,9 @@ module _ (y d r h : Float) (Y dp dm rp rm H w : ℕ) (pw : Power w) (hy : Is y f
     (h-small : 4000 * H ≤ L) where
   first : (s : Bool) × (g : ℕ) × Is (add binary64 d r) s g
       × Close (plus s g + (dm + rm)) (dp + rp + less-of s g) (2 ^ 20 * e)
-  first = add-sw d r dp dm rp rm (2 ^ 20 * e) (power 20 (lit≤ tt)) hd hr
-      (a L dp rp (dm + rm) (2 ^ 54 * (2 ^ 20 * e)) L-pos x20 (d-small .0) (r-small .0))
-      (a L dm rm (dp + rp) (2 ^ 54 * (2 ^ 20 * e)) L-pos x20 (d-small .1) (r-small .1))
+  first = add-signed d r dp dm rp rm (2 ^ 20 * e) (power 20 (lit≤ tt)) hd hr
+      (a L dp rp (dm + rm) (2 ^ 54 * (2 ^ 20 * e)) L-pos sixty-fourth (d-small .0) (r-small .0))
+      (a L dm rm (dp + rp) (2 ^ 54 * (2 ^ 20 * e)) L-pos sixty-fourth (d-small .1) (r-small .1))
     where
       a : (L d r m X : ℕ) → 0 < L → 64 * X ≡ L → 1048576 * d ≤ L → 1000 * r ≤ 11 * L → d + r < m + X
       a L d r m X h q k n = omega arith
@@ -115,11 +116,11 @@ module _ (y d r h : Float) (Y dp dm rp rm H w : ℕ) (pw : Power w) (hy : Is y f
   second : (s : Bool) × (g : ℕ) × Is (add binary64 (add binary64 d r) h) s g
       × Close (plus s g + (less-of (first .0) (first .1) + 0)) (plus (first .0) (first .1) + H
       + less-of s g) (2 ^ 20 * e)
-  second = add-sw (add binary64 d r) h (plus (first .0) (first .1)) (less-of (first .0) (first .1)) H 0 (2 ^ 20 * e)
+  second = add-signed (add binary64 d r) h (plus (first .0) (first .1)) (less-of (first .0) (first .1)) H 0 (2 ^ 20 * e)
       (power 20 (lit≤ tt)) (pair-of (add binary64 d r) (first .0) (first .1) (first .2)) (pair-of h false H hh)
-      (a L (plus (first .0) (first .1)) H (less-of (first .0) (first .1) + 0) (2 ^ 54 * (2 ^ 20 * e)) L-pos x20
+      (a L (plus (first .0) (first .1)) H (less-of (first .0) (first .1) + 0) (2 ^ 54 * (2 ^ 20 * e)) L-pos sixty-fourth
       (first-small .0) h-small)
-      (b L (less-of (first .0) (first .1)) (plus (first .0) (first .1) + H) (2 ^ 54 * (2 ^ 20 * e)) L-pos x20
+      (b L (less-of (first .0) (first .1)) (plus (first .0) (first .1) + H) (2 ^ 54 * (2 ^ 20 * e)) L-pos sixty-fourth
       (first-small .1))
     where
       a : (L f h m X : ℕ) → 0 < L → 64 * X ≡ L → 2000 * f ≤ 23 * L → 4000 * h ≤ L → f + h < m + X
@@ -168,7 +169,7 @@ module _ (y d r h : Float) (Y dp dm rp rm H w : ℕ) (pw : Power w) (hy : Is y f
   third : (g : ℕ) × Is (mul binary64 y (add binary64 (add binary64 d r) h)) (second .0) g
       × Close (g * L) (Y * second .1) (L * w)
   third =
-      let p = mul-w y (add binary64 (add binary64 d r) h) false (second .0) Y (second .1) w pw hy (second .2)
+      let p = mul-within y (add binary64 (add binary64 d r) h) false (second .0) Y (second .1) w pw hy (second .2)
       (small Y (second .1) L w L-pos w-pos y-high q-small) in (
         p .0,
         subst (λ (z : Bool). Is (mul binary64 y (add binary64 (add binary64 d r) h)) z (p .0))
@@ -200,8 +201,8 @@ module _ (y d r h : Float) (Y dp dm rp rm H w : ℕ) (pw : Power w) (hy : Is y f
               → L * (79 * g) ≤ L * Y
           flat Y q g L w m n c = omega arith
 
-  pub seventh : Seventh (scaledBy y d r h) Y dp dm rp rm H w
-  seventh =
+  pub sum-rounded : Seventh (scaledBy y d r h) Y dp dm rp rm H w
+  sum-rounded =
       let s = second .0 in
       let G = third .0 in
       let f = rel y (mul binary64 y (add binary64 (add binary64 d r) h)) Y 0 (plus s G) (less-of s G)

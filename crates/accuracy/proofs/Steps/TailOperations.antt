@@ -10,7 +10,8 @@ use lib.Ieee.{Float, binary64, add, mul, ofBits}
 use Rattle.routines.specs.Constants.{half}
 use Rattle.routines.specs.Exp.{expTail, C3, C4, C5, C6}
 use Rattle.accuracy.proofs.Rounding.AnyFormat.{Close, plus, less-of, plus-le, less-le, unlike-self, unlike-plus}
-use Rattle.accuracy.proofs.Rounding.Binary64.{L, e, L-pos, L-is, Is, power, pair-of, mul-w, add-w, fit, sized-by, small-e, halves}
+use Rattle.accuracy.proofs.Rounding.Binary64.{L, e, L-pos, L-is, Is, power, pair-of, mul-within, add-within}
+use Rattle.accuracy.proofs.Rounding.Binary64.{product-below, product-at-most, small-e, halves}
 use Rattle.accuracy.proofs.Steps.TailErrors.{by-constant, times-z, close-weak}
 use Rattle.accuracy.proofs.Steps.PolynomialNear.{S, c3, c4, c5, c6}
 
@@ -144,22 +145,21 @@ pub record Result (h : Float) (Q : ℕ) : Type 0 where
 module _ (r : Float) (σ : Bool) (R : ℕ) (hr : Is r σ R) (small : 1000 * R ≤ 11 * L) where
   pub zed : (g : ℕ) × Is (f0 r) false g × Close (g * L) (R * R) (L * (2 ^ 14 * e))
   zed =
-      let p = mul-w r r σ σ R R (2 ^ 14 * e) (power 14 (lit≤ tt)) hr hr
-      (fit 1000 11 1000 11 R R L (2 ^ 54 * (2 ^ 14 * e)) L-pos small small k-z) in
+      let p = mul-within r r σ σ R R (2 ^ 14 * e) (power 14 (lit≤ tt)) hr hr
+      (product-below 1000 11 1000 11 R R L (2 ^ 54 * (2 ^ 14 * e)) L-pos small small k-z) in
       (p .0, subst (λ (z : Bool). Is (f0 r) z (p .0)) (unlike-self σ) (p .1), p .2)
 
   Z-small : 8000 * (zed .0) ≤ L
-  Z-small = go L (zed .0) (2 ^ 14 * e) (small-e 14 (lit≤ tt)) (sized-by 1000 11 1000 11 R R (zed .0) (2 ^ 14 * e) L
-      L-pos small small
-      (zed .2 .0))
+  Z-small = go L (zed .0) (2 ^ 14 * e) (small-e 14 (lit≤ tt)) (product-at-most 1000 11 1000 11 R R (zed .0)
+      (2 ^ 14 * e) L L-pos small small (zed .2 .0))
     where
       go : (L z w : ℕ) → 1048576 * w ≤ L → 1000 * 1000 * z ≤ 11 * 11 * L + 1000 * 1000 * w → 8000 * z ≤ L
       go L z w q h = omega arith
 
   pub one : (g : ℕ) × Is (f1 r) σ g × Close (S * g) (c3 * R) (S * (2 ^ 18 * e))
   one =
-      let p = mul-w r C3 σ false R (c3 * l) (2 ^ 18 * e) (power 18 (lit≤ tt)) hr C3-is
-      (fit 1000 11 6 1 R (c3 * l) L (2 ^ 54 * (2 ^ 18 * e)) L-pos small k-c-small-one k-num-one) in (
+      let p = mul-within r C3 σ false R (c3 * l) (2 ^ 18 * e) (power 18 (lit≤ tt)) hr C3-is
+      (product-below 1000 11 6 1 R (c3 * l) L (2 ^ 54 * (2 ^ 18 * e)) L-pos small k-c-small-one k-num-one) in (
         p .0,
         subst (λ (z : Bool). Is (f1 r) z (p .0)) (unlike-plus σ) (p .1),
         by-constant S l L (p .0) c3 R (2 ^ 18 * e) L-pos S-l (p .2),
@@ -167,8 +167,8 @@ module _ (r : Float) (σ : Bool) (R : ℕ) (hr : Is r σ R) (small : 1000 * R �
 
   pub three : (g : ℕ) × Is (f3 r) σ g × Close (S * g) (c5 * R) (S * (2 ^ 14 * e))
   three =
-      let p = mul-w r C5 σ false R (c5 * l) (2 ^ 14 * e) (power 14 (lit≤ tt)) hr C5-is
-      (fit 1000 11 119 1 R (c5 * l) L (2 ^ 54 * (2 ^ 14 * e)) L-pos small k-c-small-three k-num-three) in (
+      let p = mul-within r C5 σ false R (c5 * l) (2 ^ 14 * e) (power 14 (lit≤ tt)) hr C5-is
+      (product-below 1000 11 119 1 R (c5 * l) L (2 ^ 54 * (2 ^ 14 * e)) L-pos small k-c-small-three k-num-three) in (
         p .0,
         subst (λ (z : Bool). Is (f3 r) z (p .0)) (unlike-plus σ) (p .1),
         by-constant S l L (p .0) c5 R (2 ^ 14 * e) L-pos S-l (p .2),
@@ -188,8 +188,8 @@ module _ (r : Float) (σ : Bool) (R : ℕ) (hr : Is r σ R) (small : 1000 * R �
 
   pub five : (g : ℕ) × Is (f5 r) false g × Close (S * g) (c6 * (zed .0)) (S * (2 ^ 14 * e))
   five =
-      let p = mul-w (f0 r) C6 false false (zed .0) (c6 * l) (2 ^ 14 * e) (power 14 (lit≤ tt)) (zed .1) C6-is
-      (fit 8000 1 719 1 (zed .0) (c6 * l) L (2 ^ 54 * (2 ^ 14 * e)) L-pos (le-trans Z-small (once L))
+      let p = mul-within (f0 r) C6 false false (zed .0) (c6 * l) (2 ^ 14 * e) (power 14 (lit≤ tt)) (zed .1) C6-is
+      (product-below 8000 1 719 1 (zed .0) (c6 * l) L (2 ^ 54 * (2 ^ 14 * e)) L-pos (le-trans Z-small (once L))
       k-c-small-five k-num-five) in
       (p .0, p .1, by-constant S l L (p .0) c6 (zed .0) (2 ^ 14 * e) L-pos S-l (p .2))
     where
@@ -204,7 +204,7 @@ module _ (r : Float) (σ : Bool) (R : ℕ) (hr : Is r σ R) (small : 1000 * R �
 
   pub two : (g : ℕ) × Is (f2 r) false g
       × Close (g + (0 + less-of σ (one .0))) (2 ^ 79 * e + plus σ (one .0)) (2 ^ 26 * e)
-  two = add-w half (f1 r) (2 ^ 79 * e) 0 (plus σ (one .0)) (less-of σ (one .0)) (2 ^ 26 * e) (power 26 (lit≤ tt))
+  two = add-within half (f1 r) (2 ^ 79 * e) 0 (plus σ (one .0)) (less-of σ (one .0)) (2 ^ 26 * e) (power 26 (lit≤ tt))
       (pair-of half false (2 ^ 79 * e) half-is) (pair-of (f1 r) σ (one .0) (one .1))
       (a L (one .0) (plus σ (one .0)) (less-of σ (one .0)) (2 ^ 79 * e) (2 ^ 54 * (2 ^ 26 * e)) L-pos halves x26
       one-small (plus-le σ (one .0))) (b L (one .0) (plus σ (one .0)) (less-of σ (one .0)) (2 ^ 79 * e)
@@ -218,7 +218,7 @@ module _ (r : Float) (σ : Bool) (R : ℕ) (hr : Is r σ R) (small : 1000 * R �
 
   pub four : (g : ℕ) × Is (f4 r) false g
       × Close (g + (0 + less-of σ (three .0))) (c4 * l + plus σ (three .0)) (2 ^ 22 * e)
-  four = add-w C4 (f3 r) (c4 * l) 0 (plus σ (three .0)) (less-of σ (three .0)) (2 ^ 22 * e) (power 22 (lit≤ tt))
+  four = add-within C4 (f3 r) (c4 * l) 0 (plus σ (three .0)) (less-of σ (three .0)) (2 ^ 22 * e) (power 22 (lit≤ tt))
       (pair-of C4 false (c4 * l) C4-is) (pair-of (f3 r) σ (three .0) (three .1))
       (a L (three .0) (plus σ (three .0)) (less-of σ (three .0)) (c4 * l) (2 ^ 54 * (2 ^ 22 * e)) L-pos (c4-size .0)
       x22 three-small (plus-le σ (three .0))) (b L (three .0) (plus σ (three .0)) (less-of σ (three .0)) (c4 * l)
@@ -248,7 +248,7 @@ module _ (r : Float) (σ : Bool) (R : ℕ) (hr : Is r σ R) (small : 1000 * R �
       go L g p m f H w h q x k n o a b = (omega arith, omega arith)
 
   pub six : (g : ℕ) × Is (f6 r) false g × Close (g + (0 + 0)) (four .0 + five .0) (2 ^ 22 * e)
-  six = add-w (f4 r) (f5 r) (four .0) 0 (five .0) 0 (2 ^ 22 * e) (power 22 (lit≤ tt))
+  six = add-within (f4 r) (f5 r) (four .0) 0 (five .0) 0 (2 ^ 22 * e) (power 22 (lit≤ tt))
       (pair-of (f4 r) false (four .0) (four .1)) (pair-of (f5 r) false (five .0) (five .1))
       (a L (four .0) (five .0) (2 ^ 54 * (2 ^ 22 * e)) L-pos x22 (four-size .0) five-small)
       (b L (four .0) (five .0) (2 ^ 22 * e) L-pos (small-e 22 (lit≤ tt)) (four-size .1))
@@ -273,19 +273,19 @@ module _ (r : Float) (σ : Bool) (R : ℕ) (hr : Is r σ R) (small : 1000 * R �
   zl = omega (arith, Z-small)
 
   pub seven : (g : ℕ) × Is (f7 r) false g × Close (g * L) ((zed .0) * six .0) (L * (2 ^ 14 * e))
-  seven = mul-w (f0 r) (f6 r) false false (zed .0) (six .0) (2 ^ 14 * e) (power 14 (lit≤ tt)) (zed .1) (six .1)
-      (fit 8000 1 22 1 (zed .0) (six .0) L (2 ^ 54 * (2 ^ 14 * e)) L-pos zl (omega (arith, six-small)) k-num-seven)
+  seven = mul-within (f0 r) (f6 r) false false (zed .0) (six .0) (2 ^ 14 * e) (power 14 (lit≤ tt)) (zed .1) (six .1)
+      (product-below 8000 1 22 1 (zed .0) (six .0) L (2 ^ 54 * (2 ^ 14 * e)) L-pos zl
+      (omega (arith, six-small)) k-num-seven)
 
   seven-small : 8000 * seven .0 ≤ L
-  seven-small = go L (seven .0) (2 ^ 14 * e) (small-e 14 (lit≤ tt)) (sized-by 8000 1 22 1 (zed .0) (six .0) (seven .0)
-      (2 ^ 14 * e) L
-      L-pos zl (omega (arith, six-small)) (seven .2 .0))
+  seven-small = go L (seven .0) (2 ^ 14 * e) (small-e 14 (lit≤ tt)) (product-at-most 8000 1 22 1 (zed .0) (six .0)
+      (seven .0) (2 ^ 14 * e) L L-pos zl (omega (arith, six-small)) (seven .2 .0))
     where
       go : (L z w : ℕ) → 1048576 * w ≤ L → 8000 * 22 * z ≤ 1 * 1 * L + 8000 * 22 * w → 8000 * z ≤ L
       go L z w q h = omega arith
 
   pub eight : (g : ℕ) × Is (f8 r) false g × Close (g + (0 + 0)) (two .0 + seven .0) (2 ^ 26 * e)
-  eight = add-w (f2 r) (f7 r) (two .0) 0 (seven .0) 0 (2 ^ 26 * e) (power 26 (lit≤ tt))
+  eight = add-within (f2 r) (f7 r) (two .0) 0 (seven .0) 0 (2 ^ 26 * e) (power 26 (lit≤ tt))
       (pair-of (f2 r) false (two .0) (two .1)) (pair-of (f7 r) false (seven .0) (seven .1))
       (a L (two .0) (seven .0) (2 ^ 54 * (2 ^ 26 * e)) L-pos x26 (two-size .0) seven-small)
       (b L (two .0) (seven .0) (2 ^ 26 * e) L-pos (small-e 26 (lit≤ tt)) (two-size .1))
@@ -307,12 +307,12 @@ module _ (r : Float) (σ : Bool) (R : ℕ) (hr : Is r σ R) (small : 1000 * R �
       go L f g s w q k n m = omega arith
 
   nine : (g : ℕ) × Is (f9 r) false g × Close (g * L) ((zed .0) * eight .0) (L * (2 ^ 14 * e))
-  nine = mul-w (f0 r) (f8 r) false false (zed .0) (eight .0) (2 ^ 14 * e) (power 14 (lit≤ tt)) (zed .1) (eight .1)
-      (fit 8000 1 100 52 (zed .0) (eight .0) L (2 ^ 54 * (2 ^ 14 * e)) L-pos zl eight-small k-num-nine)
+  nine = mul-within (f0 r) (f8 r) false false (zed .0) (eight .0) (2 ^ 14 * e) (power 14 (lit≤ tt)) (zed .1) (eight .1)
+      (product-below 8000 1 100 52 (zed .0) (eight .0) L (2 ^ 54 * (2 ^ 14 * e)) L-pos zl eight-small k-num-nine)
 
   nine-small : 4000 * nine .0 ≤ L
   nine-small = go L (nine .0) (2 ^ 14 * e) (small-e 14 (lit≤ tt))
-      (sized-by 8000 1 100 52 (zed .0) (eight .0) (nine .0) (2 ^ 14 * e) L
+      (product-at-most 8000 1 100 52 (zed .0) (eight .0) (nine .0) (2 ^ 14 * e) L
       L-pos zl eight-small (nine .2 .0))
     where
       go : (L z w : ℕ) → 1048576 * w ≤ L → 8000 * 100 * z ≤ 1 * 52 * L + 8000 * 100 * w → 4000 * z ≤ L
