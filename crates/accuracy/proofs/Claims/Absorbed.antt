@@ -1,14 +1,10 @@
 -- A double of 1 or more stays as it is when exp of less than -40 is added to it: that is less than half of its ulp.
 -- Assumes nothing.
-use mathlib.Core.Path.{_≡_, refl, sym, ap, _∙_, subst}
-use mathlib.Core.Bool.{Bool, true, false, true≢false}
-use Prim.Native.Nat.{ℕ, suc, _+_, _-_, _*_, _/_, _^_, _≤_, _<_}
+use Rattle.accuracy.proofs.Prelude.{_≡_, refl, sym, ap, _∙_, subst, Bool, true, false, true≢false, ℕ, suc, _+_}
+use Rattle.accuracy.proofs.Prelude.{_-_, _*_, _/_, _^_, _≤_, _<_, arith, T, lit<, pow-pos}
 use native.Mathlib.Nat.{le-of-eq, le-trans, le-antisymm, lt-of-lt-of-le, lt-of-le-of-lt, le-of-mul-le-mul-left, lt-of-mul-lt-mul-right}
 use native.Mathlib.Nat.{mul-div-cancel, mul-pos}
-use native.Mathlib.Omega.{arith}
 use lib.IntN.{ℤ}
-use lib.Dec.{T, lit<}
-use lib.Pow.{pow-pos}
 use lib.Ieee.{Float, nan, inf, fin, binary64, up, down, round, add, lt, le, ofBits, fits, size}
 use lib.Ieee.Fits.{round-fits, down-pos}
 use lib.Ieee.Digits.{size-lt, size-le}

@@ -1,13 +1,9 @@
 -- Where step 7's value is a power of two, or +inf, each smaller double is below e ^ x. Such doubles lie half an ulp
 -- apart, and step 7's sum, where it was rounded up to that power, was rounded at that finer place. Assumes nothing.
-use mathlib.Core.Path.{_≡_, sym, ap, _∙_, subst}
-use mathlib.Core.Bool.{Bool, true, false, not}
-use Prim.Native.Nat.{ℕ, suc, _+_, _-_, _*_, _^_, _≤_, _<_}
+use Rattle.accuracy.proofs.Prelude.{_≡_, sym, ap, _∙_, subst, Bool, true, false, not, ℕ, suc, _+_, _-_, _*_, _^_}
+use Rattle.accuracy.proofs.Prelude.{_≤_, _<_, arith, T, leb, leb→le, nleb→lt, lit<, pow-pos, pow-add, pow-mono}
 use native.Mathlib.Nat.{le-trans, le-of-eq, lt-of-le-of-lt, lt-of-lt-of-le, mul-pos, mul-le-mul-right}
 use native.Mathlib.Nat.{lt-of-mul-lt-mul-right, mul-lt-mul-of-pos-right}
-use native.Mathlib.Omega.{arith}
-use lib.Dec.{T, leb, leb→le, nleb→lt, lit<}
-use lib.Pow.{pow-add, pow-pos, pow-mono}
 use lib.Ieee.{Float, size}
 use Rattle.routines.proofs.Rounding.{Half}
 use Rattle.accuracy.specs.Accuracy.{L, ulp}

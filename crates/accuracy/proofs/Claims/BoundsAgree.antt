@@ -1,10 +1,8 @@
 -- The bounds of specs/Accuracy.antt bound one number: a lower bound of e ^ x is at most any upper one. So `Answers`
 -- is no empty claim: doubles that are further apart than it allows do not both meet it. Assumes nothing.
-use mathlib.Core.Path.{_≡_, subst}
-use mathlib.Core.Bool.{Bool, true, false}
-use Prim.Native.Nat.{ℕ, zero, suc, _+_, _-_, _*_, _^_, _≤_, _<_}
+use Rattle.accuracy.proofs.Prelude.{_≡_, subst, Bool, true, false, ℕ, zero, suc, _+_, _-_, _*_, _^_, _≤_, _<_}
+use Rattle.accuracy.proofs.Prelude.{arith}
 use native.Mathlib.Nat.{le-trans, le-of-eq, le-of-suc-le-suc, lt-of-not-le, mul-pos, mul-comm, mul-le-mul, mul-le-mul-left, mul-le-mul-right, le-of-mul-le-mul-left, pow-zero, pow-succ', pow-le-pow-left, le-add-right, mul-mul-mul-comm, sub-add-cancel, one-le-pow}
-use native.Mathlib.Omega.{arith}
 use Rattle.accuracy.specs.Accuracy.{ExpAtMost, ExpAtLeast}
 use Rattle.accuracy.proofs.Euler.Means.{mul-pow}
 

@@ -1,11 +1,9 @@
 -- The bounds of specs/Accuracy.antt leave no gap: for every E there is a P / Q that is at least e ^ x, with
 -- P / Q * E / (E + 1) ≤ e ^ x. With BoundsAgree they determine one number, which is e ^ x. P / Q is (1 - x / n) ^ -n
 -- for a large n. Assumes nothing.
-use mathlib.Core.Path.{_≡_, sym, ap, subst}
-use mathlib.Core.Bool.{Bool, true, false}
-use Prim.Native.Nat.{ℕ, suc, _+_, _-_, _*_, _^_, _≤_, _<_}
+use Rattle.accuracy.proofs.Prelude.{_≡_, sym, ap, subst, Bool, true, false, ℕ, suc, _+_, _-_, _*_, _^_, _≤_, _<_}
+use Rattle.accuracy.proofs.Prelude.{arith}
 use native.Mathlib.Nat.{le-trans, le-of-eq, le-of-lt, one-mul, mul-comm, mul-assoc, mul-pos, mul-le-mul, mul-le-mul-left, mul-le-mul-right, le-of-mul-le-mul-left, sub-add-cancel, one-le-pow}
-use native.Mathlib.Omega.{arith}
 use Rattle.accuracy.specs.Accuracy.{ExpAtMost, ExpAtLeast}
 use Rattle.accuracy.proofs.Euler.Means.{mul-pow}
 use Rattle.accuracy.proofs.Euler.EveryN.{meet}

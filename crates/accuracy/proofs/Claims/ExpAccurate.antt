@@ -1,8 +1,6 @@
 -- THE ACCURACY OF exp, for every finite double: exp's steps meet here. `Answers` and what it rests on are in
 -- specs/Accuracy.antt, `expOf` and its steps in specs/Exp.antt of the routines. Assumes nothing.
-use mathlib.Core.Bool.{Bool, true, false, cond}
-use Prim.Native.Nat.{ℕ, _*_, _≤_}
-use lib.Dec.{T}
+use Rattle.accuracy.proofs.Prelude.{Bool, true, false, cond, ℕ, _*_, _≤_, T}
 use lib.Ieee.{Float, binary64, le, fits}
 use lib.Ieee.Scale.{finite}
 use Rattle.routines.specs.Exp.{expOf, tee, scaledUp, besideOne, outOfRange, LEAST, MOST}

@@ -1,15 +1,11 @@
 -- exp is one of the two doubles around e ^ x, for every finite double x: `Faithful` of specs/Faithful.antt. It follows
 -- from the claim of 0.70 ulp where doubles lie an ulp apart, and from BelowPowersOfTwo.antt below a power of two.
 -- Assumes nothing.
-use mathlib.Core.Path.{_≡_, refl, sym, ap, _∙_, subst}
-use mathlib.Core.Logic.{_⊎_, inl, inr}
-use mathlib.Core.Bool.{Bool, true, false, not, cond, _&&_}
-use Prim.Native.Nat.{ℕ, zero, suc, _*_, _%_, _^_, _≤_, _<_}
+use Rattle.accuracy.proofs.Prelude.{_≡_, refl, sym, ap, _∙_, subst, _⊎_, inl, inr, Bool, true, false, not, cond}
+use Rattle.accuracy.proofs.Prelude.{_&&_, ℕ, zero, suc, _*_, _%_, _^_, _≤_, _<_, arith, T, leb, ltb, ltb→lt, eqb}
+use Rattle.accuracy.proofs.Prelude.{lit≤, lit<, pow-pos, pow-lt}
 use native.Mathlib.Nat.{le-trans, le-of-eq, lt-of-le-of-lt, lt-of-lt-of-le, not-le-of-lt, lt-of-mul-lt-mul-right}
 use native.Mathlib.Nat.{eq-of-mul-eq-mul-right, mul-pos, mul-le-mul-right, mul-lt-mul-of-pos-right}
-use native.Mathlib.Omega.{arith}
-use lib.Dec.{T, leb, ltb, eqb, ltb→lt, lit≤, lit<}
-use lib.Pow.{pow-pos, pow-lt}
 use lib.Ieee.{Float, nan, inf, fin, binary64, up, down, lt, le, fits}
 use lib.Ieee.Fits.{inf-fits, down-pos, and-r}
 use Rattle.routines.specs.Constants.{zero as nought}

@@ -1,12 +1,8 @@
 -- Below -40 exp is at most 2 ^ -54, since e ^ 40 is more than 2 ^ 57. Assumes nothing.
-use mathlib.Core.Path.{_≡_, refl, sym, _∙_, subst}
-use mathlib.Core.Logic.{inl, inr}
-use mathlib.Core.Bool.{Bool, true, false}
-use Prim.Native.Nat.{ℕ, suc, _-_, _*_, _^_, _≤_, _<_}
+use Rattle.accuracy.proofs.Prelude.{_≡_, refl, sym, _∙_, subst, inl, inr, Bool, true, false, ℕ, suc, _-_, _*_}
+use Rattle.accuracy.proofs.Prelude.{_^_, _≤_, _<_, arith, T, ltb→lt, lit≤, lit<}
 use native.Mathlib.Nat.{sub-add-cancel, le-trans, le-of-eq, le-of-lt, lt-of-le-of-lt, lt-of-lt-of-le, mul-comm, mul-le-mul-right}
 use native.Mathlib.Nat.{le-of-mul-le-mul-left, lt-of-mul-lt-mul-right, mul-lt-mul-of-pos-right}
-use native.Mathlib.Omega.{arith}
-use lib.Dec.{T, ltb→lt, lit≤, lit<}
 use lib.Ieee.{Float, nan, inf, fin, binary64, up, down, lt, le, ofBits, fits}
 use lib.Ieee.Order.{le-of-values}
 use Rattle.routines.specs.Exp.{expOf}

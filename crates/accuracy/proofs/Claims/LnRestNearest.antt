@@ -1,11 +1,8 @@
 -- In each row of ln's table e ^ (H + m) ≤ C ≤ e ^ (H + n), where m and n are the middles of L and its two neighbours:
 -- the tests that compare e ^ t with a fraction by its series say what they are for. Assumes nothing.
-use mathlib.Core.Path.{_≡_, sym, ap, _∙_, subst}
-use mathlib.Core.Bool.{Bool, true, false, _&&_, Bool·beq, cond}
-use Prim.Native.Nat.{ℕ, zero, suc, _+_, _-_, _*_, _^_, _≤_, _<_}
+use Rattle.accuracy.proofs.Prelude.{_≡_, sym, ap, _∙_, subst, Bool, true, false, cond, _&&_, Bool·beq, ℕ, zero}
+use Rattle.accuracy.proofs.Prelude.{suc, _+_, _-_, _*_, _^_, _≤_, _<_, arith, T, leb, leb→le, ltb, ltb→lt}
 use native.Mathlib.Nat.{le-trans, le-of-eq, le-of-lt, mul-comm, mul-le-mul-right, mul-pos, zero-lt-suc}
-use native.Mathlib.Omega.{arith}
-use lib.Dec.{T, leb, ltb, leb→le, ltb→lt}
 use lib.ListN.{getD}
 use lib.Ieee.{Float, nan, inf, fin, binary64, ofBits}
 use lib.Ieee.Fits.{and-l, and-r, down-pos}

@@ -1,15 +1,10 @@
 -- Step 8 of exp changes no value. What the steps before it give for an x below 0 is already from 0 to 1, and what they
 -- give for any other x is already 1 or more: a double on the other side of 1 is too far away from e ^ x. Assumes
 -- nothing.
-use mathlib.Core.Path.{_≡_, refl, sym, ap, _∙_, subst}
-use mathlib.Core.Logic.{_⊎_, inl, inr}
-use mathlib.Core.Bool.{Bool, true, false, not, cond}
-use Prim.Native.Nat.{ℕ, suc, _+_, _-_, _*_, _/_, _^_, _≤_, _<_}
+use Rattle.accuracy.proofs.Prelude.{_≡_, refl, sym, ap, _∙_, subst, _⊎_, inl, inr, Bool, true, false, not, cond}
+use Rattle.accuracy.proofs.Prelude.{ℕ, suc, _+_, _-_, _*_, _/_, _^_, _≤_, _<_, arith, T, lit<, pow-add, pow-mono}
 use native.Mathlib.Nat.{le-refl, le-trans, le-of-eq, le-of-lt, le-antisymm, le-of-suc-le-suc, lt-of-not-le}
 use native.Mathlib.Nat.{not-le-of-lt, mul-div-cancel}
-use native.Mathlib.Omega.{arith}
-use lib.Dec.{T, lit<}
-use lib.Pow.{pow-add, pow-mono}
 use lib.Ieee.{Float, nan, inf, fin, binary64, top, hid, down, add, mul, lt, le, eq, ofBits, toBits, fits, size}
 use lib.Ieee.Bits.{ofBits-toBits}
 use lib.Ieee.Fits.{down-pos, mul-fits}

@@ -1,13 +1,8 @@
 -- On which side of e ^ x a number of units lies that is an ulp away from exp's value: a whole ulp is more than the
 -- claim allows. Assumes nothing.
-use mathlib.Core.Path.{_≡_}
-use mathlib.Core.Bool.{Bool, not}
-use Prim.Native.Nat.{ℕ, _+_, _-_, _*_, _^_, _≤_, _<_}
+use Rattle.accuracy.proofs.Prelude.{_≡_, Bool, not, ℕ, _+_, _-_, _*_, _^_, _≤_, _<_, arith, lit≤, lit<, pow-pos}
 use native.Mathlib.Nat.{le-trans, le-of-eq, le-of-lt, lt-of-le-of-lt, lt-of-lt-of-le, not-le-of-lt}
 use native.Mathlib.Nat.{mul-comm, mul-pos, mul-le-mul-right, mul-lt-mul-of-pos-right}
-use native.Mathlib.Omega.{arith}
-use lib.Dec.{lit≤, lit<}
-use lib.Pow.{pow-pos}
 use lib.Ieee.{size}
 use Rattle.accuracy.specs.Accuracy.{L, ulp, hundredths, ExpAtMost, ExpAtLeast, InUlps}
 use Rattle.accuracy.specs.Faithful.{Over, Under}

@@ -1,12 +1,8 @@
 -- e ^ t for t = (p - m) / c, whichever of p and m is larger: `Exp p m c P Q` is e ^ t ≤ P / Q, and P / Q ≤ e ^ t is
 -- `Exp m p c Q P`. Its one law: where the exponents are added the bounds are multiplied. Assumes nothing.
-use mathlib.Core.Path.{_≡_, ap, _∙_, subst, sym}
-use mathlib.Core.Logic.{_⊎_, inl, inr}
-use mathlib.Core.Bool.{Bool, true, false, not}
-use Prim.Native.Nat.{ℕ, suc, _+_, _-_, _*_, _^_, _≤_, _<_}
+use Rattle.accuracy.proofs.Prelude.{_≡_, sym, ap, _∙_, subst, _⊎_, inl, inr, Bool, true, false, not, ℕ, suc, _+_}
+use Rattle.accuracy.proofs.Prelude.{_-_, _*_, _^_, _≤_, _<_, arith, T, ltb, ltb→lt, nltb→le}
 use native.Mathlib.Nat.{le-refl, le-trans, le-of-eq, mul-comm, mul-pos, mul-le-mul-right, le-of-mul-le-mul-right, add-zero, le-of-lt, sub-zero, one-le-pow}
-use native.Mathlib.Omega.{arith}
-use lib.Dec.{T, ltb, ltb→lt, nltb→le}
 use Rattle.accuracy.proofs.Euler.Bounds.{Above, Below}
 use Rattle.accuracy.proofs.Euler.Products.{above-mul, above-div, below-mul, below-div}
 use Rattle.accuracy.proofs.Euler.Weaker.{Near, above-weaken, below-weaken}

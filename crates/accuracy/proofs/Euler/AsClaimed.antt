@@ -1,11 +1,8 @@
 -- Bounds of e ^ x as specs/Accuracy.antt has them: from the forms of Bounds.antt, made weaker, and against 1. Assumes
 -- nothing.
-use mathlib.Core.Path.{sym, ap, _∙_}
-use mathlib.Core.Bool.{Bool, true, false}
-use Prim.Native.Nat.{ℕ, suc, _+_, _-_, _*_, _^_, _≤_, _<_}
+use Rattle.accuracy.proofs.Prelude.{sym, ap, _∙_, Bool, true, false, ℕ, suc, _+_, _-_, _*_, _^_, _≤_, _<_, arith}
 use native.Mathlib.Nat.{le-trans, le-of-eq, mul-comm, mul-one, one-mul, mul-le-mul-left, mul-le-mul-right}
 use native.Mathlib.Nat.{le-of-mul-le-mul-left, pow-le-pow-left, add-zero, sub-add-cancel, sub-le}
-use native.Mathlib.Omega.{arith}
 use Rattle.accuracy.specs.Accuracy.{shifted, ExpAtMost, ExpAtLeast}
 use Rattle.accuracy.proofs.Euler.Bounds.{IsExp}
 

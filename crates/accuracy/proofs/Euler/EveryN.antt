@@ -1,11 +1,8 @@
 -- What was shown by some n holds for every n: from `Nearly` to `IsExp`, by (1 + t / m) ^ m (1 - t / n) ^ n ≤ 1.
 -- Assumes nothing.
-use mathlib.Core.Path.{_≡_, sym, ap, _∙_, subst}
-use mathlib.Core.Bool.{true, false}
-use Prim.Native.Nat.{ℕ, suc, _+_, _*_, _^_, _≤_, _<_}
+use Rattle.accuracy.proofs.Prelude.{_≡_, sym, ap, _∙_, subst, true, false, ℕ, suc, _+_, _*_, _^_, _≤_, _<_}
+use Rattle.accuracy.proofs.Prelude.{arith, pow-add}
 use native.Mathlib.Nat.{le-trans, le-of-eq, mul-le-mul-right, mul-le-mul-left, mul-comm, mul-assoc, le-of-mul-le-mul-left, le-of-mul-le-mul-right, mul-pos, mul-left-comm, mul-right-comm, sub-zero, one-le-pow}
-use native.Mathlib.Omega.{arith}
-use lib.Pow.{pow-add}
 use Rattle.accuracy.proofs.Euler.Bounds.{Below, IsExp}
 use Rattle.accuracy.proofs.Euler.Means.{mean, mul-pow}
 use Rattle.accuracy.proofs.Euler.AnySign.{Nearly}

@@ -1,9 +1,7 @@
 -- The partial sums of e ^ t = 1 + t + t^2 / 2! + .. bound it from below, up to a factor 1 + t / m for any m, and with
 -- the last term twice they bound it from above. Assumes nothing.
-use mathlib.Core.Path.{_≡_, refl, sym, ap, _∙_, subst}
-use Prim.Native.Nat.{ℕ, zero, suc, _+_, _*_, _^_, _≤_, _<_}
+use Rattle.accuracy.proofs.Prelude.{_≡_, refl, sym, ap, _∙_, subst, ℕ, zero, suc, _+_, _*_, _^_, _≤_, _<_, arith}
 use native.Mathlib.Nat.{le-refl, le-trans, le-of-eq, pow-zero, pow-succ', mul-le-mul-right, mul-le-mul-left, mul-assoc, mul-comm, le-of-mul-le-mul-left, mul-pos, pow-le-pow-left, zero-lt-suc, le-add-right, mul-left-comm, zero-mul, one-le-pow}
-use native.Mathlib.Omega.{arith}
 use Rattle.accuracy.proofs.Euler.Bounds.{Above, Below}
 use Rattle.accuracy.proofs.Euler.Means.{tangent, mul-pow}
 

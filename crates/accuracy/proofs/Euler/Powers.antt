@@ -1,10 +1,8 @@
 -- Bounds of e ^ t where t is a z / (c z) in place of a / c, of e ^ (N t) by powers, and of e ^ t for a small t. Assumes
 -- nothing.
-use mathlib.Core.Path.{_≡_, sym, ap, _∙_, subst}
-use Prim.Native.Nat.{ℕ, zero, suc, _+_, _-_, _*_, _^_, _≤_, _<_}
+use Rattle.accuracy.proofs.Prelude.{_≡_, sym, ap, _∙_, subst, ℕ, zero, suc, _+_, _-_, _*_, _^_, _≤_, _<_, arith}
 use native.Mathlib.Nat.{le-refl, le-trans, le-of-eq, mul-le-mul-right, mul-le-mul, mul-comm, mul-assoc, pow-zero}
 use native.Mathlib.Nat.{pow-succ', pow-le-pow-left, add-zero, le-add-right, mul-right-comm}
-use native.Mathlib.Omega.{arith}
 use Rattle.accuracy.proofs.Euler.Bounds.{Above, Below}
 use Rattle.accuracy.proofs.Euler.Means.{mul-pow}
 use Rattle.accuracy.proofs.Euler.PartialSums.{part, scale, over, scale-pos, above-series}

@@ -1,10 +1,7 @@
 -- e ^ (s + t) = e ^ s e ^ t, as four laws of bounds: products and quotients of upper and lower bounds, with nothing
 -- lost. Assumes nothing.
-use mathlib.Core.Path.{_≡_, sym, ap, _∙_, subst}
-use Prim.Native.Nat.{ℕ, _+_, _*_, _^_, _≤_, _<_}
+use Rattle.accuracy.proofs.Prelude.{_≡_, sym, ap, _∙_, subst, ℕ, _+_, _*_, _^_, _≤_, _<_, arith, pow-add}
 use native.Mathlib.Nat.{le-trans, le-of-eq, mul-le-mul-right, mul-le-mul-left, mul-le-mul, le-of-mul-le-mul-left, mul-pos, pow-le-pow-left, mul-mul-mul-comm, one-le-pow}
-use native.Mathlib.Omega.{arith}
-use lib.Pow.{pow-add}
 use Rattle.accuracy.proofs.Euler.Bounds.{Above, Below}
 use Rattle.accuracy.proofs.Euler.Means.{mean, mul-pow}
 

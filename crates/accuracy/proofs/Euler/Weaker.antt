@@ -1,7 +1,6 @@
 -- A bound of e ^ t gives every weaker one; and what it is that e ^ t is W / B up to one part in E. Assumes nothing.
-use Prim.Native.Nat.{ℕ, suc, _+_, _*_, _^_, _≤_, _<_}
+use Rattle.accuracy.proofs.Prelude.{ℕ, suc, _+_, _*_, _^_, _≤_, _<_, arith}
 use native.Mathlib.Nat.{mul-le-mul-right, le-of-mul-le-mul-left, le-trans, mul-le-mul-left, pow-le-pow-left}
-use native.Mathlib.Omega.{arith}
 use Rattle.accuracy.proofs.Euler.Bounds.{Above, Below}
 
 pub above-weaken : (a c P Q P' Q' : ℕ) → 0 < Q → P * Q' ≤ P' * Q → Above a c P Q → Above a c P' Q'

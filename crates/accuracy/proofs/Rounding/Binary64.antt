@@ -1,12 +1,9 @@
 -- What AnyFormat.antt shows, for binary64 and with its numbers kept shut: L units make 1, and a result below 2 ^ 54 w
 -- units is off by at most w, a power of two. Then the digits of a number of units, and bounds of products. Assumes
 -- nothing.
-use mathlib.Core.Path.{_≡_, refl, sym, subst, ap, _∙_}
-use Prim.Native.Nat.{ℕ, suc, _+_, _*_, _^_, _≤_, _<_, _-_}
+use Rattle.accuracy.proofs.Prelude.{_≡_, refl, sym, ap, _∙_, subst, Bool, true, false, ℕ, suc, _+_, _-_, _*_}
+use Rattle.accuracy.proofs.Prelude.{_^_, _≤_, _<_, arith, pow-pos, pow-add, pow-mono}
 use native.Mathlib.Nat.{le-trans, le-of-eq, mul-le-mul, mul-le-mul-left, le-of-mul-le-mul-left, lt-of-mul-lt-mul-right, lt-of-le-of-lt, lt-of-lt-of-le, mul-lt-mul-of-pos-right, mul-mul-mul-comm, lt-of-not-le, not-le-of-lt, mul-assoc, mul-le-mul-right}
-use native.Mathlib.Omega.{arith}
-use mathlib.Core.Bool.{Bool, true, false}
-use lib.Pow.{pow-add, pow-pos, pow-mono}
 use lib.Ieee.{Float, binary64, low, unlike, add, sub, mul, neg, size}
 unfoldable pub use Rattle.accuracy.specs.Accuracy.{L, Is}
 use Rattle.accuracy.proofs.Rounding.AnyFormat.{Close, Val, plus, less-of, mul-mag, add-val, neg-val, sub-opened}

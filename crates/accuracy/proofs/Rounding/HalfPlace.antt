@@ -1,12 +1,8 @@
 -- A number n that is rounded to g, by at most half a place of n, reaches 2 ^ 52 of those places if g does.
 -- Assumes nothing.
-use mathlib.Core.Path.{_≡_, sym, subst}
-use mathlib.Core.Bool.{Bool, true, false, not}
-use Prim.Native.Nat.{ℕ, _+_, _-_, _*_, _^_, _≤_, _<_}
+use Rattle.accuracy.proofs.Prelude.{_≡_, sym, subst, Bool, true, false, not, ℕ, _+_, _-_, _*_, _^_, _≤_, _<_}
+use Rattle.accuracy.proofs.Prelude.{arith, T, leb, leb→le, nleb→lt, pow-add}
 use native.Mathlib.Nat.{le-trans, le-of-eq}
-use native.Mathlib.Omega.{arith}
-use lib.Dec.{T, leb, leb→le, nleb→lt}
-use lib.Pow.{pow-add}
 use lib.Ieee.{size}
 use lib.Ieee.Digits.{size-reaches}
 use Rattle.routines.proofs.Rounding.{Half}

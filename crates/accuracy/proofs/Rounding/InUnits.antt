@@ -1,11 +1,7 @@
 -- A finite double is one number of units, and doubles are compared as these numbers are. Assumes nothing.
-use mathlib.Core.Path.{_≡_, refl, sym, ap, _∙_}
-use mathlib.Core.Logic.{_⊎_, inl, inr}
-use mathlib.Core.Bool.{Bool, true, false, not, true≢false}
-use Prim.Native.Nat.{ℕ, suc, _+_, _*_, _≤_, _<_}
+use Rattle.accuracy.proofs.Prelude.{_≡_, refl, sym, ap, _∙_, _⊎_, inl, inr, Bool, true, false, not, true≢false}
+use Rattle.accuracy.proofs.Prelude.{ℕ, suc, _+_, _*_, _≤_, _<_, arith, T, T-not, nltb→le}
 use native.Mathlib.Nat.{lt-of-not-le, le-of-suc-le-suc, eq-of-mul-eq-mul-right}
-use native.Mathlib.Omega.{arith}
-use lib.Dec.{T, nltb→le, T-not}
 use lib.Ieee.{Float, nan, inf, fin, binary64, up, down, lt, ofBits, fits}
 use lib.Ieee.Exact.{HasValue}
 use lib.Ieee.Fits.{down-pos}

@@ -1,15 +1,11 @@
 -- Step 6: value(E * 2 ^ 52) is the power of two 2 ^ (E - 1023), and a product with it is exact where a double holds it.
 -- Assumes nothing.
-use mathlib.Core.Path.{_≡_, refl, sym, ap, _∙_, subst}
-use mathlib.Core.Bool.{Bool, true, false, cond}
-use Prim.Native.Nat.{ℕ, suc, _+_, _*_, _/_, _%_, _^_, _<_}
+use Rattle.accuracy.proofs.Prelude.{_≡_, refl, sym, ap, _∙_, subst, Bool, true, false, cond, ℕ, suc, _+_, _*_}
+use Rattle.accuracy.proofs.Prelude.{_/_, _%_, _^_, _<_, arith, T, leb, eqb, eqb→eq, lit<, pow-pos, pow-add}
 use native.Mathlib.Nat.{mul-assoc, mul-pos, mod-eq-of-lt, mul-div-cancel, mul-mod-left}
-use native.Mathlib.Omega.{arith}
-use lib.Dec.{T, leb, eqb, eqb→eq, lit<}
 use lib.Arith.{lt→nleb}
 use lib.Ieee.{Float, binary64, ofBits, ofFields, odd, top, inf}
 use lib.Ieee.Exact.{HasValue, odd-sign, round-exact}
-use lib.Pow.{pow-add, pow-pos}
 use lib.Ieee.{mul, round}
 use Rattle.accuracy.proofs.Rounding.AnyFormat.{mul-is, lower}
 use lib.Ieee.Bits.{is-false}

@@ -1,15 +1,11 @@
 -- How far apart doubles lie, in units: a larger double than W units is at least an `ulp` of W larger, and a smaller one
 -- at least an `ulp` of W smaller, or half of that where W is a power of two above the least normal double.
 -- Assumes nothing.
-use mathlib.Core.Path.{_≡_, sym, ap, _∙_, subst}
-use mathlib.Core.Logic.{_⊎_, inl, inr}
-use mathlib.Core.Bool.{Bool, true, false, not}
-use Prim.Native.Nat.{ℕ, suc, _+_, _-_, _*_, _^_, _≤_, _<_}
+use Rattle.accuracy.proofs.Prelude.{_≡_, sym, ap, _∙_, subst, _⊎_, inl, inr, Bool, true, false, not, ℕ, suc, _+_}
+use Rattle.accuracy.proofs.Prelude.{_-_, _*_, _^_, _≤_, _<_, arith, T, leb, leb→le, nleb→lt, lit<, pow-add}
+use Rattle.accuracy.proofs.Prelude.{pow-mono, pow-lt, shl-lt}
 use native.Mathlib.Nat.{le-refl, le-trans, le-of-eq, le-of-lt, lt-of-le-of-lt, lt-of-lt-of-le, lt-of-not-le}
 use native.Mathlib.Nat.{not-le-of-lt, eq-or-lt-of-le, mul-assoc, mul-le-mul-right, lt-of-mul-lt-mul-right}
-use native.Mathlib.Omega.{arith}
-use lib.Dec.{T, leb, leb→le, nleb→lt, lit<}
-use lib.Pow.{pow-add, pow-mono, pow-lt, shl-lt}
 use lib.Ieee.{size}
 use lib.Ieee.Digits.{size-lt, size-le, size-reaches}
 use Rattle.accuracy.specs.Accuracy.{ulp}

@@ -1,13 +1,9 @@
 -- Step 7's last product, by a power of two: exact from the least normal double on, off by half a unit at most below
 -- it, and +inf from 2 ^ 1024 on. Assumes nothing.
-use mathlib.Core.Path.{_≡_, refl, sym, ap, _∙_, subst}
-use mathlib.Core.Logic.{_⊎_, inl, inr}
-use mathlib.Core.Bool.{Bool, true, false, not, cond}
-use Prim.Native.Nat.{ℕ, suc, _+_, _-_, _*_, _/_, _^_, _≤_, _<_}
+use Rattle.accuracy.proofs.Prelude.{_≡_, refl, sym, ap, _∙_, subst, _⊎_, inl, inr, Bool, true, false, not, cond}
+use Rattle.accuracy.proofs.Prelude.{ℕ, suc, _+_, _-_, _*_, _/_, _^_, _≤_, _<_, arith, T, leb, leb→le, nleb→lt}
+use Rattle.accuracy.proofs.Prelude.{ltb, ltb→lt, nltb→le, lit<, pow-add, pow-mono}
 use native.Mathlib.Nat.{le-refl, le-trans, le-of-eq, le-of-suc-le-suc, lt-of-le-of-lt, lt-of-lt-of-le, lt-of-not-le, not-le-of-lt, mul-one, mul-assoc, mul-pos, mul-le-mul-left, mul-le-mul-right, le-of-mul-le-mul-left, lt-of-mul-lt-mul-right, eq-of-mul-eq-mul-right, mul-lt-mul-of-pos-right, div-lt-iff-lt-mul, sub-add-cancel}
-use native.Mathlib.Omega.{arith}
-use lib.Dec.{T, leb, ltb, leb→le, ltb→lt, nltb→le, nleb→lt, lit<}
-use lib.Pow.{pow-add, pow-mono}
 use lib.Ieee.{Float, nan, inf, fin, Format, binary64, prec, low, down, round, mul, le, fits, units, odd}
 use lib.Ieee.Digits.{size-le}
 use lib.Ieee.Exact.{HasValue}

@@ -1,13 +1,10 @@
 -- Step 8: where v meets the claim, `besideOne x v` does too. It is v, or it is 1 and no further from e ^ x.
 -- Assumes nothing.
-use mathlib.Core.Path.{_≡_, refl, sym, ap, _∙_, subst}
-use mathlib.Core.Logic.{_⊎_, inl, inr}
-use mathlib.Core.Bool.{Bool, true, false, not, cond, true≢false}
-use Prim.Native.Nat.{ℕ, suc, _+_, _-_, _*_, _^_, _≤_, _<_}
+use Rattle.accuracy.proofs.Prelude.{_≡_, refl, sym, ap, _∙_, subst, _⊎_, inl, inr, Bool, true, false, not, cond}
+use Rattle.accuracy.proofs.Prelude.{true≢false, ℕ, suc, _+_, _-_, _*_, _^_, _≤_, _<_, arith, T, leb, leb→le}
+use Rattle.accuracy.proofs.Prelude.{lit≤, lit<}
 use native.Mathlib.Nat.{le-refl, le-trans, le-of-eq, le-of-lt, not-le-of-lt, mul-le-mul, mul-le-mul-left}
 use native.Mathlib.Nat.{mul-le-mul-right, le-add-right, sub-le}
-use native.Mathlib.Omega.{arith}
-use lib.Dec.{T, leb, leb→le, lit≤, lit<}
 use lib.Ieee.{Float, inf, lt, ofBits, size}
 use Rattle.routines.specs.Held.{atLeast, atMost}
 use Rattle.routines.specs.Constants.{zero as nought, one}

@@ -1,11 +1,8 @@
 -- Step 5: the bits of t, a whole number N from 2 ^ 52 below 2 ^ 53, are 1074 * 2 ^ 52 + N; so i = N % 32 and
 -- m = N / 32 % 4096. Assumes nothing.
-use mathlib.Core.Path.{_≡_, sym, ap, _∙_}
-use mathlib.Core.Bool.{Bool, false, cond}
-use Prim.Native.Nat.{ℕ, _+_, _-_, _*_, _/_, _%_, _^_, _≤_, _<_}
+use Rattle.accuracy.proofs.Prelude.{_≡_, sym, ap, _∙_, Bool, false, cond, ℕ, _+_, _-_, _*_, _/_, _%_, _^_, _≤_}
+use Rattle.accuracy.proofs.Prelude.{_<_, arith, pow-pos, pow-add, pow-mono}
 use native.Mathlib.Nat.{le-trans, le-of-eq, le-antisymm, lt-of-lt-of-le, mul-le-mul-right, mul-lt-mul-of-pos-right, mul-div-cancel, not-le-of-lt, lt-of-not-le}
-use native.Mathlib.Omega.{arith}
-use lib.Pow.{pow-add, pow-pos, pow-mono}
 use lib.Ieee.{Float, nan, inf, fin, binary64, toBits, size, up, down}
 use lib.Ieee.Digits.{size-lt, size-le}
 use lib.Ieee.Fits.{down-pos}

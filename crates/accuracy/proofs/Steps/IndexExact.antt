@@ -1,12 +1,9 @@
 -- Steps 1 and 3, for |x| ≤ 770: t = x PER-STEP + SHIFT is a whole number, k = t - SHIFT is exact, and x is k Λ up to
 -- 0.0109.
 -- Assumes nothing.
-use mathlib.Core.Path.{_≡_, refl, sym, ap, _∙_, subst}
-use Prim.Native.Nat.{ℕ, _+_, _-_, _*_, _^_, _≤_, _<_}
+use Rattle.accuracy.proofs.Prelude.{_≡_, refl, sym, ap, _∙_, subst, Bool, true, false, ℕ, _+_, _-_, _*_, _^_}
+use Rattle.accuracy.proofs.Prelude.{_≤_, _<_, arith, T, lit≤, lit<}
 use native.Mathlib.Nat.{le-trans, le-of-eq, lt-of-le-of-lt, mul-le-mul-right, mul-le-mul-left, mul-le-mul, mul-assoc, mul-one, le-of-mul-le-mul-left, add-sub-of-le, one-mul, le-of-mul-le-mul-right, mul-right-comm}
-use native.Mathlib.Omega.{arith}
-use mathlib.Core.Bool.{Bool, true, false}
-use lib.Dec.{T, lit≤, lit<}
 use lib.IntN.{ℤ}
 use lib.Ieee.{Float, nan, inf, fin, binary64, round, add, sub, mul, neg, ofBits, fits, up, down}
 use lib.Ieee.Exact.{round-exact}

@@ -1,10 +1,7 @@
 -- Steps 4 and 7 at every x: with a whole k such that x is k Λ up to 0.0109, and a row of the table, step 7's value
 -- before its last rounding and its exact scaling is e ^ x up to 0.1976 * 2 ^ -53. Assumes nothing.
-use mathlib.Core.Path.{_≡_}
-use Prim.Native.Nat.{ℕ, _+_, _*_, _^_, _≤_, _<_}
+use Rattle.accuracy.proofs.Prelude.{_≡_, Bool, true, false, ℕ, _+_, _*_, _^_, _≤_, _<_, arith}
 use native.Mathlib.Nat.{le-trans, mul-pos, mul-le-mul-left}
-use native.Mathlib.Omega.{arith}
-use mathlib.Core.Bool.{Bool, true, false}
 use lib.Ieee.{Float}
 use Rattle.routines.specs.Exp.{expTail, scaledBy, reduced}
 use Rattle.accuracy.proofs.Rounding.AnyFormat.{plus, less-of, plus-le, less-le}

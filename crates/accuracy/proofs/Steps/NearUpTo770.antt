@@ -1,12 +1,9 @@
 -- Steps 1, 3, 4, 5 and 7 put together, for every finite x with |x| ≤ 770: step 7's value, scaled back, is e ^ x up to
 -- 0.1976 * 2 ^ -53 before its last rounding. Assumes nothing.
-use mathlib.Core.Path.{_≡_, refl, sym, ap, _∙_, subst}
-use mathlib.Core.Bool.{Bool, true, false, not}
-use Prim.Native.Nat.{ℕ, _+_, _-_, _*_, _/_, _%_, _^_, _≤_, _<_}
+use Rattle.accuracy.proofs.Prelude.{_≡_, refl, sym, ap, _∙_, subst, Bool, true, false, not, ℕ, _+_, _-_, _*_}
+use Rattle.accuracy.proofs.Prelude.{_/_, _%_, _^_, _≤_, _<_, arith, T, ltb, ltb→lt, nltb→le, lit≤, pow-pos}
+use Rattle.accuracy.proofs.Prelude.{pow-add}
 use native.Mathlib.Nat.{le-refl, le-trans, mul-assoc, one-mul}
-use native.Mathlib.Omega.{arith}
-use lib.Dec.{T, ltb, lit≤, ltb→lt, nltb→le}
-use lib.Pow.{pow-pos, pow-add}
 use lib.Ieee.{Float, binary64, add, sub, mul, toBits}
 use lib.Ieee.Positive.{num, den}
 use Rattle.accuracy.proofs.Euler.Bounds.{IsExp}

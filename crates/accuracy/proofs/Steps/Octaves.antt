@@ -1,14 +1,10 @@
 -- An octave is 32 Λ: 2 ^ N is e ^ (N octaves) up to one part in 2 ^ 80, for N up to 2000; and from 1099 octaves on
 -- e ^ -x is at most 2 ^ -1099, up to that part. Assumes nothing.
-use mathlib.Core.Path.{_≡_, refl, sym, ap, _∙_, subst}
-use mathlib.Core.Bool.{true}
-use Prim.Native.Nat.{ℕ, suc, _+_, _-_, _*_, _^_, _≤_, _<_}
+use Rattle.accuracy.proofs.Prelude.{_≡_, refl, sym, ap, _∙_, subst, true, ℕ, suc, _+_, _-_, _*_, _^_, _≤_, _<_}
+use Rattle.accuracy.proofs.Prelude.{arith, lit≤, lit<, pow-add}
 use native.Mathlib.Nat.{le-trans, le-of-eq, mul-le-mul-right, mul-le-mul-left, mul-comm, mul-assoc}
 use native.Mathlib.Nat.{le-of-mul-le-mul-left, pow-le-pow-left, add-sub-of-le, mul-left-comm, one-le-pow}
 use native.Mathlib.Nat.{sub-add-cancel}
-use native.Mathlib.Omega.{arith}
-use lib.Dec.{lit≤, lit<}
-use lib.Pow.{pow-add}
 use Rattle.accuracy.proofs.Euler.Means.{mul-pow}
 use Rattle.accuracy.proofs.Euler.Weaker.{Near, below-more}
 use Rattle.accuracy.proofs.Euler.AnySign.{Nearly, exp-weaken, nearly-plus}

@@ -1,12 +1,8 @@
 -- Step 2 far out: where |x| is at least 1099 octaves, `beyond x` meets the claim. It is +0 for a negative x, and +inf
 -- else. Assumes nothing.
-use mathlib.Core.Path.{_≡_, refl, sym, ap, _∙_, subst}
-use mathlib.Core.Logic.{_⊎_, inl, inr}
-use mathlib.Core.Bool.{Bool, true, false, not, cond}
-use Prim.Native.Nat.{ℕ, suc, _+_, _-_, _*_, _^_, _≤_, _<_}
+use Rattle.accuracy.proofs.Prelude.{_≡_, refl, sym, ap, _∙_, subst, _⊎_, inl, inr, Bool, true, false, not, cond}
+use Rattle.accuracy.proofs.Prelude.{ℕ, suc, _+_, _-_, _*_, _^_, _≤_, _<_, arith, T, lit≤, lit<}
 use native.Mathlib.Nat.{le-refl, le-trans, le-of-eq, mul-comm, mul-le-mul-right, mul-assoc, mul-zero, one-mul}
-use native.Mathlib.Omega.{arith}
-use lib.Dec.{T, lit≤, lit<}
 use lib.Ieee.{Float, inf, binary64, up, down, lt, le}
 use Rattle.routines.specs.Constants.{zero as nought}
 use Rattle.routines.specs.Exp.{outOfRange}

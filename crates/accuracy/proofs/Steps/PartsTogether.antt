@@ -1,10 +1,7 @@
 -- e ^ x from its parts: a power of two, the core of step 7, and what step 4 lost. Together they are e ^ x up to
 -- 0.1976 * 2 ^ -53. Assumes nothing.
-use mathlib.Core.Path.{_≡_, refl, sym, subst}
-use Prim.Native.Nat.{ℕ, suc, _+_, _*_, _^_, _≤_, _<_}
+use Rattle.accuracy.proofs.Prelude.{_≡_, refl, sym, subst, ℕ, suc, _+_, _*_, _^_, _≤_, _<_, arith, lit≤, lit<}
 use native.Mathlib.Nat.{le-trans, le-of-eq, mul-le-mul-left, mul-pos}
-use native.Mathlib.Omega.{arith}
-use lib.Dec.{lit≤, lit<}
 use Rattle.accuracy.proofs.Euler.AnySign.{Exp, Nearly, exp-mul, exp-weaken, exp-shift}
 use Rattle.accuracy.proofs.Rounding.Binary64.{L, e, L-pos}
 use Rattle.accuracy.proofs.Steps.SumNear.{last}

@@ -1,12 +1,9 @@
 -- exp's polynomial p(r) = 1 + r + r^2 (1/2 + C3 r + C4 r^2 + C5 r^3 + C6 r^4), with exp's own coefficients and no
 -- rounding, is e ^ r up to one part in 2 ^ 57 for |r| ≤ 0.011. Assumes nothing.
-use mathlib.Core.Path.{_≡_, refl, sym, ap, _∙_, subst}
+use Rattle.accuracy.proofs.Prelude.{_≡_, refl, sym, ap, _∙_, subst, ℕ, suc, _+_, _*_, _^_, _≤_, _<_, arith, lit≤}
+use Rattle.accuracy.proofs.Prelude.{lit<, pow-add}
 use mathlib.Core.List.{List, [], _∷_}
-use Prim.Native.Nat.{ℕ, suc, _+_, _*_, _^_, _≤_, _<_}
 use native.Mathlib.Nat.{le-trans, le-of-eq, pow-zero, pow-succ', mul-one, mul-pos}
-use native.Mathlib.Omega.{arith}
-use lib.Dec.{lit≤, lit<}
-use lib.Pow.{pow-add}
 use lib.ListN.{length}
 use Rattle.accuracy.proofs.Euler.PartialSums.{part, scale, over, scale-pos, scale-times, above-series}
 use Rattle.accuracy.proofs.Euler.PartialSums.{below-series}

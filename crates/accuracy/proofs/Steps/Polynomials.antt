@@ -1,11 +1,9 @@
 -- Polynomials with whole coefficients at a fraction a / c, their sums and products, and a computed test that one is
 -- at most another for every a / c up to 11 / 1000. Assumes nothing.
-use mathlib.Core.Path.{_≡_, refl, sym, ap, _∙_, subst}
+use Rattle.accuracy.proofs.Prelude.{_≡_, refl, sym, ap, _∙_, subst, ℕ, zero, suc, _+_, _-_, _*_, _/_, _^_, _≤_}
+use Rattle.accuracy.proofs.Prelude.{arith, pow-add}
 use mathlib.Core.List.{List, [], _∷_}
-use Prim.Native.Nat.{ℕ, zero, suc, _+_, _-_, _*_, _/_, _^_, _≤_}
 use native.Mathlib.Nat.{le-refl, le-trans, le-of-eq, pow-zero, pow-succ', mul-le-mul-right, mul-le-mul-left, le-of-mul-le-mul-left, zero-lt-suc, add-zero, mul-zero, zero-add, zero-mul}
-use native.Mathlib.Omega.{arith}
-use lib.Pow.{pow-add}
 use lib.ListN.{length}
 use Rattle.accuracy.proofs.Euler.PartialSums.{part, part-suc, part-zero}
 

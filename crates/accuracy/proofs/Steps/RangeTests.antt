@@ -1,13 +1,10 @@
 -- Step 2's tests: where t passes both, |x| is at most 770, and where it fails one, |x| is at least 1099 octaves, of
 -- 32 Λ each. Assumes nothing.
-use mathlib.Core.Path.{_≡_, refl, sym, _∙_, subst}
-use mathlib.Core.Logic.{inl, inr}
-use mathlib.Core.Bool.{Bool, true, false, not, true≢false}
-use Prim.Native.Nat.{ℕ, suc, _+_, _*_, _/_, _^_, _≤_, _<_}
+use Rattle.accuracy.proofs.Prelude.{_≡_, refl, sym, _∙_, subst, inl, inr, Bool, true, false, not, true≢false, ℕ}
+use Rattle.accuracy.proofs.Prelude.{suc, _+_, _*_, _/_, _^_, _≤_, _<_, arith, T, leb, leb→le, nleb→lt, ltb}
+use Rattle.accuracy.proofs.Prelude.{ltb→lt, nltb→le, lit≤, lit<}
 use native.Mathlib.Nat.{le-trans, le-of-suc-le-suc, lt-of-not-le, le-of-eq, le-of-lt, mul-pos, mul-le-mul-left}
 use native.Mathlib.Nat.{mul-le-mul-right, le-of-mul-le-mul-left, le-of-mul-le-mul-right, mul-comm}
-use native.Mathlib.Omega.{arith}
-use lib.Dec.{T, leb, ltb, leb→le, nleb→lt, ltb→lt, nltb→le, lit≤, lit<}
 use lib.Ieee.{Float, nan, inf, fin, binary64, down, unlike, round, add, mul, le, ofBits, size, sub}
 use lib.Ieee.Exact.{HasValue}
 use lib.Ieee.Fits.{add-fits, mul-fits}

@@ -1,13 +1,9 @@
 -- Step 4: k STEP-HIGH is exact, and where x is k Λ up to 0.0109, r is x - k Λ up to 2 ^ -58, and |r| ≤ 0.011. Λ is
 -- STEP-HIGH + STEP-LOW.
 -- Assumes nothing.
-use mathlib.Core.Path.{_≡_, refl, sym, ap, _∙_, subst}
-use Prim.Native.Nat.{ℕ, _+_, _*_, _^_, _≤_, _<_}
+use Rattle.accuracy.proofs.Prelude.{_≡_, refl, sym, ap, _∙_, subst, Bool, true, false, ℕ, _+_, _*_, _^_, _≤_}
+use Rattle.accuracy.proofs.Prelude.{_<_, arith, lit≤, lit<, pow-pos}
 use native.Mathlib.Nat.{le-trans, le-of-eq, lt-of-le-of-lt, lt-of-lt-of-le, mul-le-mul-right, mul-le-mul-left, mul-comm, mul-pos, le-of-mul-le-mul-left, mul-lt-mul-of-pos-right, mul-right-comm}
-use native.Mathlib.Omega.{arith}
-use mathlib.Core.Bool.{Bool, true, false}
-use lib.Dec.{lit≤, lit<}
-use lib.Pow.{pow-pos}
 use lib.Ieee.{Float, binary64, round, sub, mul, ofBits}
 use lib.Ieee.Exact.{HasValue, round-exact}
 use Rattle.routines.specs.Exp.{STEP-HIGH, STEP-LOW, reduced}

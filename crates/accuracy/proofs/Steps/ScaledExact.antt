@@ -1,12 +1,9 @@
 -- Steps 6 and 7: y = T[i] a is exact, for a = 2 ^ (E - 1023), and is a `Scaled`, as NearForIndex wants it.
 -- Assumes nothing.
-use mathlib.Core.Path.{_≡_, refl, sym, ap, _∙_, subst}
-use mathlib.Core.Bool.{Bool, true, false, _&&_}
-use Prim.Native.Nat.{ℕ, suc, _+_, _*_, _/_, _^_, _≤_, _<_}
+use Rattle.accuracy.proofs.Prelude.{_≡_, refl, sym, ap, _∙_, subst, Bool, true, false, _&&_, ℕ, suc, _+_, _*_}
+use Rattle.accuracy.proofs.Prelude.{_/_, _^_, _≤_, _<_, arith, T, leb, leb→le, ltb, ltb→lt, eqb, eqb→eq, pow-pos}
+use Rattle.accuracy.proofs.Prelude.{pow-add, pow-lt}
 use native.Mathlib.Nat.{mul-assoc, mul-comm, le-trans, le-of-eq, lt-of-le-of-lt, mul-le-mul-right, mul-right-comm}
-use native.Mathlib.Omega.{arith}
-use lib.Dec.{T, leb, ltb, eqb, leb→le, ltb→lt, eqb→eq}
-use lib.Pow.{pow-add, pow-pos, pow-lt}
 use lib.Ieee.{Float, nan, inf, fin, binary64, ofBits, mul, up, down}
 use lib.Ieee.Fits.{and-l, and-r}
 use lib.Ieee.Positive.{num, den, positive}

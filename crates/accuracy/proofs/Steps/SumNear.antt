@@ -1,10 +1,8 @@
 -- The core of step 7: for a row of the table with T (1 + D) near e ^ s, and |r| ≤ 0.011, SumRounded's n over y,
 -- times T, is e ^ (s + r) up to 0.1345 * 2 ^ -53. Assumes nothing.
-use mathlib.Core.Path.{_≡_, refl, sym, ap, _∙_}
-use Prim.Native.Nat.{ℕ, suc, _+_, _-_, _*_, _^_, _≤_, _<_}
+use Rattle.accuracy.proofs.Prelude.{_≡_, refl, sym, ap, _∙_, ℕ, suc, _+_, _-_, _*_, _^_, _≤_, _<_, arith, lit≤}
+use Rattle.accuracy.proofs.Prelude.{lit<}
 use native.Mathlib.Nat.{le-trans, le-of-eq, mul-le-mul-right, mul-le-mul-left, mul-assoc, mul-pos, le-of-mul-le-mul-left, mul-right-comm}
-use native.Mathlib.Omega.{arith}
-use lib.Dec.{lit≤, lit<}
 use lib.Ieee.{Float}
 use Rattle.accuracy.proofs.Rounding.AnyFormat.{Close}
 use Rattle.accuracy.proofs.Rounding.Binary64.{L, e, L-pos, small-e}

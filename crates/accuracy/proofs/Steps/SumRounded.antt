@@ -1,12 +1,8 @@
 -- Step 7 before its last product, y + y ((D + r) + h): it is n units, rounded once, and n is y (1 + D + r + h) up to
 -- 2 ^ -58 of y. Assumes nothing.
-use mathlib.Core.Path.{_≡_, refl, sym, ap, subst}
-use Prim.Native.Nat.{ℕ, _+_, _-_, _*_, _/_, _%_, _^_, _≤_, _<_, compare}
+use Rattle.accuracy.proofs.Prelude.{_≡_, refl, sym, ap, subst, Bool, true, false, ℕ, _+_, _-_, _*_, _/_, _%_}
+use Rattle.accuracy.proofs.Prelude.{_^_, _≤_, _<_, compare, arith, lit≤, pow-pos}
 use native.Mathlib.Nat.{le-trans, le-of-eq, mul-le-mul-right, mul-le-mul-left, mul-pos, le-of-mul-le-mul-left, mul-div-cancel, le-div-iff-mul-le}
-use native.Mathlib.Omega.{arith}
-use mathlib.Core.Bool.{Bool, true, false}
-use lib.Dec.{lit≤}
-use lib.Pow.{pow-pos}
 use lib.Ieee.{Float, binary64, add, mul, size}
 use lib.Ieee.Nearest.{closest, nearest-ge}
 use lib.Ieee.Scale.{grid}

@@ -1,12 +1,9 @@
 -- The step Λ = STEP-HIGH + STEP-LOW, which exp uses for ln 2 / 32, and the table: T[i] (1 + D[i]) is e ^ (i Λ), and 2
 -- is e ^ (32 Λ), up to one part in 2 ^ 92. Computed by partial sums. Assumes nothing.
-use mathlib.Core.Path.{_≡_, refl, sym, subst}
+use Rattle.accuracy.proofs.Prelude.{_≡_, refl, sym, subst, Bool, cond, _&&_, ℕ, suc, _+_, _-_, _*_, _^_, _<_}
+use Rattle.accuracy.proofs.Prelude.{arith, T, leb, leb→le, lit<}
 use mathlib.Core.List.{[]}
-use mathlib.Core.Bool.{Bool, _&&_, cond}
-use Prim.Native.Nat.{ℕ, suc, _+_, _-_, _*_, _^_, _<_}
 use native.Mathlib.Nat.{mul-pos}
-use native.Mathlib.Omega.{arith}
-use lib.Dec.{T, leb, leb→le, lit<}
 use lib.ListN.{getD, length}
 use lib.Ieee.{Float, nan, inf, fin, ofBits, up, down}
 use lib.Ieee.Fits.{and-l, and-r}

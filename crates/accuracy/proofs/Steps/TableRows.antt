@@ -1,9 +1,7 @@
 -- Every row of exp's table is a `Row`, as NearForIndex wants it: the facts on numbers are computed. Assumes nothing.
-use mathlib.Core.Path.{_≡_, refl, subst}
+use Rattle.accuracy.proofs.Prelude.{_≡_, refl, subst, Bool, true, false, _&&_, ℕ, _+_, _-_, _*_, _/_, _^_, _<_}
+use Rattle.accuracy.proofs.Prelude.{T, leb, leb→le, ltb, ltb→lt, eqb, eqb→eq}
 use mathlib.Core.List.{List, [], _∷_}
-use mathlib.Core.Bool.{Bool, true, false, _&&_}
-use Prim.Native.Nat.{ℕ, _+_, _-_, _*_, _/_, _^_, _<_}
-use lib.Dec.{T, leb, ltb, eqb, leb→le, ltb→lt, eqb→eq}
 use lib.Ieee.{Float, nan, inf, fin, ofBits}
 use lib.Ieee.Fits.{and-l, and-r}
 use lib.Ieee.Positive.{num, den}

@@ -1,9 +1,7 @@
 -- expTail's ten roundings in whole numbers: where each is close to the exact operation, the result is close to the
 -- exact polynomial. Nothing here is about floats. Assumes nothing.
-use mathlib.Core.Path.{_≡_, sym, ap, _∙_, subst}
-use Prim.Native.Nat.{ℕ, _+_, _*_, _≤_, _<_}
+use Rattle.accuracy.proofs.Prelude.{_≡_, sym, ap, _∙_, subst, ℕ, _+_, _*_, _≤_, _<_, arith}
 use native.Mathlib.Nat.{mul-le-mul-right, mul-le-mul-left, le-of-mul-le-mul-left}
-use native.Mathlib.Omega.{arith}
 use Rattle.accuracy.proofs.Rounding.AnyFormat.{Close}
 
 pub close-mul : (A A' α B B' β : ℕ) → Close A A' α → Close B B' β → Close (A * B) (A' * B') (α * B + A' * β)

@@ -1,10 +1,8 @@
 -- expTail stands for e ^ r - 1 - r: 1 + r + expTail(r) is p(r) up to 2 ^ -64, and that p is the one of
 -- PolynomialNear, which is e ^ r up to one part in 2 ^ 57. Assumes nothing.
-use mathlib.Core.Path.{_≡_, refl, sym, ap, _∙_, subst}
-use Prim.Native.Nat.{ℕ, _+_, _-_, _*_, _^_, _≤_}
+use Rattle.accuracy.proofs.Prelude.{_≡_, refl, sym, ap, _∙_, subst, true, false, ℕ, _+_, _-_, _*_, _^_, _≤_}
+use Rattle.accuracy.proofs.Prelude.{arith}
 use native.Mathlib.Nat.{mul-le-mul-left, mul-one, pow-zero, pow-succ', sub-add-cancel}
-use native.Mathlib.Omega.{arith}
-use mathlib.Core.Bool.{true, false}
 use lib.Ieee.{Float}
 use Rattle.routines.specs.Exp.{expTail}
 use Rattle.accuracy.proofs.Rounding.AnyFormat.{Close}

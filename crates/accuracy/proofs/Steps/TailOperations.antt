@@ -1,11 +1,8 @@
 -- expTail's ten operations one by one, on every |r| ≤ 0.011: the value of each in units, how far its rounding is from
 -- the exact one, and a bound of its size. Then all ten together (`finish`). Assumes nothing.
-use mathlib.Core.Path.{_≡_, refl, sym, _∙_, subst}
-use Prim.Native.Nat.{ℕ, _+_, _*_, _^_, _≤_, _<_}
+use Rattle.accuracy.proofs.Prelude.{_≡_, refl, sym, _∙_, subst, Bool, false, ℕ, _+_, _*_, _^_, _≤_, _<_, arith}
+use Rattle.accuracy.proofs.Prelude.{lit≤, lit<}
 use native.Mathlib.Nat.{le-trans, mul-le-mul-right, mul-le-mul-left, mul-le-mul, le-of-mul-le-mul-left}
-use native.Mathlib.Omega.{arith}
-use mathlib.Core.Bool.{Bool, false}
-use lib.Dec.{lit≤, lit<}
 use lib.Ieee.{Float, binary64, add, mul, ofBits}
 use Rattle.routines.specs.Constants.{half}
 use Rattle.routines.specs.Exp.{expTail, C3, C4, C5, C6}

@@ -1,11 +1,7 @@
 -- expTail on every |r| ≤ 0.011: the rounded result is the exact polynomial up to 2 ^ -64, for r of either sign.
 -- Assumes nothing.
-use mathlib.Core.Path.{_≡_, refl, sym}
-use Prim.Native.Nat.{ℕ, _+_, _-_, _*_, _^_, _≤_}
+use Rattle.accuracy.proofs.Prelude.{_≡_, refl, sym, true, false, ℕ, _+_, _-_, _*_, _^_, _≤_, arith, lit≤}
 use native.Mathlib.Nat.{le-of-eq, mul-le-mul-right, mul-le-mul-left, sub-add-cancel}
-use native.Mathlib.Omega.{arith}
-use mathlib.Core.Bool.{true, false}
-use lib.Dec.{lit≤}
 use lib.Ieee.{Float}
 use Rattle.routines.specs.Exp.{expTail}
 use Rattle.accuracy.proofs.Rounding.AnyFormat.{Close}

@@ -1,12 +1,8 @@
 -- Step 7's value meets the claim, before step 8: from `Valued` to `Answers`. Assumes nothing.
-use mathlib.Core.Path.{_≡_, refl, sym, ap, _∙_, subst}
-use mathlib.Core.Logic.{inl, inr}
-use mathlib.Core.Bool.{Bool, true, false, not, cond}
-use Prim.Native.Nat.{ℕ, zero, suc, _+_, _-_, _*_, _^_, _≤_, _<_}
+use Rattle.accuracy.proofs.Prelude.{_≡_, refl, sym, ap, _∙_, subst, inl, inr, Bool, true, false, not, cond, ℕ}
+use Rattle.accuracy.proofs.Prelude.{zero, suc, _+_, _-_, _*_, _^_, _≤_, _<_, arith, T, leb, leb→le, nleb→lt}
+use Rattle.accuracy.proofs.Prelude.{lit≤, lit<, pow-add, pow-mono}
 use native.Mathlib.Nat.{le-trans, le-of-eq, le-of-lt, lt-of-le-of-lt, lt-of-lt-of-le, not-le-of-lt, lt-of-not-le, mul-pos, mul-comm, mul-le-mul, mul-le-mul-left, mul-le-mul-right, lt-of-mul-lt-mul-right, le-of-mul-le-mul-right, mul-lt-mul-of-pos-right, add-sub-of-le, one-mul, sub-add-cancel, zero-lt-suc, zero-mul}
-use native.Mathlib.Omega.{arith}
-use lib.Dec.{T, leb, leb→le, nleb→lt, lit≤, lit<}
-use lib.Pow.{pow-add, pow-mono}
 use lib.Ieee.{Float, inf, size}
 use lib.Ieee.Digits.{size-lt, size-le}
 use Rattle.routines.specs.Units.{Off}

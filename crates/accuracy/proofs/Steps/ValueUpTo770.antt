@@ -1,12 +1,8 @@
 -- Steps 3 to 7 for |x| ≤ 770: step 7's value is N / L units rounded, N is M up to half a place, and M / L units are
 -- e ^ x up to one part in `sharp`. Assumes nothing.
-use mathlib.Core.Path.{_≡_, sym, ap, _∙_, subst}
-use mathlib.Core.Bool.{Bool, false, not}
-use Prim.Native.Nat.{ℕ, suc, _+_, _-_, _*_, _/_, _%_, _^_, _≤_, _<_}
+use Rattle.accuracy.proofs.Prelude.{_≡_, sym, ap, _∙_, subst, Bool, false, not, ℕ, suc, _+_, _-_, _*_, _/_, _%_}
+use Rattle.accuracy.proofs.Prelude.{_^_, _≤_, _<_, arith, T, lit<, pow-pos, pow-add}
 use native.Mathlib.Nat.{le-trans, le-of-eq, lt-of-lt-of-le, mul-pos, mul-assoc, mul-le-mul-right, eq-of-mul-eq-mul-right, mul-left-comm}
-use native.Mathlib.Omega.{arith}
-use lib.Dec.{T, lit<}
-use lib.Pow.{pow-add, pow-pos}
 use lib.Ieee.{Float, binary64, add, mul, ofBits, toBits, fits, size}
 use lib.Ieee.Fits.{add-fits}
 use lib.Ieee.Positive.{num, den, den-pos, value→cross}
