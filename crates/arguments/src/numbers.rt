@@ -8,6 +8,7 @@ ghost use Rattle.listing.specs.Decimal.{valueOf};
 ghost use Rattle.arguments.specs.Numbers.{before, isDigit, allDigits, few};
 ghost use Rattle.arguments.specs.Numbers.{quotientOf, readDecimalOf, readWholeOf};
 ghost use Rattle.arguments.specs.Answers.{decimalSays, wholeSays};
+use meaning::bytes::wide;
 use routines::casts::from_u64;
 
 pub enum Decimal {
@@ -18,12 +19,6 @@ pub enum Decimal {
 pub enum Whole {
     Value(u64),
     Malformed,
-}
-
-fn wide(digit: u8) -> u64
-    ensures { λ r. ⌜ r ≡ digit ⌝ }
-{
-    digit as u64
 }
 
 // The place of the first point, or the length where there is none.

@@ -3,6 +3,7 @@ use Prim.Native.Nat.{ℕ}
 use mathlib.Core.Bool.{cond}
 use lib.Dec.{eqb}
 use lib.Ieee.{Float}
+use Rattle.meaning.specs.Numbers as number
 use Rattle.meaning.specs.Reply.{Reply, refuse, broken, give}
 use Rattle.routines.specs.Constants as constants
 use Rattle.helpers.specs.declared.shelves.Shelf.{Shelf}
@@ -16,17 +17,17 @@ use Rattle.exports.specs.declared.shelf.FlatShelf.{FlatShelf}
 -- the number, 0 for an answer; the value, 0 for a refusal
 abbrev pub sayNumber : Reply Float → FlatNumber
 sayNumber (refuse n) = record { number = n; value = constants.zero }
-sayNumber (broken place) = record { number = 3; value = constants.zero }
+sayNumber (broken place) = record { number = number.brokenFile; value = constants.zero }
 sayNumber (give x) = record { number = 0; value = x }
 
 abbrev pub sayWritten : Reply ℕ → FlatWritten
 sayWritten (refuse n) = record { number = n; items = 0 }
-sayWritten (broken place) = record { number = 3; items = 0 }
+sayWritten (broken place) = record { number = number.brokenFile; items = 0 }
 sayWritten (give n) = record { number = 0; items = n }
 
 abbrev pub sayCount : Reply ℕ → FlatCount
 sayCount (refuse n) = record { number = n; count = 0 }
-sayCount (broken place) = record { number = 3; count = 0 }
+sayCount (broken place) = record { number = number.brokenFile; count = 0 }
 sayCount (give n) = record { number = 0; count = n }
 
 abbrev pub shelfOf : FlatShelf → Shelf

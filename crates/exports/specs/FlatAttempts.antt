@@ -4,6 +4,7 @@ use mathlib.Core.Bool.{Bool, true, false, not, cond}
 use mathlib.Core.List.{List, [], _∷_}
 use lib.Dec.{eqb}
 use lib.ListN.{getD}
+use Rattle.meaning.specs.Numbers as number
 use Rattle.meaning.specs.Reply.{Reply, refuse, broken, give}
 use Rattle.fitter.specs.Attempts.{attemptOf}
 use Rattle.fitter.specs.Validation.{Judgement, valid, rejected}
@@ -13,7 +14,8 @@ use Rattle.fitter.specs.declared.attempts.RejectionPart.the-variants.{Absent, P
 use Rattle.fitter.specs.declared.rejections.FitRejection.{FitRejection}
 use Rattle.fitter.specs.declared.rejections.FitRejection.the-variants as reason
 use Rattle.fitter.specs.declared.selection.Selected.{Selected}
-use Rattle.exports.specs.FlatFits.{errorOf, genomeOf, fitOf, ofFit}
+use Rattle.models.specs.Parts.{errorOf, genomeOf}
+use Rattle.exports.specs.FlatFits.{fitOf, ofFit}
 use Rattle.exports.specs.declared.flat_attempts.FlatAttempt.{FlatAttempt}
 use Rattle.exports.specs.declared.flat_attempts.FlatSelected.{FlatSelected}
 use Rattle.exports.specs.declared.verdicts.FlatVerdict.{FlatVerdict}
@@ -25,7 +27,7 @@ reasonIn (rejected n) = n
 
 abbrev pub sayVerdict : Reply Judgement → FlatVerdict
 sayVerdict (refuse n) = record { number = n; reason = 0 }
-sayVerdict (broken place) = record { number = 3; reason = 0 }
+sayVerdict (broken place) = record { number = number.brokenFile; reason = 0 }
 sayVerdict (give j) = record { number = 0; reason = reasonIn j }
 
 -- ---- an attempt: a reason by its number, and no run converged for any number that no rule has

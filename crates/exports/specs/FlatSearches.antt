@@ -1,14 +1,9 @@
--- How C has what a search judges a list by. Definitions only. Assumes nothing.
+-- How C has what a search judges a list by: it reads neither valley nor mass limit. Definitions only. Assumes nothing.
 use Prim.Native.Nat.{ℕ}
 use lib.Ieee.{Float}
-use Rattle.search.specs.declared.prices.Problem.{Problem}
-use Rattle.exports.specs.FlatFits.{errorOf, genomeOf}
+use Rattle.models.specs.declared.problems.Problem.{Problem}
+use Rattle.routines.specs.Constants.{one}
+use Rattle.exports.specs.FlatTables.{setupOf}
 
 abbrev pub problemOf : Float → ℕ → ℕ → ℕ → ℕ → Problem
-problemOf scale end peak error genome = record {
-  scale = scale;
-  «window_end» = end;
-  peak = peak;
-  error = errorOf error;
-  genome = genomeOf genome;
-}
+problemOf scale end peak error genome = setupOf scale end 2 peak error genome one

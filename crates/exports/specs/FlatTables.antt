@@ -8,12 +8,13 @@ use Rattle.fitter.specs.declared.attempts.FitAttempt.{FitAttempt}
 use Rattle.fitter.specs.declared.attempts.RejectionPart.{RejectionPart}
 use Rattle.fitter.specs.declared.attempts.RejectionPart.the-variants.{Absent, Present}
 use Rattle.fitter.specs.declared.settling.AttemptAnswer.{AttemptAnswer}
-use Rattle.fitter.specs.declared.settling.Setup.{Setup}
-use Rattle.exports.specs.FlatFits.{errorOf, genomeOf, ofError, ofGenome, ofFit}
+use Rattle.models.specs.declared.problems.Problem.{Problem}
+use Rattle.models.specs.Parts.{errorNumber, genomeNumber, errorOf, genomeOf}
+use Rattle.exports.specs.FlatFits.{ofFit}
 use Rattle.exports.specs.declared.flat_attempts.FlatAttempt.{FlatAttempt}
 use Rattle.exports.specs.declared.run_tables.FlatAttemptAnswer.{FlatAttemptAnswer}
 
-abbrev pub setupOf : Float → ℕ → ℕ → ℕ → ℕ → ℕ → Float → Setup
+abbrev pub setupOf : Float → ℕ → ℕ → ℕ → ℕ → ℕ → Float → Problem
 setupOf scale end valley peak error genome limit = record {
   scale = scale;
   «window_end» = end;
@@ -35,8 +36,8 @@ rejectionNumber (Present why) = reasonNumber why
 
 unfoldable pub ofAttempt : FitAttempt → FlatAttempt
 ofAttempt a = record {
-  «error_model» = ofError (a .«error_model»);
-  «genome_model» = ofGenome (a .«genome_model»);
+  «error_model» = errorNumber (a .«error_model»);
+  «genome_model» = genomeNumber (a .«genome_model»);
   «has_candidate» = byteOf (a .«has_candidate»);
   candidate = ofFit (a .candidate);
   «rejection_present» = rejectionThere (a .rejection);

@@ -1,46 +1,10 @@
 // The families, as C has them: 0 for the first case, any other number for the second.
 ghost use mathlib.Core.Path.{_≡_};
 ghost use Rattle.models.specs.Families.{parameterCountOf, extraParametersOf, listLengthOf};
-ghost use Rattle.exports.specs.FlatFits.{errorOf, genomeOf, ofError, ofGenome};
-use models::families::ErrorModel;
-use models::families::GenomeModel;
+ghost use Rattle.models.specs.Parts.{errorOf, genomeOf};
 use models::families::list_length;
-
-pub fn error_of(error: u8) -> ErrorModel
-    ensures { λ r. ⌜ r ≡ errorOf error ⌝ }
-{
-    if error == 0 {
-        return ErrorModel::FreeSingletonWeibull;
-    }
-    ErrorModel::SingletonPareto
-}
-
-pub fn genome_of(genome: u8) -> GenomeModel
-    ensures { λ r. ⌜ r ≡ genomeOf genome ⌝ }
-{
-    if genome == 0 {
-        return GenomeModel::NegativeBinomial;
-    }
-    GenomeModel::ShelfNegativeBinomial
-}
-
-pub(crate) fn flat_error(error: ErrorModel) -> u8
-    ensures { λ r. ⌜ r ≡ ofError error ⌝ }
-{
-    match error {
-        ErrorModel::FreeSingletonWeibull => 0,
-        ErrorModel::SingletonPareto => 1,
-    }
-}
-
-pub(crate) fn flat_genome(genome: GenomeModel) -> u8
-    ensures { λ r. ⌜ r ≡ ofGenome genome ⌝ }
-{
-    match genome {
-        GenomeModel::NegativeBinomial => 0,
-        GenomeModel::ShelfNegativeBinomial => 1,
-    }
-}
+use models::parts::error_of;
+use models::parts::genome_of;
 
 #[no_mangle]
 pub extern "C" fn fog_parameter_count(error: u8) -> usize

@@ -11,6 +11,7 @@ use crate::answers::flat_written;
 use histogram::reader::FileRead;
 use histogram::reader::read_histogram;
 use histogram::writer::write_histogram;
+use meaning::refusals::BROKEN_FILE;
 
 // `place` is the place of the first fault where the number is 3, and 0 otherwise.
 #[repr(C)]
@@ -30,7 +31,7 @@ pub fn flat_file(answer: FileRead) -> FlatFile
             place: 0,
         },
         FileRead::Broken(place) => FlatFile {
-            number: 3,
+            number: BROKEN_FILE,
             items: 0,
             place,
         },

@@ -1,16 +1,20 @@
 // A fit, as C has it: presences beside the numbers, and 0 for a number that is not there.
 ghost use mathlib.Core.Path.{_≡_};
-ghost use Rattle.exports.specs.FlatFits.{shapeOf, errorsOf, fitOf, shapeThere, shapeNumber, ofErrors, shelfThere, shelfNumbers, ofFit};
-use crate::families::error_of;
-use crate::families::flat_error;
-use crate::families::flat_genome;
-use crate::families::genome_of;
+ghost use Rattle.exports.specs.FlatFits.{errorsOf, fitOf, ofErrors, shelfNumbers, ofFit};
 use crate::shelf::FlatShelf;
 use crate::shelf::part_of;
 use helpers::shelves::ShelfPart;
 use models::errors::ErrorParams;
-use models::errors::ShapePart;
 use models::fit::SpectrumFit;
+use models::parts::error_number;
+use models::parts::error_of;
+use models::parts::genome_number;
+use models::parts::genome_of;
+use models::parts::shape_number;
+use models::parts::shape_of;
+use models::parts::shape_there;
+use models::parts::shelf_held;
+use models::parts::shelf_there;
 
 #[repr(C)]
 pub struct FlatErrors {
@@ -46,15 +50,6 @@ pub struct FlatFit {
     pub component_log_totals: [f64; 3],
     pub observed_total: f64,
     pub full_distinct_total: f64,
-}
-
-fn shape_of(present: u8, shape: f64) -> ShapePart
-    ensures { λ r. ⌜ r ≡ shapeOf present shape ⌝ }
-{
-    if present == 0 {
-        return ShapePart::Absent;
-    }
-    ShapePart::Present(shape)
 }
 
 pub fn errors_of(errors: FlatErrors) -> ErrorParams
@@ -104,24 +99,6 @@ pub fn fit_of(fit: FlatFit) -> SpectrumFit
     }
 }
 
-fn shape_there(shape: ShapePart) -> u8
-    ensures { λ r. ⌜ r ≡ shapeThere shape ⌝ }
-{
-    match shape {
-        ShapePart::Absent => 0,
-        ShapePart::Present(_) => 1,
-    }
-}
-
-fn shape_number(shape: ShapePart) -> f64
-    ensures { λ r. ⌜ r ≡ shapeNumber shape ⌝ }
-{
-    match shape {
-        ShapePart::Absent => 0.0,
-        ShapePart::Present(value) => value,
-    }
-}
-
 pub fn flat_errors(errors: ErrorParams) -> FlatErrors
     ensures { λ r. ⌜ r ≡ ofErrors errors ⌝ }
 {
@@ -134,29 +111,14 @@ pub fn flat_errors(errors: ErrorParams) -> FlatErrors
     }
 }
 
-pub fn shelf_there(shelf: ShelfPart) -> u8
-    ensures { λ r. ⌜ r ≡ shelfThere shelf ⌝ }
-{
-    match shelf {
-        ShelfPart::Absent => 0,
-        ShelfPart::Present(_) => 1,
-    }
-}
-
 pub fn shelf_numbers(shelf: ShelfPart) -> FlatShelf
     ensures { λ r. ⌜ r ≡ shelfNumbers shelf ⌝ }
 {
-    match shelf {
-        ShelfPart::Absent => FlatShelf {
-            share: 0.0,
-            alpha: 0.0,
-            beta: 0.0,
-        },
-        ShelfPart::Present(s) => FlatShelf {
-            share: s.share,
-            alpha: s.alpha,
-            beta: s.beta,
-        },
+    let s = shelf_held(shelf);
+    FlatShelf {
+        share: s.share,
+        alpha: s.alpha,
+        beta: s.beta,
     }
 }
 
@@ -170,8 +132,8 @@ pub(crate) fn flat_fit(fit: SpectrumFit) -> FlatFit
     let error_params = flat_errors(fit.error_params);
     let shelf = fit.shelf;
     FlatFit {
-        error_model: flat_error(error_model),
-        genome_model: flat_genome(genome_model),
+        error_model: error_number(error_model),
+        genome_model: genome_number(genome_model),
         w_error: fit.w_error,
         w_single: fit.w_single,
         w_repeat: fit.w_repeat,

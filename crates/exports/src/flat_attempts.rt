@@ -5,8 +5,6 @@ ghost use Rattle.meaning.specs.Flags.{byteOf};
 ghost use Rattle.fitter.specs.Attempts.{validOf};
 ghost use Rattle.fitter.specs.Selection.{selectOf};
 ghost use Rattle.exports.specs.FlatAttempts.{reasonOf, rejectionOf, attemptOfFlat, ofSelected};
-use crate::families::error_of;
-use crate::families::genome_of;
 use crate::fits::FlatFit;
 use crate::fits::fit_of;
 use crate::fits::flat_fit;
@@ -18,6 +16,8 @@ use fitter::rejections::FitRejection;
 use fitter::selection::Selected;
 use fitter::selection::select_fit;
 use meaning::flags::byte_of;
+use models::parts::error_of;
+use models::parts::genome_of;
 
 #[repr(C)]
 pub struct FlatAttempt {

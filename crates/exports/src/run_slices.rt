@@ -10,7 +10,7 @@ use crate::run_tables::flat_attempt_answer;
 use crate::run_tables::setup_of;
 use fitter::run_table::attempt_from;
 use fitter::runs::LentRun;
-use fitter::settling::Setup;
+use models::problems::Problem;
 
 // The numbers of an attempt; the families are bytes.
 #[repr(C)]
@@ -24,7 +24,7 @@ pub struct FlatSetup {
     pub mass_limit: f64,
 }
 
-fn setup_from(setup: FlatSetup) -> Setup
+fn setup_from(setup: FlatSetup) -> Problem
     ensures { λ r. ⌜ r ≡ setupFrom setup ⌝ }
 {
     setup_of(

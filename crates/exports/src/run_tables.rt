@@ -4,19 +4,19 @@ ghost use lib.ListN.{length, drop};
 ghost use Rattle.fitter.specs.Attempting.{attemptAnswerOf, attemptFrom, standsFrom};
 ghost use Rattle.fitter.specs.Columns.{countOfRuns, runOf};
 ghost use Rattle.exports.specs.FlatTables.{rejectionThere, rejectionNumber, ofAttempt, setupOf, sayAttempt};
-use crate::families::error_of;
-use crate::families::flat_error;
-use crate::families::flat_genome;
-use crate::families::genome_of;
 use crate::fits::flat_fit;
 use crate::flat_attempts::FlatAttempt;
-use crate::verdicts::reason_number;
 use fitter::attempting::attempt_from_numbers;
 use fitter::attempts::FitAttempt;
 use fitter::attempts::RejectionPart;
+use fitter::rejections::reason_number;
 use fitter::settling::AttemptAnswer;
-use fitter::settling::Setup;
 use meaning::flags::byte_of;
+use models::parts::error_number;
+use models::parts::error_of;
+use models::parts::genome_number;
+use models::parts::genome_of;
+use models::problems::Problem;
 
 #[repr(C)]
 pub struct FlatAttemptAnswer {
@@ -50,8 +50,8 @@ fn flat_attempt(attempt: FitAttempt) -> FlatAttempt
     let rejection = attempt.rejection;
     let candidate = flat_fit(attempt.candidate);
     FlatAttempt {
-        error_model: flat_error(error),
-        genome_model: flat_genome(genome),
+        error_model: error_number(error),
+        genome_model: genome_number(genome),
         has_candidate: byte_of(attempt.has_candidate),
         candidate: candidate,
         rejection_present: rejection_there(rejection),
@@ -78,10 +78,10 @@ pub(crate) fn setup_of(
     error: u8,
     genome: u8,
     mass_limit: f64,
-) -> Setup
+) -> Problem
     ensures { λ r. ⌜ r ≡ setupOf scale «window_end» valley peak error genome «mass_limit» ⌝ }
 {
-    Setup {
+    Problem {
         scale,
         window_end,
         valley,

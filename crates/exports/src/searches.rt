@@ -12,27 +12,23 @@ ghost use Rattle.search.specs.Prices.{priceOf, capOf, widthOf};
 ghost use Rattle.search.specs.Reporting.{reportedAt, columnsOf, reportOf};
 ghost use Rattle.search.specs.Searches.{simplexesAfter, iterationsAfter, stoppedAfter, lentOf, runSearchesOf, stoodFrom, readyAfter};
 ghost use Rattle.exports.specs.Flat.{sayWritten};
-ghost use Rattle.exports.specs.FlatFits.{errorOf, genomeOf};
+ghost use Rattle.models.specs.Parts.{errorOf, genomeOf};
 ghost use Rattle.exports.specs.FlatSearches.{problemOf};
 use crate::answers::FlatWritten;
 use crate::answers::flat_written;
-use crate::families::error_of;
-use crate::families::genome_of;
+use crate::run_tables::setup_of;
+use models::parts::error_of;
+use models::parts::genome_of;
+use models::problems::Problem;
 use search::beginning::begin_searches;
-use search::prices::Problem;
 use search::reporting::report_searches;
 use search::searching::run_searches;
 
+// A search reads neither valley nor mass limit.
 fn problem_of(scale: f64, window_end: usize, peak: usize, error: u8, genome: u8) -> Problem
     ensures { λ r. ⌜ r ≡ problemOf scale «window_end» peak error genome ⌝ }
 {
-    Problem {
-        scale,
-        window_end,
-        peak,
-        error: error_of(error),
-        genome: genome_of(genome),
-    }
+    setup_of(scale, window_end, 2, peak, error, genome, 1.0)
 }
 
 #[no_mangle]

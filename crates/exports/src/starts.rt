@@ -8,14 +8,14 @@ ghost use Rattle.routines.specs.Starts.{paretoStarts, weibullStarts};
 ghost use Rattle.fitter.specs.StartTables.{wrongTables};
 ghost use Rattle.fitter.specs.Starts.{startsOf};
 ghost use Rattle.exports.specs.Flat.{sayWritten};
-ghost use Rattle.exports.specs.FlatFits.{errorOf, genomeOf};
+ghost use Rattle.models.specs.Parts.{errorOf, genomeOf};
 use crate::answers::FlatWritten;
 use crate::answers::flat_written;
-use crate::families::error_of;
-use crate::families::genome_of;
 use fitter::starts::fit_starts;
 use fitter::starts::fit_starts_lent;
 use fitter::starts::start_tables_refusal;
+use models::parts::error_of;
+use models::parts::genome_of;
 
 #[no_mangle]
 pub extern "C" fn fog_start_tables_refusal(pareto: &[f64], weibull: &[f64]) -> u8

@@ -1,11 +1,11 @@
 // The validator, and its reasons by their numbers.
 ghost use mathlib.Core.Path.{_≡_};
-ghost use Rattle.fitter.specs.Validation.{reasonNumber, validateOf, verdictSays};
+ghost use Rattle.fitter.specs.Validation.{validateOf, verdictSays};
 ghost use Rattle.exports.specs.FlatFits.{fitOf};
 ghost use Rattle.exports.specs.FlatAttempts.{sayVerdict};
 use crate::fits::FlatFit;
 use crate::fits::fit_of;
-use fitter::rejections::FitRejection;
+use fitter::rejections::reason_number;
 use fitter::validation::Verdict;
 use fitter::validation::validate_fit;
 
@@ -13,24 +13,6 @@ use fitter::validation::validate_fit;
 pub struct FlatVerdict {
     pub number: u8,
     pub reason: u8,
-}
-
-pub(crate) fn reason_number(why: FitRejection) -> u8
-    ensures { λ r. ⌜ r ≡ reasonNumber why ⌝ }
-{
-    match why {
-        FitRejection::OptimisationFailed => 0,
-        FitRejection::NonFiniteLikelihood => 1,
-        FitRejection::InvalidComponents => 2,
-        FitRejection::InvalidWindowMass => 3,
-        FitRejection::ComponentMassExceeded => 4,
-        FitRejection::UnstableModeParameterisation => 5,
-        FitRejection::GenomeLobeOutsideFitWindow => 6,
-        FitRejection::ErrorModePastValley => 7,
-        FitRejection::PrimaryModeOutsideBand => 8,
-        FitRejection::RepeatModeTooEarly => 9,
-        FitRejection::PositiveLogLikelihood => 10,
-    }
 }
 
 fn flat_verdict(verdict: Verdict) -> FlatVerdict

@@ -14,12 +14,12 @@ use Rattle.fitter.specs.declared.judging.Held.{Held}
 use Rattle.fitter.specs.declared.runs.Run.{Run}
 use Rattle.fitter.specs.declared.settling.AttemptAnswer.{AttemptAnswer}
 use Rattle.fitter.specs.declared.settling.Settled.{Settled}
-use Rattle.fitter.specs.declared.settling.Setup.{Setup}
+use Rattle.models.specs.declared.problems.Problem.{Problem}
 use Rattle.fitter.specs.declared.surveys.Survey.{Survey}
 use Rattle.fitter.proofs.Attempted.{answered}
 use Rattle.fitter.proofs.Settlement.{finished-number, unsettled-is}
 
-module _ (bins : List ℕ) (setup : Setup) (lists : List Float) (room : ℕ) (at : ℕ → Run) (n : ℕ) where
+module _ (bins : List ℕ) (setup : Problem) (lists : List Float) (room : ℕ) (at : ℕ → Run) (n : ℕ) where
   abbrev answer : AttemptAnswer
   answer = attemptAnswerOf (attemptFrom bins setup lists room at n)
 

@@ -26,7 +26,7 @@ use Rattle.fitter.specs.declared.attempts.RejectionPart.the-variants.{Pr
 use Rattle.fitter.specs.declared.judging.JudgedFit.{JudgedFit}
 use Rattle.fitter.specs.declared.rejections.FitRejection.the-variants as reason
 use Rattle.fitter.specs.declared.runs.Run.{Run}
-use Rattle.fitter.specs.declared.settling.Setup.{Setup}
+use Rattle.models.specs.declared.problems.Problem.{Problem}
 use Rattle.fitter.specs.declared.surveys.Best.{Best}
 use Rattle.fitter.proofs.Cleared.{clear}
 use Rattle.fitter.proofs.RunFits.{whole}
@@ -64,7 +64,7 @@ module _ {A : Type 0} (x : A) where
       rest true q = q
       rest false q = absurd (false≢true q)
 
-module _ (bins : List ℕ) (setup : Setup) (lists : List Float) (at : ℕ → Run) (n : ℕ) where
+module _ (bins : List ℕ) (setup : Problem) (lists : List Float) (at : ℕ → Run) (n : ℕ) where
   abbrev wanted : ℕ
   wanted = listLengthOf (setup .error) (setup .genome)
 

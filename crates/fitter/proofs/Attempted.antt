@@ -30,7 +30,7 @@ use Rattle.fitter.specs.declared.judging.Held.{Held}
 use Rattle.fitter.specs.declared.runs.Run.{Run}
 use Rattle.fitter.specs.declared.settling.AttemptAnswer.{AttemptAnswer}
 use Rattle.fitter.specs.declared.settling.Settled.{Settled}
-use Rattle.fitter.specs.declared.settling.Setup.{Setup}
+use Rattle.models.specs.declared.problems.Problem.{Problem}
 use Rattle.fitter.specs.declared.surveys.Best.{Best}
 use Rattle.fitter.specs.declared.surveys.Survey.{Survey}
 use Rattle.fitter.proofs.Cleared.{clear}
@@ -41,7 +41,7 @@ use Rattle.fitter.proofs.Settlement.{finished-kept}
 use Rattle.fitter.proofs.Keeping.{kept-none, kept-least, kept-converged, kept-retried}
 
 -- ---- what holds where nothing is refused
-module _ (bins : List ℕ) (setup : Setup) (n : ℕ) (wrong bad : Bool) (room : ℕ) where
+module _ (bins : List ℕ) (setup : Problem) (n : ℕ) (wrong bad : Bool) (room : ℕ) where
   abbrev tests : List Test
   tests = setupTests bins setup n wrong bad room
 
@@ -111,7 +111,7 @@ good-cost : (run : Run) → hasWrongCost run ≡ false → run .converged ≡ tr
 unfolding hasWrongCost
 good-cost run h e = sym (ap (λ (b : Bool). b && badCost (run .cost)) e) ∙ h
 
-module _ (bins : List ℕ) (setup : Setup) (lists : List Float) (room : ℕ) (at : ℕ → Run) (n : ℕ) where
+module _ (bins : List ℕ) (setup : Problem) (lists : List Float) (room : ℕ) (at : ℕ → Run) (n : ℕ) where
   abbrev survey : Survey
   survey = surveyed bins setup lists room at n
 

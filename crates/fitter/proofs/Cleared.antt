@@ -13,9 +13,9 @@ use Rattle.models.specs.Refusals.{tableDemand, shortTable, spectrumTests}
 use Rattle.fitter.specs.Attempting.{wrongLists, wrongCosts, setupTests}
 use Rattle.fitter.specs.Candidates.{LongEnough}
 use Rattle.fitter.specs.Validation.{outsideLimit}
-use Rattle.fitter.specs.declared.settling.Setup.{Setup}
+use Rattle.models.specs.declared.problems.Problem.{Problem}
 
-pub record Clear (bins : List ℕ) (setup : Setup) (n : ℕ) (wrong bad : Bool) (room : ℕ) : Type 0 where
+pub record Clear (bins : List ℕ) (setup : Problem) (n : ℕ) (wrong bad : Bool) (room : ℕ) : Type 0 where
   pub peak-some : 0 ≡ firstOf (belowTwo (setup .peak ∷ []))
   pub valley-some : 0 ≡ firstOf (belowTwo (setup .valley ∷ []))
   pub bins-some : 0 ≡ firstOf (belowTwo (length bins ∷ []))
@@ -27,7 +27,7 @@ pub record Clear (bins : List ℕ) (setup : Setup) (n : ℕ) (wrong bad : Bool) 
   pub limited : 0 ≡ firstOf (outsideLimit (setup .«mass_limit»))
   pub roomed : LongEnough setup room
 
-pub clear : (bins : List ℕ) (setup : Setup) (n : ℕ) (wrong bad : Bool) (room : ℕ)
+pub clear : (bins : List ℕ) (setup : Problem) (n : ℕ) (wrong bad : Bool) (room : ℕ)
     → 0 ≡ firstOf (setupTests bins setup n wrong bad room) → Clear bins setup n wrong bad room
 unfolding setupTests
 clear bins setup n wrong bad room z =

@@ -13,7 +13,7 @@ use Rattle.meaning.specs.Flags.{isSet}
 use Rattle.fitter.specs.Attempting.{attemptFrom}
 use Rattle.fitter.specs.Columns.{shorter, shortest, countOfRuns, runOf, pastLent, runIn}
 use Rattle.fitter.specs.declared.runs.LentRun.{LentRun}
-use Rattle.fitter.specs.declared.settling.Setup.{Setup}
+use Rattle.models.specs.declared.problems.Problem.{Problem}
 
 module _ (a b i : ℕ) where
   shorter-first : i < shorter a b → i < a
@@ -104,7 +104,7 @@ module _ (runs : List LentRun) where
       (length-map runs _) (length-map runs _)
 
   -- THE THEOREM: over the columns of a table the attempt is that over the table
-  pub columns-agree : (bins : List ℕ) (setup : Setup) (lists : List Float) (room : ℕ)
+  pub columns-agree : (bins : List ℕ) (setup : Problem) (lists : List Float) (room : ℕ)
       → attemptFrom bins setup lists room (runOf converged-of costs-of places-of lengths-of iterations-of caps-of)
       (countOfRuns converged-of costs-of places-of lengths-of iterations-of caps-of)
       ≡ attemptFrom bins setup lists room (runIn runs) (length runs)

@@ -22,7 +22,7 @@ use Rattle.fitter.specs.Judging.{rejectionOfJudgement, fitOfRun, judgedF
 use Rattle.fitter.specs.Retrying.{rejectionOfVerdict, heldOf, couldWin, retryStep}
 use Rattle.fitter.specs.Runs.{listAt, pointOf}
 use Rattle.fitter.specs.Surveys.{bestOf}
-use Rattle.fitter.specs.declared.settling.Setup.{Setup}
+use Rattle.models.specs.declared.problems.Problem.{Problem}
 use Rattle.fitter.specs.declared.judging.Held.{Held}
 use Rattle.fitter.specs.declared.runs.Run.{Run}
 use Rattle.fitter.specs.declared.runs.RunPoint.{RunPoint}
@@ -33,7 +33,7 @@ said-is Valid j e = ap rejectionOfJudgement (same-answer e)
 said-is (Rejected why) j e = ap Present (sym (there-and-back why)) ∙ ap rejectionOfJudgement (same-answer e)
 said-is (Refused n) j e = absurd (answer-not-refused (sym e))
 
-module _ (bins : List ℕ) (setup : Setup) (lists : List Float) (room : ℕ) (run : Run) where
+module _ (bins : List ℕ) (setup : Problem) (lists : List Float) (room : ℕ) (run : Run) where
   abbrev unpacked : List Float → FitAnswer
   unpacked list =
       fitAnswerOf
@@ -58,7 +58,7 @@ module _ (bins : List ℕ) (setup : Setup) (lists : List Float) (room : ℕ) (ru
       λ i. record { fit = f i; rejection = s i }
 
 -- ---- a run looked at again, by its answer
-module _ (bins : List ℕ) (setup : Setup) (lists : List Float) (room i : ℕ) (run : Run) (held : Held) where
+module _ (bins : List ℕ) (setup : Problem) (lists : List Float) (room i : ℕ) (run : Run) (held : Held) where
   abbrev new : Held
   new = heldOf bins setup lists room (bestOf i run)
 

@@ -11,7 +11,7 @@ use Rattle.fitter.specs.Runs.{badCost}
 use Rattle.fitter.specs.Surveys.{bestOf, beats, lesser, leastStep, leastOf}
 use Rattle.fitter.specs.Judging.{judgedFitOf, validRun, keptBest}
 use Rattle.fitter.specs.Retrying.{couldWin, heldOf, retryStep, retriedOf}
-use Rattle.fitter.specs.declared.settling.Setup.{Setup}
+use Rattle.models.specs.declared.problems.Problem.{Problem}
 use Rattle.fitter.specs.declared.judging.Held.{Held}
 use Rattle.fitter.specs.declared.runs.Run.{Run}
 use Rattle.fitter.specs.declared.surveys.Best.{Best}
@@ -21,7 +21,7 @@ and-first : (a b : Bool) → (a && b) ≡ true → a ≡ true
 and-first true b h = refl
 and-first false b h = absurd (false≢true h)
 
-module _ (bins : List ℕ) (setup : Setup) (lists : List Float) (room : ℕ) where
+module _ (bins : List ℕ) (setup : Problem) (lists : List Float) (room : ℕ) where
   abbrev valid : Run → Bool
   valid = validRun bins setup lists room
 

@@ -23,7 +23,7 @@ use Rattle.fitter.specs.declared.attempts.RejectionPart.the-variants.{Pr
 use Rattle.fitter.specs.declared.judging.JudgedFit.{JudgedFit}
 use Rattle.fitter.specs.declared.rejections.FitRejection.the-variants as reason
 use Rattle.fitter.specs.declared.runs.Run.{Run}
-use Rattle.fitter.specs.declared.settling.Setup.{Setup}
+use Rattle.models.specs.declared.problems.Problem.{Problem}
 use Rattle.fitter.specs.declared.surveys.Best.{Best}
 use Rattle.fitter.proofs.Attempted.{any-none, good}
 use Rattle.fitter.proofs.Cleared.{Clear, clear}
@@ -37,7 +37,7 @@ which : (c b : Bool) (x y : FitAttempt) → x .«has_candidate» ≡ true → y 
 which true b x y p q e = sym p ∙ e
 which false b x y p q e = sym q ∙ e
 
-module _ (bins : List ℕ) (setup : Setup) (lists : List Float) (room : ℕ) (at : ℕ → Run) (n : ℕ) (attempt : FitAttempt)
+module _ (bins : List ℕ) (setup : Problem) (lists : List Float) (room : ℕ) (at : ℕ → Run) (n : ℕ) (attempt : FitAttempt)
     (gave : attemptFrom bins setup lists room at n ≡ give attempt) where
   abbrev wanted : ℕ
   wanted = listLengthOf (setup .error) (setup .genome)
@@ -130,7 +130,7 @@ module _ (bins : List ℕ) (setup : Setup) (lists : List Float) (room : ℕ) (at
       none c (is-missing other e) = other
 
 -- ---- of the call's answer: a candidate there is one that was given
-module _ (bins : List ℕ) (setup : Setup) (lists : List Float) (room : ℕ) (at : ℕ → Run) (n : ℕ) where
+module _ (bins : List ℕ) (setup : Problem) (lists : List Float) (room : ℕ) (at : ℕ → Run) (n : ℕ) where
   abbrev answer : FitAttempt
   answer = attemptAnswerOf (attemptFrom bins setup lists room at n) .attempt
 

@@ -12,7 +12,7 @@ use Rattle.fitter.specs.Judging.{validRun, keptBest}
 use Rattle.fitter.specs.Kept.{Lowest, Found, none, one, KeptRun, is-valid, is-rejected, is-missing}
 use Rattle.fitter.specs.Runs.{badCost}
 use Rattle.fitter.specs.Surveys.{noBest, bestOf, beats, lesser, leastStep, leastOf}
-use Rattle.fitter.specs.declared.settling.Setup.{Setup}
+use Rattle.models.specs.declared.problems.Problem.{Problem}
 use Rattle.fitter.specs.declared.runs.Run.{Run}
 use Rattle.fitter.specs.declared.surveys.Best.{Best}
 use Rattle.fitter.proofs.Keeping.{valid-converged}
@@ -127,7 +127,7 @@ module _ (at : ℕ → Run) (p : Run → Bool) (converged : (r : Run) → p r �
       (none refl (λ (j : ℕ) (l : j < 0). absurd (not-suc-le-zero l)))
 
 -- ---- THE THEOREM
-module _ (bins : List ℕ) (setup : Setup) (lists : List Float) (room : ℕ) (at : ℕ → Run) (n : ℕ)
+module _ (bins : List ℕ) (setup : Problem) (lists : List Float) (room : ℕ) (at : ℕ → Run) (n : ℕ)
     (good : (i : ℕ) → i < n → at i .converged ≡ true → badCost (at i .cost) ≡ false) where
   abbrev valid : Run → Bool
   valid = validRun bins setup lists room

@@ -28,7 +28,7 @@ use Rattle.fitter.specs.Judging.{fitOfRun, judgedFitOf}
 use Rattle.fitter.specs.Runs.{wrongPlace, hasWrongList, listAt}
 use Rattle.fitter.specs.Validation.{outsideLimit, validateTests, validateOf, verdictOf}
 use Rattle.fitter.specs.declared.runs.Run.{Run}
-use Rattle.fitter.specs.declared.settling.Setup.{Setup}
+use Rattle.models.specs.declared.problems.Problem.{Problem}
 use Rattle.fitter.proofs.Cleared.{Clear}
 
 -- ---- a run whose list is not wrong
@@ -59,7 +59,7 @@ module _ (lists : List Float) (wanted : ℕ) (run : Run) (converged : run .conve
       let e : run .length ≡ wanted = eqb-true (run .length) wanted (tested .0) in
       simp (length-take, length-drop) (omega arith)
 
-module _ (bins : List ℕ) (setup : Setup) where
+module _ (bins : List ℕ) (setup : Problem) where
   abbrev end : ℕ
   end = setup .«window_end»
 

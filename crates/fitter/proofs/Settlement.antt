@@ -13,10 +13,10 @@ use Rattle.fitter.specs.Retrying.{heldOf}
 use Rattle.fitter.specs.Settling.{closedBy, heldBy, settleOf, failedAnswer, keptAnswer, finishOf}
 use Rattle.fitter.specs.declared.judging.Held.{Held}
 use Rattle.fitter.specs.declared.settling.Settled.{Settled}
-use Rattle.fitter.specs.declared.settling.Setup.{Setup}
+use Rattle.models.specs.declared.problems.Problem.{Problem}
 use Rattle.fitter.specs.declared.surveys.Survey.{Survey}
 
-module _ (bins : List ℕ) (setup : Setup) (runs : ℕ) (survey : Survey) (lists : List Float) (room number : ℕ)
+module _ (bins : List ℕ) (setup : Problem) (runs : ℕ) (survey : Survey) (lists : List Float) (room number : ℕ)
     (e : number ≡ firstOf (surveyTests bins setup runs survey room)) where
   abbrev so : Settled
   so = settleOf bins setup runs survey lists room
@@ -63,10 +63,10 @@ finished-number survey s = go (eqb (s .number) 0) refl (s .held .best .run .conv
     go false e c = refl
 
 -- unsettled is only what nothing was refused of
-abbrev settled-by : Setup → Bool → Bool → ℕ → Held → Settled
+abbrev settled-by : Problem → Bool → Bool → ℕ → Held → Settled
 settled-by setup b c n held = cond b (cond c (heldBy setup held) (closedBy 0 setup)) (closedBy n setup)
 
-pub unsettled-is : (bins : List ℕ) (setup : Setup) (runs : ℕ) (survey : Survey) (lists : List Float) (room : ℕ)
+pub unsettled-is : (bins : List ℕ) (setup : Problem) (runs : ℕ) (survey : Survey) (lists : List Float) (room : ℕ)
     → let s = settleOf bins setup runs survey lists room in
     s .unsettled ≡ true → s .number ≡ 0
 unfolding settleOf

@@ -22,14 +22,14 @@ use Rattle.fitter.specs.declared.judging.Held.{Held}
 use Rattle.fitter.specs.declared.runs.Run.{Run}
 use Rattle.fitter.specs.declared.settling.AttemptAnswer.{AttemptAnswer}
 use Rattle.fitter.specs.declared.settling.Settled.{Settled}
-use Rattle.fitter.specs.declared.settling.Setup.{Setup}
+use Rattle.models.specs.declared.problems.Problem.{Problem}
 use Rattle.fitter.specs.declared.surveys.Survey.{Survey}
 use Rattle.fitter.specs.declared.turns.Turns.{Turns}
 use Rattle.fitter.proofs.Answered.{one-pass, two-passes, one-stands, two-stand}
 use Rattle.fitter.proofs.Settlement.{unsettled-is}
 
 -- ---- a turn of the first pass, by the answers of its calls
-module _ (bins : List ℕ) (setup : Setup) (lists : List Float) (room : ℕ) (run : Run) (t : Turns) where
+module _ (bins : List ℕ) (setup : Problem) (lists : List Float) (room : ℕ) (run : Run) (t : Turns) where
   abbrev stepped : Survey
   stepped = surveyStep (length lists) (listLengthOf (setup .error) (setup .genome)) (t .next) run (t .survey)
 
@@ -85,7 +85,7 @@ abbrev Same-from : ℕ → List Float → List Float → Type 0
 Same-from k after before = drop k after ≡ drop k before
 
 -- ---- what holds from turn to turn
-module _ (bins : List ℕ) (setup : Setup) (lists : List Float) (room : ℕ) (at : ℕ → Run) (n : ℕ) (old : List Float) where
+module _ (bins : List ℕ) (setup : Problem) (lists : List Float) (room : ℕ) (at : ℕ → Run) (n : ℕ) (old : List Float) where
   abbrev so : Settled
   so = settled bins setup lists room at n
 

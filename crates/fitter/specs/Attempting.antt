@@ -6,6 +6,7 @@ use mathlib.Core.List.{List, [], _∷_}
 use lib.Dec.{eqb}
 use lib.ListN.{length}
 use lib.Ieee.{Float}
+use Rattle.meaning.specs.Numbers as number
 use Rattle.meaning.specs.Reply.{Reply, refuse, broken, give, Test, test, chain}
 use Rattle.meaning.specs.Rows.{inOrder, belowTwo, aboveMost}
 use Rattle.models.specs.Families.{listLengthOf}
@@ -22,21 +23,21 @@ use Rattle.fitter.specs.Judging.{judgedFitOf, keptBest}
 use Rattle.fitter.specs.Runs.{hasWrongList, hasWrongCost, anyOf, iterationsOf, cappedOf}
 use Rattle.fitter.specs.declared.runs.Run.{Run}
 use Rattle.fitter.specs.declared.settling.AttemptAnswer.{AttemptAnswer}
-use Rattle.fitter.specs.declared.settling.Setup.{Setup}
+use Rattle.models.specs.declared.problems.Problem.{Problem}
 use Rattle.fitter.specs.declared.surveys.Best.{Best}
 use Rattle.fitter.specs.declared.surveys.Survey.{Survey}
 
 -- ---- the numbers that come back instead
 -- 7: a converged run's list is wrong
 abbrev pub wrongLists : Bool → List Test
-wrongLists wrong = test wrong 7 ∷ []
+wrongLists wrong = test wrong number.wrongLength ∷ []
 
 -- 9: a converged run's cost is wrong
 abbrev pub wrongCosts : Bool → List Test
-wrongCosts bad = test bad 9 ∷ []
+wrongCosts bad = test bad number.wrongLimitOrCost ∷ []
 
 -- `runs` is the number of runs, `room` the length of the shelf's table
-unfoldable pub setupTests : List ℕ → Setup → ℕ → Bool → Bool → ℕ → List Test
+unfoldable pub setupTests : List ℕ → Problem → ℕ → Bool → Bool → ℕ → List Test
 setupTests bins setup runs wrong bad room =
     inOrder
     (belowTwo (setup .peak ∷ setup .valley ∷ length bins ∷ [])
@@ -48,11 +49,11 @@ setupTests bins setup runs wrong bad room =
     ∷ shortTable (setup .genome) (setup .«window_end») room
     ∷ [])
 
-abbrev pub surveyTests : List ℕ → Setup → ℕ → Survey → ℕ → List Test
+abbrev pub surveyTests : List ℕ → Problem → ℕ → Survey → ℕ → List Test
 surveyTests bins setup runs survey room = setupTests bins setup runs (survey .wrong) (survey .bad) room
 
 -- ---- the attempt
-module _ (bins : List ℕ) (setup : Setup) (lists : List Float) (room : ℕ) (at : ℕ → Run) (n : ℕ) where
+module _ (bins : List ℕ) (setup : Problem) (lists : List Float) (room : ℕ) (at : ℕ → Run) (n : ℕ) where
   abbrev pub wanted : ℕ
   wanted = listLengthOf (setup .error) (setup .genome)
 
@@ -89,5 +90,5 @@ attemptAnswerOf (give a) = record { number = 0; attempt = a }
 
 -- from where on the shelf's table stands as found, by the answer's number: a refusal changes nothing, nor does a plain
 -- family
-abbrev pub standsFrom : Setup → ℕ → ℕ
+abbrev pub standsFrom : Problem → ℕ → ℕ
 standsFrom setup number = cond (eqb number 0) (tableDemand (setup .genome) (setup .«window_end»)) 0

@@ -15,11 +15,11 @@ use Rattle.fitter.specs.Validation.{Judgement, validateOf}
 use Rattle.fitter.specs.declared.attempts.FitAttempt.{FitAttempt}
 use Rattle.fitter.specs.declared.attempts.RejectionPart.{RejectionPart}
 use Rattle.fitter.specs.declared.runs.Run.{Run}
-use Rattle.fitter.specs.declared.settling.Setup.{Setup}
+use Rattle.models.specs.declared.problems.Problem.{Problem}
 use Rattle.fitter.specs.declared.surveys.Best.{Best}
 
 -- a table of this length is not refused with 10
-abbrev pub LongEnough : Setup → ℕ → Type 0
+abbrev pub LongEnough : Problem → ℕ → Type 0
 LongEnough setup room = tableDemand (setup .genome) (setup .«window_end») ≤ room
 
 -- a run's own list
@@ -27,13 +27,13 @@ abbrev pub listOf : List Float → Run → List Float
 listOf lists run = take (run .length) (drop (run .place) lists)
 
 -- what `unpack` answers for it, with the run's cost and iterations, over a table of this length
-abbrev pub unpackRun : List ℕ → Setup → List Float → Run → ℕ → Reply SpectrumFit
+abbrev pub unpackRun : List ℕ → Problem → List Float → Run → ℕ → Reply SpectrumFit
 unpackRun bins setup lists run room =
     unpackOf bins (setup .scale) (setup .«window_end») (setup .peak) (setup .error) (setup .genome)
     (listOf lists run) (run .cost) (run .iterations) room
 
 -- a run's fit, and what speaks against it
-pub record RunFit (bins : List ℕ) (setup : Setup) (lists : List Float) (run : Run) (fit : SpectrumFit)
+pub record RunFit (bins : List ℕ) (setup : Problem) (lists : List Float) (run : Run) (fit : SpectrumFit)
     (rejection : RejectionPart) : Type 0 where
   pub inside : run .place + run .length ≤ length lists
   -- whatever table is lent
@@ -43,7 +43,7 @@ pub record RunFit (bins : List ℕ) (setup : Setup) (lists : List Float) (run : 
   pub said : rejection ≡ rejectionOfJudgement verdict
 
 -- an attempt's candidate is the fit of a run of the table
-pub record FromRun (bins : List ℕ) (setup : Setup) (lists : List Float) (at : ℕ → Run) (n : ℕ) (best : Best)
+pub record FromRun (bins : List ℕ) (setup : Problem) (lists : List Float) (at : ℕ → Run) (n : ℕ) (best : Best)
     (attempt : FitAttempt) : Type 0 where
   pub below : best .position < n
   pub there : best .run ≡ at (best .position)

@@ -14,7 +14,7 @@ use Rattle.fitter.specs.Runs.{listAt}
 use Rattle.fitter.specs.Surveys.{leastOf}
 use Rattle.fitter.specs.declared.judging.JudgedFit.{JudgedFit}
 use Rattle.fitter.specs.declared.runs.Run.{Run}
-use Rattle.fitter.specs.declared.settling.Setup.{Setup}
+use Rattle.models.specs.declared.problems.Problem.{Problem}
 use Rattle.fitter.specs.declared.surveys.Best.{Best}
 
 abbrev pub rejectionOfJudgement : Judgement → RejectionPart
@@ -22,7 +22,7 @@ rejectionOfJudgement valid = Absent
 rejectionOfJudgement (rejected n) = Present (reasonAt n)
 
 -- ---- a run, judged: `lists` holds all lists, `room` is the length of the shelf's table
-module _ (bins : List ℕ) (setup : Setup) (lists : List Float) (room : ℕ) where
+module _ (bins : List ℕ) (setup : Problem) (lists : List Float) (room : ℕ) where
   -- the fit that `unpack` answers; where it refuses, which it does for no run of an attempt that passed (`unpack-is`,
   -- proofs/RunFits.antt), the empty fit, which rule 2 turns away (`empty-rejected`, proofs/Judgements.antt)
   unfoldable pub fitOfRun : Run → SpectrumFit

@@ -16,7 +16,7 @@ use Rattle.fitter.specs.declared.validation.Verdict.the-variants.{Valid,
 use Rattle.fitter.specs.Surveys.{bestOf}
 use Rattle.fitter.specs.declared.judging.Held.{Held}
 use Rattle.fitter.specs.declared.runs.Run.{Run}
-use Rattle.fitter.specs.declared.settling.Setup.{Setup}
+use Rattle.models.specs.declared.problems.Problem.{Problem}
 use Rattle.fitter.specs.declared.surveys.Best.{Best}
 use Rattle.fitter.specs.Judging.{judgedFitOf}
 
@@ -27,7 +27,7 @@ rejectionOfVerdict (Rejected why) = Present why
 rejectionOfVerdict (Refused n) = Present reason.OptimisationFailed
 
 -- from where on the shelf's table stands as found
-abbrev pub tableFrom : Setup → ℕ
+abbrev pub tableFrom : Problem → ℕ
 tableFrom setup = tableDemand (setup .genome) (setup .«window_end»)
 
 -- whether a run of this cost is kept instead, should it be valid
@@ -35,7 +35,7 @@ unfoldable pub couldWin : Held → Float → Bool
 couldWin held cost = cond (unrejected (held .judged .rejection)) (lt cost (held .best .run .cost)) true
 
 -- ---- a run, judged: `lists` holds all lists, `room` is the length of the shelf's table
-module _ (bins : List ℕ) (setup : Setup) (lists : List Float) (room : ℕ) where
+module _ (bins : List ℕ) (setup : Problem) (lists : List Float) (room : ℕ) where
   abbrev pub heldOf : Best → Held
   heldOf best = record { best = best; judged = judgedFitOf bins setup lists room (best .run) }
 

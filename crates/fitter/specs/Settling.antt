@@ -19,21 +19,21 @@ use Rattle.fitter.specs.declared.judging.Held.{Held}
 use Rattle.fitter.specs.declared.runs.Run.{Run}
 use Rattle.fitter.specs.declared.settling.AttemptAnswer.{AttemptAnswer}
 use Rattle.fitter.specs.declared.settling.Settled.{Settled}
-use Rattle.fitter.specs.declared.settling.Setup.{Setup}
+use Rattle.models.specs.declared.problems.Problem.{Problem}
 use Rattle.fitter.specs.declared.surveys.Survey.{Survey}
 
 unfoldable pub noHeld : Held
 noHeld = record { best = noBest; judged = record { fit = emptyFit; rejection = Absent } }
 
-abbrev pub closedBy : ℕ → Setup → Settled
+abbrev pub closedBy : ℕ → Problem → Settled
 closedBy number setup = record { number = number; unsettled = false; setup = setup; held = noHeld }
 
 -- unsettled where it is rejected
-abbrev pub heldBy : Setup → Held → Settled
+abbrev pub heldBy : Problem → Held → Settled
 heldBy setup held =
     record { number = 0; unsettled = not (unrejected (held .judged .rejection)); setup = setup; held = held }
 
-unfoldable pub settleOf : List ℕ → Setup → ℕ → Survey → List Float → ℕ → Settled
+unfoldable pub settleOf : List ℕ → Problem → ℕ → Survey → List Float → ℕ → Settled
 settleOf bins setup runs survey lists room =
     let number = firstOf (surveyTests bins setup runs survey room) in
     cond (eqb number 0)
@@ -44,7 +44,7 @@ settleOf bins setup runs survey lists room =
 abbrev pub withHeld : Settled → Held → Settled
 withHeld s held = record { number = s .number; unsettled = s .unsettled; setup = s .setup; held = held }
 
-abbrev pub failedAnswer : Setup → Survey → AttemptAnswer
+abbrev pub failedAnswer : Problem → Survey → AttemptAnswer
 failedAnswer setup survey = record {
   number = 0;
   attempt =
@@ -52,7 +52,7 @@ failedAnswer setup survey = record {
       (survey .capped);
 }
 
-abbrev pub keptAnswer : Setup → Survey → Held → AttemptAnswer
+abbrev pub keptAnswer : Problem → Survey → Held → AttemptAnswer
 keptAnswer setup survey held = record {
   number = 0;
   attempt =
@@ -67,7 +67,7 @@ finishOf survey s =
     (refusedAnswer (s .number))
 
 -- ---- the whole
-module _ (bins : List ℕ) (setup : Setup) (lists : List Float) (room : ℕ) (at : ℕ → Run) (n : ℕ) where
+module _ (bins : List ℕ) (setup : Problem) (lists : List Float) (room : ℕ) (at : ℕ → Run) (n : ℕ) where
   abbrev pub surveyed : Survey
   surveyed = surveyOf (length lists) (listLengthOf (setup .error) (setup .genome)) at n
 

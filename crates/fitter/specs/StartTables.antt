@@ -6,6 +6,7 @@ use mathlib.Core.List.{List, [], _∷_}
 use lib.Dec.{eqb}
 use lib.Ieee.{Float}
 use lib.ListN.{length}
+use Rattle.meaning.specs.Numbers as number
 use Rattle.meaning.specs.Reply.{Reply, refuse, give, Test, test, chain}
 use Rattle.models.specs.declared.families.ErrorModel.{ErrorModel}
 use Rattle.models.specs.declared.families.ErrorModel.the-variants.{FreeSingletonWeibull, SingletonPareto}
@@ -21,11 +22,11 @@ notRows n = eqb n 0 || not (eqb (n % 3) 0)
 
 -- 7: one of the two is of the wrong length, whichever family is asked
 abbrev pub wrongTables : ℕ → ℕ → List Test
-wrongTables pareto weibull = test (notRows pareto) 7 ∷ test (notRows weibull) 7 ∷ []
+wrongTables pareto weibull = test (notRows pareto) number.wrongLength ∷ test (notRows weibull) number.wrongLength ∷ []
 
 -- ---- what comes back of the two: a reference can't be a number, so an empty part, which no table is, says 7
 abbrev pub partSays : List Float → Reply (List Float)
-partSays [] = refuse 7
+partSays [] = refuse number.wrongLength
 partSays (x ∷ part) = give (x ∷ part)
 
 unfoldable pub startTableOf : ErrorModel → List Float → List Float → Reply (List Float)

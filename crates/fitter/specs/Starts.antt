@@ -8,6 +8,7 @@ use lib.Dec.{eqb}
 use lib.ListN.{length, getD}
 use lib.Ieee.{Float, nan, neg, lt}
 use lib.Ieee.Scale.{finite}
+use Rattle.meaning.specs.Numbers as number
 use Rattle.meaning.specs.Over.{over}
 use Rattle.meaning.specs.Reply.{Reply, give, Test, test, chain}
 use Rattle.meaning.specs.Rows.{inOrder, tooShort}
@@ -113,7 +114,7 @@ perRow ShelfNegativeBinomial shapes = shapes / 2
 
 -- 7: the shelf's shapes are no pairs, read or not
 abbrev pub oddShapes : ℕ → List Test
-oddShapes n = test (not (eqb (n % 2) 0)) 7 ∷ []
+oddShapes n = test (not (eqb (n % 2) 0)) number.wrongLength ∷ []
 
 -- `room` is the lent buffer's length
 unfoldable pub startsOf :

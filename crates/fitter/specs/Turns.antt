@@ -13,16 +13,16 @@ use Rattle.fitter.specs.Settling.{settleOf, withHeld}
 use Rattle.fitter.specs.Surveys.{noSurvey, surveyStep}
 use Rattle.fitter.specs.declared.runs.Run.{Run}
 use Rattle.fitter.specs.declared.settling.Settled.{Settled}
-use Rattle.fitter.specs.declared.settling.Setup.{Setup}
+use Rattle.models.specs.declared.problems.Problem.{Problem}
 use Rattle.fitter.specs.declared.surveys.Survey.{Survey}
 use Rattle.fitter.specs.declared.turns.Turns.{Turns}
 
 -- over no runs; no list is looked at
-unfoldable pub emptySettled : List ℕ → Setup → ℕ → Settled
+unfoldable pub emptySettled : List ℕ → Problem → ℕ → Settled
 emptySettled bins setup room = settleOf bins setup 0 noSurvey [] room
 
 -- before the first turn; over no runs there is none
-abbrev pub beginOf : List ℕ → Setup → ℕ → ℕ → Turns
+abbrev pub beginOf : List ℕ → Problem → ℕ → ℕ → Turns
 beginOf bins setup runs room = record {
   next = 0;
   runs = runs;
@@ -53,7 +53,7 @@ settledTo survey settled runs = record {
   settled = settled;
 }
 
-unfoldable pub firstTurn : List ℕ → Setup → List Float → ℕ → Run → Turns → Turns
+unfoldable pub firstTurn : List ℕ → Problem → List Float → ℕ → Run → Turns → Turns
 firstTurn bins setup lists room run t =
     let survey =
     surveyStep (length lists) (listLengthOf (setup .error) (setup .genome)) (t .next) run (t .survey) in
@@ -61,11 +61,11 @@ firstTurn bins setup lists room run t =
     (settledTo survey (settleOf bins setup (t .runs) survey lists room) (t .runs))
 
 -- from where on the shelf's table stands as found, by the turn's answer: only the settling writes
-abbrev pub firstStands : Setup → Turns → ℕ
+abbrev pub firstStands : Problem → Turns → ℕ
 firstStands setup r = cond (r .surveyed) (standsFrom setup (r .settled .number)) 0
 
 -- ---- the second pass
-abbrev pub secondTurn : List ℕ → Setup → List Float → ℕ → Run → Turns → Turns
+abbrev pub secondTurn : List ℕ → Problem → List Float → ℕ → Run → Turns → Turns
 secondTurn bins setup lists room run t = record {
   next = t .next + 1;
   runs = t .runs;
@@ -75,9 +75,9 @@ secondTurn bins setup lists room run t = record {
 }
 
 -- ---- a turn of either
-unfoldable pub turnOf : List ℕ → Setup → List Float → ℕ → Run → Turns → Turns
+unfoldable pub turnOf : List ℕ → Problem → List Float → ℕ → Run → Turns → Turns
 turnOf bins setup lists room run t =
     cond (t .surveyed) (secondTurn bins setup lists room run t) (firstTurn bins setup lists room run t)
 
-abbrev pub turnStands : Setup → Turns → Turns → ℕ
+abbrev pub turnStands : Problem → Turns → Turns → ℕ
 turnStands setup t r = cond (t .surveyed) (tableFrom setup) (firstStands setup r)

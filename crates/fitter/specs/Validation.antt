@@ -9,6 +9,7 @@ use lib.Dec.{eqb, ltb}
 use lib.ListN.{getD}
 use lib.Ieee.{Float, nan, lt, le, ne}
 use lib.Ieee.Scale.{finite}
+use Rattle.meaning.specs.Numbers as number
 use Rattle.meaning.specs.Reply.{Reply, refuse, broken, give, Test, test, chain, firstOf}
 use Rattle.meaning.specs.Rows.{inOrder, belowTwo, aboveMost, noWindow}
 use Rattle.routines.specs.Constants as float
@@ -150,7 +151,7 @@ unfoldable pub badLimit : Float → Bool
 badLimit limit = not (finite limit) || lt limit one
 
 abbrev pub outsideLimit : Float → List Test
-outsideLimit limit = test (badLimit limit) 9 ∷ []
+outsideLimit limit = test (badLimit limit) number.wrongLimitOrCost ∷ []
 
 unfoldable pub validateTests : ℕ → ℕ → ℕ → Float → List Test
 validateTests end valley peak limit =

@@ -9,18 +9,18 @@ use crate::run_columns::retry_columns;
 use crate::run_columns::run_count;
 use crate::run_columns::survey_columns;
 use crate::settling::AttemptAnswer;
-use crate::settling::Setup;
 use crate::settling::finish;
 use crate::settling::settle;
 use crate::settling::with_held;
 use models::families::list_length;
+use models::problems::Problem;
 
 // The attempt over as many runs as the shortest slice has; 1, 2, 4, 5, 6, 7, 9 or 10 instead. 7 is a converged run's list
 // that has the wrong length or does not lie in `lists`; 9 its cost, or the mass limit. A refusal leaves the shelf's table as
 // it is, and so does a plain family; else it is written up to the window end.
 pub fn attempt_from_numbers(
     bins: &[u32],
-    setup: Setup,
+    setup: Problem,
     converged: &[u8],
     costs: &[f64],
     places: &[usize],

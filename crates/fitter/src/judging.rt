@@ -12,11 +12,11 @@ use crate::runs::Run;
 use crate::runs::RunPoint;
 use crate::runs::list_at;
 use crate::runs::run_point;
-use crate::settling::Setup;
 use crate::surveys::Best;
 use crate::validation::Verdict;
 use crate::validation::judge;
 use models::fit::SpectrumFit;
+use models::problems::Problem;
 use models::unpacking::unpack;
 
 // A fit, and why it is not used; absent where it is valid.
@@ -54,7 +54,7 @@ pub(crate) fn is_unrejected(rejection: RejectionPart) -> bool
 // A run's list as a fit, judged. The shelf's table is written where there is a shelf.
 pub(crate) fn judge_run(
     bins: &[u32],
-    setup: Setup,
+    setup: Problem,
     run: Run,
     lists: &[f64],
     table: &mut [f64],
@@ -106,7 +106,7 @@ pub(crate) fn retry_run(
     position: usize,
     run: Run,
     bins: &[u32],
-    setup: Setup,
+    setup: Problem,
     lists: &[f64],
     table: &mut [f64],
 ) -> Held

@@ -9,6 +9,9 @@ ghost use Rattle.meaning.specs.Over.{over};
 ghost use Rattle.fitter.specs.Recovering.{recovered, recoverBinsOf};
 use meaning::answers::Written;
 use meaning::limits::MOST;
+use meaning::refusals::TOO_LARGE;
+use meaning::refusals::TOO_SHORT;
+use meaning::refusals::TOO_SMALL;
 use models::recovery::rounded_quotient;
 use models::recovery::used_scale;
 
@@ -31,13 +34,13 @@ pub fn recover_bins(bins: &[u32], scale: f64, out: &mut [u32]) -> Written
     ensures { λ _. ⌜ now (out .exit) ≡ laid (recoverBinsOf (now (bins .entry)) scale (length (now (out .entry)))) (now (out .entry)) ⌝ }
 {
     if bins.len() < 2 {
-        return Written::Refused(1);
+        return Written::Refused(TOO_SMALL);
     }
     if bins.len() > MOST {
-        return Written::Refused(2);
+        return Written::Refused(TOO_LARGE);
     }
     if out.len() < bins.len() {
-        return Written::Refused(10);
+        return Written::Refused(TOO_SHORT);
     }
     write_bins(bins, used_scale(scale), out);
     Written::Items(bins.len())

@@ -12,12 +12,12 @@ use crate::judging::retry_run;
 use crate::runs::Run;
 use crate::runs::RunPoint;
 use crate::runs::run_point;
-use crate::settling::Setup;
 use crate::surveys::Survey;
 use crate::surveys::count_run;
 use crate::surveys::no_survey;
 use crate::surveys::weigh_run;
 use meaning::flags::is_set;
+use models::problems::Problem;
 
 fn shorter_of(a: usize, b: usize) -> usize
     ensures { λ r. ⌜ r ≡ shorter a b ⌝ }
@@ -104,7 +104,7 @@ pub(crate) fn retry_columns(
     iterations: &[u64],
     caps: &[u8],
     bins: &[u32],
-    setup: Setup,
+    setup: Problem,
     lists: &[f64],
     table: &mut [f64],
 ) -> Held

@@ -7,16 +7,16 @@ ghost use Rattle.fitter.specs.Columns.{runIn};
 ghost use Rattle.fitter.specs.Attempting.{attemptAnswerOf, attemptFrom, standsFrom};
 use crate::runs::LentRun;
 use crate::settling::AttemptAnswer;
-use crate::settling::Setup;
 use crate::turns::begin_turns;
 use crate::turns::end_turns;
 use crate::turns::turn;
+use models::problems::Problem;
 
 // The attempt, or 1, 2, 4, 5, 6, 7, 9 or 10 instead, as `attempt_from_numbers` has it over the table's columns. The loop is
 // thin, for its proof is a walk by hand: the work of a turn is `turn`.
 pub fn attempt_from(
     bins: &[u32],
-    setup: Setup,
+    setup: Problem,
     runs: &[LentRun],
     lists: &[f64],
     table: &mut [f64],

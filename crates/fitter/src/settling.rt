@@ -21,22 +21,16 @@ use crate::surveys::Survey;
 use crate::surveys::no_run;
 use crate::validation::bad_limit;
 use meaning::limits::MOST;
+use meaning::refusals::TOO_LARGE;
+use meaning::refusals::TOO_SMALL;
+use meaning::refusals::WRONG_LENGTH;
+use meaning::refusals::WRONG_LIMIT_OR_COST;
 use models::families::ErrorModel;
 use models::families::GenomeModel;
+use models::problems::Problem;
 use models::refusals::spectrum_refusal;
 use models::refusals::table_refusal;
 use models::unpacking::empty_fit;
-
-// The numbers of an attempt: the spectrum's scale and window, what the validator asks, and the families.
-pub struct Setup {
-    pub scale: f64,
-    pub window_end: usize,
-    pub valley: usize,
-    pub peak: usize,
-    pub error: ErrorModel,
-    pub genome: GenomeModel,
-    pub mass_limit: f64,
-}
 
 // `number` is 0 beside an attempt; beside a number the attempt is the empty one.
 pub struct AttemptAnswer {
@@ -60,7 +54,7 @@ fn first_number(a: bool, n: u8, b: bool, m: u8) -> u8
 // The first number of 1, 2, 4, 5, 6, 7, 9, 10 that applies to `runs` runs of that survey, and 0 for none.
 pub(crate) fn attempt_refusal(
     bins: &[u32],
-    setup: Setup,
+    setup: Problem,
     runs: usize,
     survey: Survey,
     room: usize,
@@ -74,21 +68,21 @@ pub(crate) fn attempt_refusal(
     let limit = setup.mass_limit;
     let genome = setup.genome;
     if peak < 2 || valley < 2 || bins.len() < 2 {
-        return 1;
+        return TOO_SMALL;
     }
     if bins.len() > MOST || peak > MOST || valley > MOST || end > MOST || runs > MOST {
-        return 2;
+        return TOO_LARGE;
     }
     let spectrum = spectrum_refusal(bins, scale, end);
     if spectrum != 0 {
         return spectrum;
     }
-    let runs_number = first_number(survey.wrong, 7, survey.bad, 9);
+    let runs_number = first_number(survey.wrong, WRONG_LENGTH, survey.bad, WRONG_LIMIT_OR_COST);
     if runs_number != 0 {
         return runs_number;
     }
     if bad_limit(limit) {
-        return 9;
+        return WRONG_LIMIT_OR_COST;
     }
     table_refusal(genome, end, room)
 }
@@ -112,7 +106,7 @@ pub(crate) fn refused_answer(number: u8) -> AttemptAnswer
 }
 
 // No run converged.
-pub(crate) fn failed_answer(setup: Setup, survey: Survey) -> AttemptAnswer
+pub(crate) fn failed_answer(setup: Problem, survey: Survey) -> AttemptAnswer
     ensures { λ r. ⌜ r ≡ failedAnswer setup survey ⌝ }
 {
     let error = setup.error;
@@ -132,7 +126,7 @@ pub(crate) fn failed_answer(setup: Setup, survey: Survey) -> AttemptAnswer
 }
 
 // The run that is kept.
-pub(crate) fn kept_answer(setup: Setup, survey: Survey, held: Held) -> AttemptAnswer
+pub(crate) fn kept_answer(setup: Problem, survey: Survey, held: Held) -> AttemptAnswer
     ensures { λ r. ⌜ r ≡ keptAnswer setup survey held ⌝ }
 {
     let error = setup.error;
@@ -158,7 +152,7 @@ pub(crate) fn kept_answer(setup: Setup, survey: Survey, held: Held) -> AttemptAn
 pub struct Settled {
     pub number: u8,
     pub unsettled: bool,
-    pub setup: Setup,
+    pub setup: Problem,
     pub held: Held,
 }
 
@@ -180,7 +174,7 @@ pub(crate) fn no_held() -> Held
 // Behind the first pass over `runs` runs: the refusals, and the run of least cost unpacked and judged.
 pub(crate) fn settle(
     bins: &[u32],
-    setup: Setup,
+    setup: Problem,
     runs: usize,
     survey: Survey,
     lists: &[f64],

@@ -8,6 +8,8 @@ ghost use Rattle.fitter.specs.Recovering.{recovered};
 ghost use Rattle.fitter.specs.Shares.{massOf, clampOf, shareOf, shelfShareOf};
 use helpers::answers::Number;
 use meaning::limits::MOST;
+use meaning::refusals::TOO_LARGE;
+use meaning::refusals::TOO_SMALL;
 use models::recovery::rounded_quotient;
 use models::recovery::used_scale;
 
@@ -65,10 +67,10 @@ pub fn empirical_shelf_share(bins: &[u32], scale: f64, valley: usize, peak: usiz
     ensures { λ r. ⌜ numberSays r ≡ shelfShareOf (now (bins .entry)) scale valley peak ⌝ }
 {
     if valley < 2 || peak < 2 || bins.len() < 2 {
-        return Number::Refused(1);
+        return Number::Refused(TOO_SMALL);
     }
     if valley > MOST || peak > MOST || bins.len() > MOST {
-        return Number::Refused(2);
+        return Number::Refused(TOO_LARGE);
     }
     Number::Value(share(bins, used_scale(scale), valley, peak))
 }

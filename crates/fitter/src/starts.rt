@@ -14,6 +14,8 @@ ghost use Rattle.fitter.specs.Starts.{perRow, startsOf};
 use crate::start_writers::used_hint;
 use crate::start_writers::write_starts;
 use meaning::answers::Written;
+use meaning::refusals::TOO_SHORT;
+use meaning::refusals::WRONG_LENGTH;
 use models::families::ErrorModel;
 use models::families::GenomeModel;
 use models::families::list_length;
@@ -31,10 +33,10 @@ pub fn start_tables_refusal(pareto: &[f64], weibull: &[f64]) -> u8
     ensures { λ r. ⌜ r ≡ firstOf (wrongTables (length (now (pareto .entry))) (length (now (weibull .entry)))) ⌝ }
 {
     if not_rows(pareto.len()) {
-        return 7;
+        return WRONG_LENGTH;
     }
     if not_rows(weibull.len()) {
-        return 7;
+        return WRONG_LENGTH;
     }
     0
 }
@@ -96,15 +98,15 @@ pub fn fit_starts_lent<'a>(
 {
     let table = start_table(error, pareto, weibull);
     if table.len() == 0 {
-        return Written::Refused(7);
+        return Written::Refused(WRONG_LENGTH);
     }
     if shapes.len() % 2 != 0 {
-        return Written::Refused(7);
+        return Written::Refused(WRONG_LENGTH);
     }
     let width = list_length(error, genome);
     let each = per_row(genome, shapes.len());
     if too_short(out.len(), width, each, table.len() / 3, seeds.len()) {
-        return Written::Refused(10);
+        return Written::Refused(TOO_SHORT);
     }
     let used = used_hint(hint);
     let written = write_starts(out, error, genome, seeds, used, table, share, shapes);

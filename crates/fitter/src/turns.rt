@@ -16,7 +16,6 @@ use crate::runs::Run;
 use crate::runs::run_of;
 use crate::settling::AttemptAnswer;
 use crate::settling::Settled;
-use crate::settling::Setup;
 use crate::settling::attempt_refusal;
 use crate::settling::finish;
 use crate::settling::no_held;
@@ -26,6 +25,7 @@ use crate::surveys::Survey;
 use crate::surveys::no_survey;
 use crate::surveys::survey_run;
 use models::families::list_length;
+use models::problems::Problem;
 
 pub struct Turns {
     // The position of the run that the next turn takes; `runs` where none is left.
@@ -39,7 +39,7 @@ pub struct Turns {
 }
 
 // What an attempt over no runs is settled to; `room` is the length of the shelf's table.
-pub(crate) fn settle_empty(bins: &[u32], setup: Setup, room: usize) -> Settled
+pub(crate) fn settle_empty(bins: &[u32], setup: Problem, room: usize) -> Settled
     ensures { λ r. ⌜ r ≡ emptySettled (now (bins .entry)) setup room ⌝ }
 {
     let number = attempt_refusal(bins, setup, 0, no_survey(), room);
@@ -60,7 +60,7 @@ pub(crate) fn settle_empty(bins: &[u32], setup: Setup, room: usize) -> Settled
 }
 
 // Before the first turn.
-pub(crate) fn begin_turns(bins: &[u32], setup: Setup, runs: usize, room: usize) -> Turns
+pub(crate) fn begin_turns(bins: &[u32], setup: Problem, runs: usize, room: usize) -> Turns
     ensures { λ r. ⌜ r ≡ beginOf (now (bins .entry)) setup runs room ⌝ }
 {
     Turns {
@@ -87,7 +87,7 @@ pub(crate) fn survey_turn(
     t: Turns,
     run: Run,
     bins: &[u32],
-    setup: Setup,
+    setup: Problem,
     lists: &[f64],
     table: &mut [f64],
 ) -> Turns
@@ -126,7 +126,7 @@ pub(crate) fn retry_turn(
     t: Turns,
     run: Run,
     bins: &[u32],
-    setup: Setup,
+    setup: Problem,
     lists: &[f64],
     table: &mut [f64],
 ) -> Turns
@@ -151,7 +151,7 @@ pub(crate) fn turn(
     t: Turns,
     lent: LentRun,
     bins: &[u32],
-    setup: Setup,
+    setup: Problem,
     lists: &[f64],
     table: &mut [f64],
 ) -> Turns

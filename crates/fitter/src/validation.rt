@@ -16,6 +16,10 @@ use crate::fit_rules::repeat_mode_too_early;
 use crate::fit_rules::unstable_mode;
 use crate::rejections::FitRejection;
 use meaning::limits::MOST;
+use meaning::refusals::NO_WINDOW;
+use meaning::refusals::TOO_LARGE;
+use meaning::refusals::TOO_SMALL;
+use meaning::refusals::WRONG_LIMIT_OR_COST;
 use models::fit::SpectrumFit;
 use routines::pick::is_finite;
 
@@ -37,25 +41,25 @@ fn validate_refusal(window_end: usize, valley: usize, peak: usize, mass_limit: f
     ensures { λ r. ⌜ r ≡ firstOf (validateTests «window_end» valley peak «mass_limit») ⌝ }
 {
     if valley < 2 {
-        return 1;
+        return TOO_SMALL;
     }
     if peak < 2 {
-        return 1;
+        return TOO_SMALL;
     }
     if valley > MOST {
-        return 2;
+        return TOO_LARGE;
     }
     if peak > MOST {
-        return 2;
+        return TOO_LARGE;
     }
     if window_end > MOST {
-        return 2;
+        return TOO_LARGE;
     }
     if window_end == 0 {
-        return 5;
+        return NO_WINDOW;
     }
     if bad_limit(mass_limit) {
-        return 9;
+        return WRONG_LIMIT_OR_COST;
     }
     0
 }

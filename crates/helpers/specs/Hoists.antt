@@ -13,7 +13,7 @@ use Rattle.helpers.specs.LogSums.{lse2Of}
 use Rattle.helpers.specs.Lobes.{nearlyPoisson, sizeOf, logQOf}
 use Rattle.helpers.specs.Shelves.{entryAtOf}
 use Rattle.helpers.specs.declared.hoists.Lobe.{Lobe}
-use Rattle.helpers.specs.declared.hoists.ShelfLogs.{ShelfLogs}
+use Rattle.helpers.specs.declared.shelves.ShelfLogs.{ShelfLogs}
 use Rattle.helpers.specs.declared.shelves.ShelfPart.{ShelfPart}
 use Rattle.helpers.specs.declared.shelves.ShelfPart.the-variants.{Absent, Present}
 

@@ -10,7 +10,7 @@ use lib.Ieee.{Float, inf}
 use Rattle.routines.specs.Ops.{_⊕_}
 use Rattle.helpers.specs.LogSums.{lse2Of}
 use Rattle.helpers.specs.Masses.{shelfMassOf}
-use Rattle.helpers.specs.declared.hoists.ShelfLogs.{ShelfLogs}
+use Rattle.helpers.specs.declared.shelves.ShelfLogs.{ShelfLogs}
 use Rattle.helpers.specs.declared.shelves.ShelfPart.{ShelfPart}
 use Rattle.helpers.specs.declared.shelves.ShelfPart.the-variants.{Absent, Present}
 

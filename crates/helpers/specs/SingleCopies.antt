@@ -10,7 +10,7 @@ use Rattle.routines.specs.Ops.{_⊕_, _⊖_}
 use Rattle.helpers.specs.Hoists.{lobeOf, densityWith, shelfLogsOf}
 use Rattle.helpers.specs.LogSums.{lse2Of}
 use Rattle.helpers.specs.Shelves.{shelfTrialsOf}
-use Rattle.helpers.specs.declared.hoists.ShelfLogs.{ShelfLogs}
+use Rattle.helpers.specs.declared.shelves.ShelfLogs.{ShelfLogs}
 use Rattle.helpers.specs.declared.shelves.ShelfPart.{ShelfPart}
 use Rattle.helpers.specs.declared.shelves.ShelfPart.the-variants.{Absent, Present}
 use Rattle.helpers.specs.declared.single_copies.BetaBinomial.{BetaBinomial}

@@ -2,13 +2,12 @@
 // plain form.
 // Ported from src/preprocessing/math_helpers.rs of bacpop/sparrowhawk-asm, f1f8af1232, Apache-2.0; ported and changed.
 ghost use mathlib.Core.Path.{_≡_};
-ghost use Rattle.helpers.specs.Hoists.{poissonOf, binomialWith, lobeOf, densityOf, densityWith, shelfLogsOf, mixEntryOf};
-use crate::lobes::NEARLY_POISSON;
-use crate::log_sums::lse2;
-use crate::shelves::ShelfPart;
-use crate::shelves::entry_at;
+ghost use Rattle.helpers.specs.Hoists.{poissonOf, binomialWith, lobeOf, densityOf, densityWith};
 use routines::lgamma::lgamma;
 use routines::ln::ln;
+
+// From this dispersion down the negative binomial is taken as a Poisson.
+pub const NEARLY_POISSON: f64 = 1.0 + 1e-9;
 
 // What a negative binomial's density has in common at every count: ln(mean); r, its log-gamma, r ln(p); ln(1-p).
 // As a Poisson it reads the mean and its log alone.
@@ -83,38 +82,4 @@ pub fn density(lobe: Lobe, x: f64) -> f64
     ensures { λ r. ⌜ r ≡ densityOf lobe x ⌝ }
 {
     density_with(lobe, x, lgamma(x + 1.0))
-}
-
-// ln(1 - share) and ln(share), which do not change with the count; 0 and -inf where there is no shelf.
-pub struct ShelfLogs {
-    pub rest: f64,
-    pub share: f64,
-}
-
-pub fn shelf_logs(shelf: ShelfPart) -> ShelfLogs
-    ensures { λ r. ⌜ r ≡ shelfLogsOf shelf ⌝ }
-{
-    match shelf {
-        ShelfPart::Absent => ShelfLogs {
-            rest: 0.0,
-            share: -1.0 / 0.0,
-        },
-        ShelfPart::Present(s) => ShelfLogs {
-            rest: ln(1.0 - s.share),
-            share: ln(s.share),
-        },
-    }
-}
-
-// The single-copy log density from its lobe's, with the shelf's logs at hand and the shelf read from its table.
-pub fn mix_entry(lobe: f64, count: f64, shelf: ShelfPart, logs: ShelfLogs, table: &[f64]) -> f64
-    ensures { λ r. ⌜ r ≡ mixEntryOf lobe count shelf logs (now (table .entry)) ⌝ }
-{
-    match shelf {
-        ShelfPart::Absent => lobe,
-        ShelfPart::Present(_) => {
-            let entry = entry_at(count, table);
-            lse2(logs.rest + lobe, logs.share + entry)
-        }
-    }
 }

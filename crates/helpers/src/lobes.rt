@@ -11,9 +11,6 @@ use routines::pick::is_finite;
 use routines::pick::min;
 use routines::whole::floor;
 
-// From this dispersion down the negative binomial is taken as a Poisson.
-pub const NEARLY_POISSON: f64 = 1.0 + 1e-9;
-
 // The log of the Poisson density.
 pub fn ln_dpois(x: f64, lambda: f64) -> f64
     ensures { λ r. ⌜ r ≡ lnDpoisOf x lambda ⌝ }

@@ -1,17 +1,19 @@
 // Window masses. The recurrence's closures are two named sums, and a window end is refused by number.
 // Ported from src/preprocessing/math_helpers.rs of bacpop/sparrowhawk-asm, f1f8af1232, Apache-2.0; ported and changed.
 ghost use mathlib.Core.Path.{_≡_};
-ghost use Prim.Native.Nat.{min as minℕ};
 ghost use Rattle.helpers.specs.Answers.{numberSays};
 ghost use Rattle.helpers.specs.Masses.{poissonMassOf, binomialMassOf, logNbMassTo, logNbMassOf, shelfMassOf, singleCopyMassTo, singleCopyLogMassOf};
 use crate::answers::Number;
-use crate::lobes::NEARLY_POISSON;
+use crate::hoists::NEARLY_POISSON;
 use crate::lobes::ln_dnbinom;
 use crate::lobes::ln_dpois;
 use crate::log_sums::lse2;
 use crate::shelves::ShelfPart;
 use crate::shelves::mix_shelf;
 use meaning::limits::MOST;
+use meaning::refusals::NO_WINDOW;
+use meaning::refusals::TOO_LARGE;
+use meaning::wholes::least;
 use routines::ln::ln;
 
 // ln of the Poisson's mass on 1 to `top`: each term is the one before times mean / (count + 1).
@@ -62,18 +64,12 @@ pub fn log_nb_mass(mean: f64, dispersion: f64, top: usize) -> Number
     ensures { λ r. ⌜ numberSays r ≡ logNbMassOf mean dispersion top ⌝ }
 {
     if top > MOST {
-        return Number::Refused(2);
+        return Number::Refused(TOO_LARGE);
     }
     if top == 0 {
-        return Number::Refused(5);
+        return Number::Refused(NO_WINDOW);
     }
     Number::Value(log_nb_mass_to(mean, dispersion, top as u16))
-}
-
-fn least(a: usize, b: usize) -> usize
-    ensures { λ r. ⌜ r ≡ minℕ a b ⌝ }
-{
-    if a < b { a } else { b }
 }
 
 // ln of the shelf's mass on 1 to `top`, as far as its table goes.
@@ -118,10 +114,10 @@ pub fn single_copy_log_mass(
     ensures { λ r. ⌜ numberSays r ≡ singleCopyLogMassOf mean dispersion shelf (now (table .entry)) top ⌝ }
 {
     if top > MOST {
-        return Number::Refused(2);
+        return Number::Refused(TOO_LARGE);
     }
     if top == 0 {
-        return Number::Refused(5);
+        return Number::Refused(NO_WINDOW);
     }
     Number::Value(single_copy_log_mass_to(mean, dispersion, shelf, table, top as u16))
 }

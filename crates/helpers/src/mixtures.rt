@@ -6,9 +6,9 @@ ghost use mathlib.Core.Bool.{true};
 ghost use lib.ListN.{getD};
 ghost use lib.Ieee.{inf};
 ghost use Rattle.helpers.specs.Mixtures.{mixAtOf, mixMassOf};
-use crate::hoists::ShelfLogs;
 use crate::log_sums::lse2;
 use crate::masses::log_shelf_mass;
+use crate::shelves::ShelfLogs;
 use crate::shelves::ShelfPart;
 use crate::window_ends::WindowEnd;
 

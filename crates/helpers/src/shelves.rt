@@ -5,13 +5,15 @@ ghost use Prim.Native.Nat.{_+_, _<_};
 ghost use lib.ListN.{length};
 ghost use Rattle.meaning.specs.Over.{over};
 ghost use Rattle.helpers.specs.Shelves.{shelfTrialsOf, lnDbetabinomOf, tableStart, tableStep, tableOf, lastOf, shelfLogTableOf, tableAfter, entryAtOf, mixed, lnSingleCopyOf, mixSingleCopyOf};
+ghost use Rattle.helpers.specs.Hoists.{shelfLogsOf, mixEntryOf};
 ghost use Rattle.meaning.specs.Answers.{writtenSays};
-use crate::hoists::mix_entry;
-use crate::hoists::shelf_logs;
 use crate::lobes::ln_dnbinom;
 use crate::log_sums::lse2;
 use meaning::answers::Written;
 use meaning::limits::MOST;
+use meaning::refusals::NO_WINDOW;
+use meaning::refusals::TOO_LARGE;
+use meaning::refusals::TOO_SHORT;
 use routines::casts::to_u64;
 use routines::lgamma::lgamma;
 use routines::ln::ln;
@@ -95,15 +97,15 @@ pub fn shelf_log_table(mean: f64, shelf: Shelf, top: usize, table: &mut [f64]) -
     ensures { λ _. ⌜ now (table .exit) ≡ tableAfter mean shelf top (now (table .entry)) ⌝ }
 {
     if top > MOST {
-        return Written::Refused(2);
+        return Written::Refused(TOO_LARGE);
     }
     if top == 0 {
-        return Written::Refused(5);
+        return Written::Refused(NO_WINDOW);
     }
     let trials = shelf_trials(mean);
     let last = last_entry(trials, top as u16);
     if table.len() <= (last as usize) {
-        return Written::Refused(10);
+        return Written::Refused(TOO_SHORT);
     }
     write_table(trials, shelf.alpha, shelf.beta, last, table);
     Written::Items((last as usize) + 1)
@@ -140,6 +142,40 @@ pub(crate) fn entry_at(count: f64, table: &[f64]) -> f64
         table[i]
     } else {
         -1.0 / 0.0
+    }
+}
+
+// ln(1 - share) and ln(share), which do not change with the count; 0 and -inf where there is no shelf.
+pub struct ShelfLogs {
+    pub rest: f64,
+    pub share: f64,
+}
+
+pub fn shelf_logs(shelf: ShelfPart) -> ShelfLogs
+    ensures { λ r. ⌜ r ≡ shelfLogsOf shelf ⌝ }
+{
+    match shelf {
+        ShelfPart::Absent => ShelfLogs {
+            rest: 0.0,
+            share: -1.0 / 0.0,
+        },
+        ShelfPart::Present(s) => ShelfLogs {
+            rest: ln(1.0 - s.share),
+            share: ln(s.share),
+        },
+    }
+}
+
+// The single-copy log density from its lobe's, with the shelf's logs at hand and the shelf read from its table.
+pub fn mix_entry(lobe: f64, count: f64, shelf: ShelfPart, logs: ShelfLogs, table: &[f64]) -> f64
+    ensures { λ r. ⌜ r ≡ mixEntryOf lobe count shelf logs (now (table .entry)) ⌝ }
+{
+    match shelf {
+        ShelfPart::Absent => lobe,
+        ShelfPart::Present(_) => {
+            let entry = entry_at(count, table);
+            lse2(logs.rest + lobe, logs.share + entry)
+        }
     }
 }
 

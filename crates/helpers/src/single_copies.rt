@@ -5,12 +5,12 @@
 ghost use mathlib.Core.Path.{_≡_};
 ghost use Rattle.helpers.specs.SingleCopies.{betaBinomialOf, betaDensityOf, betaPartOf, singleCopyOf, singleDensityWith, singleDensityOf};
 use crate::hoists::Lobe;
-use crate::hoists::ShelfLogs;
 use crate::hoists::density_with;
 use crate::hoists::lobe_of;
-use crate::hoists::shelf_logs;
 use crate::log_sums::lse2;
+use crate::shelves::ShelfLogs;
 use crate::shelves::ShelfPart;
+use crate::shelves::shelf_logs;
 use crate::shelves::shelf_trials;
 use routines::lgamma::lgamma;
 

@@ -3,6 +3,8 @@
 ghost use mathlib.Core.Path.{_≡_};
 ghost use Rattle.helpers.specs.WindowEnds.{endAnswerOf, windowEndOf};
 use meaning::limits::MOST;
+use meaning::refusals::NO_WINDOW;
+use meaning::refusals::TOO_LARGE;
 
 pub struct WindowEnd {
     pub(crate) count: u16,
@@ -20,13 +22,13 @@ pub fn window_end(count: usize) -> EndAnswer
 {
     if count > MOST {
         return EndAnswer {
-            number: 2,
+            number: TOO_LARGE,
             end: WindowEnd { count: 1 },
         };
     }
     if count == 0 {
         return EndAnswer {
-            number: 5,
+            number: NO_WINDOW,
             end: WindowEnd { count: 1 },
         };
     }

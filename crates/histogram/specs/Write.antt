@@ -4,6 +4,7 @@ use Prim.Native.Nat.{ℕ}
 use mathlib.Core.List.{List, [], _∷_}
 use lib.Dec.{ltb}
 use lib.ListN.{length}
+use Rattle.meaning.specs.Numbers as number
 use Rattle.meaning.specs.Reply.{Reply, give, chain, test}
 use Rattle.meaning.specs.Rows.{inOrder, belowTwo, tooShort}
 use Rattle.histogram.specs.File.{mostBins, writeOf}
@@ -12,6 +13,6 @@ use Rattle.histogram.specs.File.{mostBins, writeOf}
 unfoldable pub writeHistogramOf : List ℕ → ℕ → Reply (List ℕ)
 writeHistogramOf xs room =
     chain
-    (inOrder (belowTwo (length xs ∷ []) ∷ (test (ltb mostBins (length xs)) 2 ∷ []) ∷ tooShort room
+    (inOrder (belowTwo (length xs ∷ []) ∷ (test (ltb mostBins (length xs)) number.tooLarge ∷ []) ∷ tooShort room
     (length (writeOf xs)) ∷ []))
     (give (writeOf xs))

@@ -4,6 +4,7 @@ ghost use mathlib.Core.Path.{_≡_};
 ghost use Prim.Native.Nat.{_≤_, _^_};
 ghost use lib.ListN.{length};
 ghost use Rattle.histogram.specs.Number.{numberBytes, between, takeByteOf, numberAtOf, numberSays};
+use meaning::bytes::wide;
 
 // What a byte makes of a number: its value so far, with another group to come; the number; or nothing that its range
 // allows.
@@ -17,12 +18,6 @@ pub enum Taken {
 pub enum Number {
     Is(u64, usize),
     Broken(usize),
-}
-
-fn wide(byte: u8) -> u64
-    ensures { λ r. ⌜ r ≡ byte ⌝ }
-{
-    byte as u64
 }
 
 // What a tenth group counts. A range that ends below has none, and of any other only a 1 fits.

@@ -10,6 +10,7 @@ ghost use Rattle.meaning.specs.Lent.{laid, counted};
 ghost use Rattle.histogram.specs.Read.{fitsIn, readHistogramOf, fileSays, heldSays, keptOf};
 use crate::number::Number;
 use crate::number::number_at;
+use meaning::refusals::TOO_SHORT;
 
 // The most bins that a file holds.
 pub const MAX_FILE_BINS: usize = 2047;
@@ -116,7 +117,7 @@ fn in_room(read: FileRead, room: usize) -> FileRead
     match read {
         FileRead::Bins(n) => {
             if room < n {
-                FileRead::Refused(10)
+                FileRead::Refused(TOO_SHORT)
             } else {
                 read
             }

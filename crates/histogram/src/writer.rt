@@ -11,12 +11,10 @@ ghost use Rattle.meaning.specs.Answers.{writtenSays};
 use crate::number::number_size;
 use crate::reader::MAX_FILE_BINS;
 use meaning::answers::Written;
-
-fn wide(n: u32) -> u64
-    ensures { λ r. ⌜ r ≡ n ⌝ }
-{
-    n as u64
-}
+use meaning::refusals::TOO_LARGE;
+use meaning::refusals::TOO_SHORT;
+use meaning::refusals::TOO_SMALL;
+use meaning::wholes::wide;
 
 // A number to the front of the lent bytes, and how many that is.
 fn put_number(out: &mut [u8], n: u64) -> usize
@@ -80,15 +78,15 @@ pub fn write_histogram(bins: &[u32], out: &mut [u8]) -> Written
     ensures { λ _. ⌜ now (out .exit) ≡ laid (writeHistogramOf (now (bins .entry)) (length (now (out .entry)))) (now (out .entry)) ⌝ }
 {
     if bins.len() < 2 {
-        return Written::Refused(1);
+        return Written::Refused(TOO_SMALL);
     }
     if bins.len() > MAX_FILE_BINS {
-        return Written::Refused(2);
+        return Written::Refused(TOO_LARGE);
     }
     // no file is longer: a byte for the form, two for the bin count and five for each bin
     if out.len() < 3 + 5 * bins.len() {
         if out.len() < file_size(bins) {
-            return Written::Refused(10);
+            return Written::Refused(TOO_SHORT);
         }
     }
     Written::Items(put_file(out, bins))

@@ -12,16 +12,14 @@ ghost use Rattle.meaning.specs.Answers.{writtenSays};
 use histogram::reader::MAX_FILE_BINS;
 use meaning::answers::Written;
 use meaning::limits::MOST;
+use meaning::refusals::TOO_LARGE;
+use meaning::refusals::TOO_SHORT;
+use meaning::refusals::TOO_SMALL;
+use meaning::wholes::wide;
 
 // No file's listing is longer: ten bytes for the first line, and for each bin four digits, ten digits, a space and the
 // end of the line.
 pub const LONGEST_LISTING: usize = 10 + 16 * MAX_FILE_BINS;
-
-fn wide(n: u32) -> u64
-    ensures { λ r. ⌜ r ≡ n ⌝ }
-{
-    n as u64
-}
 
 // How many digits a number has.
 fn decimal_size(n: u64) -> usize
@@ -131,14 +129,14 @@ pub fn list_histogram(bins: &[u32], out: &mut [u8]) -> Written
     ensures { λ _. ⌜ now (out .exit) ≡ laid (listHistogramOf (now (bins .entry)) (length (now (out .entry)))) (now (out .entry)) ⌝ }
 {
     if bins.len() < 2 {
-        return Written::Refused(1);
+        return Written::Refused(TOO_SMALL);
     }
     if bins.len() > MOST {
-        return Written::Refused(2);
+        return Written::Refused(TOO_LARGE);
     }
     let count = bins.len() as u64;
     if out.len() < 6 + decimal_size(count) + rows_size(bins) {
-        return Written::Refused(10);
+        return Written::Refused(TOO_SHORT);
     }
     let first = put_line(out, b"bins ", count);
     Written::Items(first + put_rows(&mut out[first..], bins))
@@ -151,7 +149,7 @@ pub fn list_refusal(place: usize, out: &mut [u8]) -> Written
     ensures { λ _. ⌜ now (out .exit) ≡ laid (listRefusalOf place (length (now (out .entry)))) (now (out .entry)) ⌝ }
 {
     if out.len() < 14 + decimal_size(place as u64) {
-        return Written::Refused(10);
+        return Written::Refused(TOO_SHORT);
     }
     Written::Items(put_line(out, b"refused 3 at ", place as u64))
 }

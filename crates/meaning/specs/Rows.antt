@@ -4,6 +4,7 @@
 use Prim.Native.Nat.{ℕ}
 use mathlib.Core.List.{List, [], _∷_, _++_}
 use lib.Dec.{ltb, eqb}
+use Rattle.meaning.specs.Numbers as number
 use Rattle.meaning.specs.Reply.{Test, test}
 
 -- a chain out of its rows, or out of chains
@@ -18,24 +19,24 @@ most = 65535
 -- 1: peak, valley or the number of bins is below 2
 abbrev pub belowTwo : List ℕ → List Test
 belowTwo [] = []
-belowTwo (n ∷ ns) = test (ltb n 2) 1 ∷ belowTwo ns
+belowTwo (n ∷ ns) = test (ltb n 2) number.tooSmall ∷ belowTwo ns
 
 -- 2: bins, peak, valley, a count, a window end or the number of runs is above 65,535
 abbrev pub aboveMost : List ℕ → List Test
 aboveMost [] = []
-aboveMost (n ∷ ns) = test (ltb most n) 2 ∷ aboveMost ns
+aboveMost (n ∷ ns) = test (ltb most n) number.tooLarge ∷ aboveMost ns
 
 -- 5: the window end is 0
 abbrev pub noWindow : ℕ → List Test
-noWindow end = test (eqb end 0) 5 ∷ []
+noWindow end = test (eqb end 0) number.noWindow ∷ []
 
 -- 5: the window end is 0 or beyond the bins
 abbrev pub outside : ℕ → ℕ → List Test
-outside end bins = noWindow end ++ (test (ltb bins end) 5 ∷ [])
+outside end bins = noWindow end ++ (test (ltb bins end) number.noWindow ∷ [])
 
 -- 10: a lent buffer is too short
 abbrev pub tooShort : ℕ → ℕ → List Test
-tooShort room need = test (ltb room need) 10 ∷ []
+tooShort room need = test (ltb room need) number.tooShort ∷ []
 
 -- 2 and 5: what a call that takes a window end and no bins refuses it for
 abbrev pub windowTests : ℕ → List Test

@@ -17,7 +17,7 @@ use Rattle.models.specs.Fits.{primaryModeOf, repeatModeOf}
 use Rattle.models.specs.Heights.{heightsAt, componentHeightsOf}
 use Rattle.models.specs.declared.errors.ErrorParams.{ErrorParams}
 use Rattle.models.specs.declared.fit.SpectrumFit.{SpectrumFit}
-use Rattle.models.specs.declared.heights.Heights.{Heights}
+use Rattle.models.specs.declared.height_terms.Heights.{Heights}
 
 -- ---- NaN goes through
 times-nan : (x : Float) → x ⊗ nan ≡ nan

@@ -13,7 +13,7 @@ use Rattle.meaning.specs.Reply.{give}
 use Rattle.meaning.specs.Rows.{windowTests}
 use Rattle.meaning.proofs.Replies.{gave-answer}
 use Rattle.models.specs.declared.fit.SpectrumFit.{SpectrumFit}
-use Rattle.models.specs.declared.heights.Heights.{Heights}
+use Rattle.models.specs.declared.height_terms.Heights.{Heights}
 use Rattle.models.specs.ClaimsHeights.{above, crossoverCeilingOf, Crossover}
 use Rattle.models.specs.HeightCutoffs.{heightsIn, outgrows, crossoverStarts, crossingFrom, crossingOf, crossoverOf}
 

@@ -12,7 +12,7 @@ use Rattle.models.specs.Fits.{primaryModeOf}
 use Rattle.models.specs.HeightTerms.{heightTermsOf, errorHeightOf, singleHeightOf, heightsOf}
 use Rattle.models.specs.declared.fit.SpectrumFit.{SpectrumFit}
 use Rattle.models.specs.declared.height_terms.HeightTerms.{HeightTerms}
-use Rattle.models.specs.declared.heights.Heights.{Heights}
+use Rattle.models.specs.declared.height_terms.Heights.{Heights}
 use Rattle.models.proofs.HeightTerms.{terms-error, terms-single, terms-heights}
 use Rattle.models.specs.HeightCutoffs.{heightsIn, outgrows, crossingFrom, crossingOf, errorsIn, referenceOf, lastBadOf}
 

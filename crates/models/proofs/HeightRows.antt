@@ -9,7 +9,7 @@ use lib.ListN.{length, set, length-append}
 use Rattle.meaning.specs.Over.{over}
 use Rattle.meaning.proofs.Overs.{over-next}
 use Rattle.models.specs.Heights.{heightRow, heightRows}
-use Rattle.models.specs.declared.heights.Heights.{Heights}
+use Rattle.models.specs.declared.height_terms.Heights.{Heights}
 
 pub rows-length : (h : ℕ → Heights) (n : ℕ) → length (heightRows h n) ≡ 3 * n
 unfolding heightRows

@@ -1,4 +1,5 @@
 -- Laws of this layer.
+pub mod WordsBack
 pub mod Lengths
 pub mod Loops
 pub mod Both

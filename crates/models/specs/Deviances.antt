@@ -10,7 +10,7 @@ use Rattle.routines.specs.Starts.{dec}
 use Rattle.models.specs.Heights.{heightsAt}
 use Rattle.models.specs.Spectra.{overObserved}
 use Rattle.models.specs.declared.fit.SpectrumFit.{SpectrumFit}
-use Rattle.models.specs.declared.heights.Heights.{Heights}
+use Rattle.models.specs.declared.height_terms.Heights.{Heights}
 
 -- the three heights, added up from the -0 of Rust's sum, over the scale in use
 unfoldable pub expectedOf : Heights → Float → Float

@@ -15,7 +15,7 @@ use Rattle.routines.specs.Whole.{roundOf}
 use Rattle.models.specs.Fits.{primaryModeOf}
 use Rattle.models.specs.Heights.{heightsAt}
 use Rattle.models.specs.declared.fit.SpectrumFit.{SpectrumFit}
-use Rattle.models.specs.declared.heights.Heights.{Heights}
+use Rattle.models.specs.declared.height_terms.Heights.{Heights}
 use Rattle.models.specs.declared.height_cutoffs.FloorAnswer.{FloorAnswer}
 use Rattle.models.specs.declared.height_cutoffs.FloorAnswer.the-variants.{At, Refused}
 

@@ -17,7 +17,7 @@ use Rattle.models.specs.declared.deviances.Ready.{Ready}
 use Rattle.models.specs.declared.errors.ErrorParams.{ErrorParams}
 use Rattle.models.specs.declared.fit.SpectrumFit.{SpectrumFit}
 use Rattle.models.specs.declared.height_terms.HeightTerms.{HeightTerms}
-use Rattle.models.specs.declared.heights.Heights.{Heights}
+use Rattle.models.specs.declared.height_terms.Heights.{Heights}
 
 unfoldable pub heightTermsOf : SpectrumFit → HeightTerms
 heightTermsOf fit =

@@ -12,7 +12,7 @@ use Rattle.helpers.specs.Lobes.{lnDnbinomOf}
 use Rattle.helpers.specs.Shelves.{lnSingleCopyOf}
 use Rattle.models.specs.Errors.{logProbabilityOf}
 use Rattle.models.specs.declared.fit.SpectrumFit.{SpectrumFit}
-use Rattle.models.specs.declared.heights.Heights.{Heights}
+use Rattle.models.specs.declared.height_terms.Heights.{Heights}
 use Rattle.models.specs.declared.heights.HeightsAnswer.{HeightsAnswer}
 use Rattle.models.specs.declared.heights.HeightsAnswer.the-variants.{At, Refused}
 

@@ -1,9 +1,11 @@
 pub mod Families
+pub mod Parts
 pub mod Errors
 pub mod Recovery
 pub mod ShelfRules
 pub mod Params
 pub mod Fits
+pub mod FitWords
 pub mod Heights
 pub mod Modes
 pub mod Spectra

@@ -3,6 +3,7 @@ use Prim.Native.Nat.{ℕ, _+_}
 use mathlib.Core.Bool.{Bool, true, false, not, cond, _&&_, _||_}
 use mathlib.Core.List.{List, [], _∷_, _++_}
 use lib.Ieee.{Float, inf, lt, eq, ne}
+use Rattle.meaning.specs.Numbers as number
 use Rattle.meaning.specs.Fold.{fold}
 use Rattle.meaning.specs.Reply.{Reply, give, chain, Test, test}
 use Rattle.meaning.specs.Rows.{windowTests}
@@ -38,7 +39,7 @@ highestOf p top = fold (higherOf p) 1 (top + 1) (stands 1 (inf true) false)
 
 -- 8: a log probability of the scan is NaN
 abbrev pub scanned : Bool → List Test
-scanned nan = test nan 8 ∷ []
+scanned nan = test nan number.nanScanned ∷ []
 
 unfoldable pub errorModeOf : SpectrumFit → Reply ℕ
 errorModeOf fit =

@@ -7,6 +7,7 @@ use mathlib.Core.List.{List, [], _∷_}
 use lib.Dec.{eqb}
 use lib.ListN.{length}
 use lib.Ieee.{Float}
+use Rattle.meaning.specs.Numbers as number
 use Rattle.meaning.specs.Reply.{Test, test}
 use Rattle.meaning.specs.Rows.{inOrder, belowTwo, aboveMost, outside, tooShort, windowTests}
 use Rattle.models.specs.Families.{listLengthOf}
@@ -18,15 +19,15 @@ use Rattle.models.specs.declared.families.GenomeModel.the-variants.{Nega
 
 -- 4: all bins are zero
 abbrev pub allZero : List ℕ → List Test
-allZero bins = test (allZeroOf bins) 4 ∷ []
+allZero bins = test (allZeroOf bins) number.allBinsZero ∷ []
 
 -- 6: every recovered bin in the window is zero
 abbrev pub noneRecovered : List ℕ → Float → ℕ → List Test
-noneRecovered bins scale end = test (noneRecoveredOf bins (usedScaleOf scale) end) 6 ∷ []
+noneRecovered bins scale end = test (noneRecoveredOf bins (usedScaleOf scale) end) number.nothingRecovered ∷ []
 
 -- 7: a list has the wrong length for its families
 abbrev pub wrongList : ℕ → ErrorModel → GenomeModel → List Test
-wrongList listed error genome = test (not (eqb listed (listLengthOf error genome))) 7 ∷ []
+wrongList listed error genome = test (not (eqb listed (listLengthOf error genome))) number.wrongLength ∷ []
 
 -- 10: the lent table has no room for the entries needed, whatever the trials: this is decided before they are known
 abbrev pub tableDemand : GenomeModel → ℕ → ℕ

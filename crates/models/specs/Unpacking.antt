@@ -3,6 +3,7 @@ use Prim.Native.Nat.{ℕ}
 use mathlib.Core.List.{List, [], _∷_}
 use lib.ListN.{length}
 use lib.Ieee.{Float, neg}
+use Rattle.meaning.specs.Numbers as number
 use Rattle.meaning.specs.Over.{over}
 use Rattle.meaning.specs.Reply.{Reply, refuse, broken, give, chain}
 use Rattle.meaning.specs.Lent.{onGive}
@@ -105,7 +106,7 @@ emptyFit =
 
 abbrev pub fitAnswerOf : Reply SpectrumFit → FitAnswer
 fitAnswerOf (refuse n) = record { number = n; fit = emptyFit }
-fitAnswerOf (broken place) = record { number = 3; fit = emptyFit }
+fitAnswerOf (broken place) = record { number = number.brokenFile; fit = emptyFit }
 fitAnswerOf (give f) = record { number = 0; fit = f }
 
 -- `room` is the lent table's length: nothing else of it is read

@@ -21,6 +21,7 @@ use crate::usable::params_usable;
 use crate::window_masses::masses_at;
 use crate::window_masses::masses_usable;
 use helpers::answers::Number;
+use meaning::refusals::TOO_SHORT;
 use routines::pick::is_finite;
 
 // The mode that the mean gives back may lie this far from the mode it was made of.
@@ -156,7 +157,7 @@ pub fn cost_prepared(
         return Number::Refused(refused);
     }
     if ready.len() < 2 * (window_end + 2) {
-        return Number::Refused(10);
+        return Number::Refused(TOO_SHORT);
     }
     let p = decode(error, genome, (peak as u16) as f64, theta);
     let used = used_scale(scale);

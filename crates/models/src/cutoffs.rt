@@ -12,6 +12,8 @@ use crate::walk::all_probable;
 use crate::walk::walk;
 use helpers::single_copies::single_copy_of;
 use meaning::limits::MOST;
+use meaning::refusals::NO_WINDOW;
+use meaning::refusals::TOO_LARGE;
 use routines::casts::to_u64;
 use routines::pick::is_finite;
 use routines::whole::round;
@@ -93,10 +95,10 @@ pub fn hole_cutoff(fit: SpectrumFit, budget: f64) -> Cutoff
 {
     let end = fit.fit_window_end;
     if end > MOST {
-        return Cutoff::Refused(2);
+        return Cutoff::Refused(TOO_LARGE);
     }
     if end == 0 {
-        return Cutoff::Refused(5);
+        return Cutoff::Refused(NO_WINDOW);
     }
     if !walk_starts(fit) {
         return Cutoff::Nothing;
@@ -115,10 +117,10 @@ pub fn hole_cutoff_sure(fit: SpectrumFit, budget: f64) -> SureCutoff
 {
     let end = fit.fit_window_end;
     if end > MOST {
-        return SureCutoff::Refused(2);
+        return SureCutoff::Refused(TOO_LARGE);
     }
     if end == 0 {
-        return SureCutoff::Refused(5);
+        return SureCutoff::Refused(NO_WINDOW);
     }
     if !walk_starts(fit) {
         return SureCutoff::NoWalk;

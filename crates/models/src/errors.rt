@@ -7,6 +7,8 @@ ghost use Rattle.models.specs.Hoists.{survivalWith, logProbabilityBetwee
 use helpers::answers::Number;
 use helpers::log_sums::ln_sub_exp;
 use meaning::limits::MOST;
+use meaning::refusals::NO_WINDOW;
+use meaning::refusals::TOO_LARGE;
 use routines::expm1::expm1;
 use routines::ln::ln;
 
@@ -120,10 +122,10 @@ impl ErrorParams {
         ensures { λ r. ⌜ numberSays r ≡ logWindowMassOf self top ⌝ }
     {
         if top > MOST {
-            return Number::Refused(2);
+            return Number::Refused(TOO_LARGE);
         }
         if top == 0 {
-            return Number::Refused(5);
+            return Number::Refused(NO_WINDOW);
         }
         Number::Value(self.log_window_mass_to(top as u16))
     }

@@ -19,6 +19,8 @@ use crate::height_terms::single_height;
 use crate::walk::CutoffPart;
 use crate::walk::at_least_two;
 use meaning::limits::MOST;
+use meaning::refusals::NO_WINDOW;
+use meaning::refusals::TOO_LARGE;
 use routines::casts::from_u64;
 use routines::casts::to_u64;
 use routines::ln::ln;
@@ -85,10 +87,10 @@ pub fn crossover(fit: SpectrumFit) -> Cutoff
 {
     let end = fit.fit_window_end;
     if end > MOST {
-        return Cutoff::Refused(2);
+        return Cutoff::Refused(TOO_LARGE);
     }
     if end == 0 {
-        return Cutoff::Refused(5);
+        return Cutoff::Refused(NO_WINDOW);
     }
     if !crossover_starts(fit) {
         return Cutoff::Nothing;
@@ -150,10 +152,10 @@ pub fn error_floor_cutoff(fit: SpectrumFit) -> FloorAnswer
 {
     let end = fit.fit_window_end;
     if end > MOST {
-        return FloorAnswer::Refused(2);
+        return FloorAnswer::Refused(TOO_LARGE);
     }
     if end == 0 {
-        return FloorAnswer::Refused(5);
+        return FloorAnswer::Refused(NO_WINDOW);
     }
     let t = height_terms(fit);
     let reference = single_height(t, from_u64(primary_mode(fit)));

@@ -5,7 +5,6 @@ ghost use mathlib.Core.Path.{_≡_};
 ghost use Rattle.models.specs.HeightTerms.{heightTermsOf, scaledOf, errorHeightFrom, errorHeightOf, singleHeightWith, singleHeightOf, repeatHeightWith, repeatHeightOf, heightsFrom, heightsOf};
 use crate::errors::ErrorParams;
 use crate::fit::SpectrumFit;
-use crate::heights::Heights;
 use helpers::hoists::Lobe;
 use helpers::hoists::density_with;
 use helpers::hoists::lobe_of;
@@ -14,6 +13,13 @@ use helpers::single_copies::single_copy_of;
 use helpers::single_copies::single_density_with;
 use routines::exp::exp;
 use routines::lgamma::lgamma;
+
+// Expected k-mers of each component inside the window.
+pub struct Heights {
+    pub error: f64,
+    pub single: f64,
+    pub repeat: f64,
+}
 
 // The error component's parameters and its tail's log, both lobes; and for each component its k-mers inside the window
 // and its log window mass.

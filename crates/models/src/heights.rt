@@ -7,17 +7,13 @@ ghost use Rattle.meaning.specs.Lent.{laid, counted};
 ghost use Rattle.models.specs.Heights.{heightsAt, heightsSays, componentHeightsOf, heightsToOf};
 use crate::fit::SpectrumFit;
 use crate::height_rows::write_heights;
+use crate::height_terms::Heights;
 use crate::height_terms::height_terms;
 use crate::height_terms::heights_of;
 use meaning::answers::Written;
 use meaning::limits::MOST;
-
-// Expected k-mers of each component inside the window.
-pub struct Heights {
-    pub error: f64,
-    pub single: f64,
-    pub repeat: f64,
-}
+use meaning::refusals::TOO_LARGE;
+use meaning::refusals::TOO_SHORT;
 
 pub enum HeightsAnswer {
     At(Heights),
@@ -36,7 +32,7 @@ pub fn component_heights(fit: SpectrumFit, count: usize) -> HeightsAnswer
     ensures { λ r. ⌜ heightsSays r ≡ componentHeightsOf fit count ⌝ }
 {
     if count > MOST {
-        return HeightsAnswer::Refused(2);
+        return HeightsAnswer::Refused(TOO_LARGE);
     }
     HeightsAnswer::At(heights_at(fit, (count as u16) as f64))
 }
@@ -48,11 +44,11 @@ pub fn component_heights_to(fit: SpectrumFit, last: usize, out: &mut [f64]) -> W
     ensures { λ _. ⌜ now (out .exit) ≡ laid (heightsToOf fit last (length (now (out .entry)))) (now (out .entry)) ⌝ }
 {
     if last > MOST {
-        return Written::Refused(2);
+        return Written::Refused(TOO_LARGE);
     }
     let items = 3 * last;
     if out.len() < items {
-        return Written::Refused(10);
+        return Written::Refused(TOO_SHORT);
     }
     write_heights(height_terms(fit), last as u16, out);
     Written::Items(items)

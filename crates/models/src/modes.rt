@@ -14,6 +14,9 @@ use crate::errors::ErrorParams;
 use crate::fit::SpectrumFit;
 use helpers::answers::Count;
 use meaning::limits::MOST;
+use meaning::refusals::NAN_SCANNED;
+use meaning::refusals::NO_WINDOW;
+use meaning::refusals::TOO_LARGE;
 use routines::ln::ln;
 
 // The highest of the counts so far, and whether one of them was NaN.
@@ -127,14 +130,14 @@ pub fn error_mode(fit: SpectrumFit) -> Count
 {
     let top = fit.fit_window_end;
     if top > MOST {
-        return Count::Refused(2);
+        return Count::Refused(TOO_LARGE);
     }
     if top == 0 {
-        return Count::Refused(5);
+        return Count::Refused(NO_WINDOW);
     }
     let best = highest(fit.error_params, top as u16);
     if best.nan {
-        return Count::Refused(8);
+        return Count::Refused(NAN_SCANNED);
     }
     Count::Whole(best.count as u64)
 }

@@ -18,6 +18,9 @@ use helpers::log_sums::sigmoid;
 use helpers::shelves::Shelf;
 use helpers::shelves::ShelfPart;
 use meaning::limits::MOST;
+use meaning::refusals::TOO_LARGE;
+use meaning::refusals::TOO_SMALL;
+use meaning::refusals::WRONG_LENGTH;
 use routines::exp::exp;
 
 // The single-copy mode is held within 0.75 to 1.33 times the peak.
@@ -144,13 +147,13 @@ pub fn params_from(
     ensures { λ r. ⌜ paramsSays r ≡ paramsAnswerOf error genome peak (now (theta .entry)) ⌝ }
 {
     if peak < 2 {
-        return ParamsAnswer::Refused(1);
+        return ParamsAnswer::Refused(TOO_SMALL);
     }
     if peak > MOST {
-        return ParamsAnswer::Refused(2);
+        return ParamsAnswer::Refused(TOO_LARGE);
     }
     if theta.len() != list_length(error, genome) {
-        return ParamsAnswer::Refused(7);
+        return ParamsAnswer::Refused(WRONG_LENGTH);
     }
     ParamsAnswer::At(decode(error, genome, (peak as u16) as f64, theta))
 }

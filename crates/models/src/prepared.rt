@@ -8,6 +8,9 @@ ghost use Rattle.meaning.specs.Over.{over};
 ghost use Rattle.models.specs.Prepared.{readyRows, prepareOf};
 use meaning::answers::Written;
 use meaning::limits::MOST;
+use meaning::refusals::NO_WINDOW;
+use meaning::refusals::TOO_LARGE;
+use meaning::refusals::TOO_SHORT;
 use routines::lgamma::lgamma;
 use routines::ln::ln;
 
@@ -33,14 +36,14 @@ pub fn prepare_window(window_end: usize, out: &mut [f64]) -> Written
     ensures { λ _. ⌜ now (out .exit) ≡ laid (prepareOf «window_end» (length (now (out .entry)))) (now (out .entry)) ⌝ }
 {
     if window_end > MOST {
-        return Written::Refused(2);
+        return Written::Refused(TOO_LARGE);
     }
     if window_end == 0 {
-        return Written::Refused(5);
+        return Written::Refused(NO_WINDOW);
     }
     let rows = window_end + 2;
     if out.len() < 2 * rows {
-        return Written::Refused(10);
+        return Written::Refused(TOO_SHORT);
     }
     write_rows(rows as u32, out);
     Written::Items(2 * rows)

@@ -9,19 +9,25 @@ use crate::recovery::used_scale;
 use crate::spectra::all_zero;
 use crate::spectra::none_recovered;
 use meaning::limits::MOST;
+use meaning::refusals::ALL_BINS_ZERO;
+use meaning::refusals::NO_WINDOW;
+use meaning::refusals::NOTHING_RECOVERED;
+use meaning::refusals::TOO_LARGE;
+use meaning::refusals::TOO_SMALL;
+use meaning::refusals::WRONG_LENGTH;
 
 // 4, 5 or 6 for the spectrum in a window, and 0 for none.
 fn window_refusal(bins: &[u32], scale: f64, window_end: usize) -> u8
     ensures { λ r. ⌜ r ≡ firstOf (spectrumTests (now (bins .entry)) scale «window_end») ⌝ }
 {
     if all_zero(bins) {
-        return 4;
+        return ALL_BINS_ZERO;
     }
     if window_end == 0 || window_end > bins.len() {
-        return 5;
+        return NO_WINDOW;
     }
     if none_recovered(bins, used_scale(scale), window_end) {
-        return 6;
+        return NOTHING_RECOVERED;
     }
     0
 }
@@ -31,10 +37,10 @@ pub fn spectrum_refusal(bins: &[u32], scale: f64, window_end: usize) -> u8
     ensures { λ r. ⌜ r ≡ firstOf (binsTests (now (bins .entry)) scale «window_end») ⌝ }
 {
     if bins.len() < 2 {
-        return 1;
+        return TOO_SMALL;
     }
     if bins.len() > MOST || window_end > MOST {
-        return 2;
+        return TOO_LARGE;
     }
     window_refusal(bins, scale, window_end)
 }
@@ -54,10 +60,10 @@ pub fn table_refusal(genome: GenomeModel, window_end: usize, room: usize) -> u8
     ensures { λ r. ⌜ r ≡ firstOf (tableTests genome «window_end» room) ⌝ }
 {
     if window_end > MOST {
-        return 2;
+        return TOO_LARGE;
     }
     if window_end == 0 {
-        return 5;
+        return NO_WINDOW;
     }
     short_refusal(genome, window_end, room)
 }
@@ -76,17 +82,17 @@ pub(crate) fn fit_refusal(
     ensures { λ r. ⌜ r ≡ firstOf (fitTests (now (bins .entry)) scale «window_end» peak error genome listed room) ⌝ }
 {
     if peak < 2 || bins.len() < 2 {
-        return 1;
+        return TOO_SMALL;
     }
     if bins.len() > MOST || peak > MOST || window_end > MOST {
-        return 2;
+        return TOO_LARGE;
     }
     let spectrum = window_refusal(bins, scale, window_end);
     if spectrum != 0 {
         return spectrum;
     }
     if listed != list_length(error, genome) {
-        return 7;
+        return WRONG_LENGTH;
     }
     short_refusal(genome, window_end, room)
 }

@@ -4,9 +4,9 @@ ghost use mathlib.Core.Path.{_≡_};
 ghost use Rattle.models.specs.Hoists.{steadyOf};
 use crate::params::Params;
 use helpers::hoists::Lobe;
-use helpers::hoists::ShelfLogs;
-use helpers::hoists::shelf_logs;
 use helpers::pairs::lobes_of;
+use helpers::shelves::ShelfLogs;
+use helpers::shelves::shelf_logs;
 
 pub(crate) struct Steady {
     pub lobe: Lobe,

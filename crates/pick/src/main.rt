@@ -23,8 +23,8 @@ use record::records::write_broken;
 use record::records::write_record;
 use record::records::write_refused;
 use searches::attempt;
+use searches::problem_of;
 use searches::refusal;
-use searches::setup_of;
 use showing::LONGEST_RECORD;
 use showing::complain;
 use showing::give_up;
@@ -52,7 +52,7 @@ fn first_bins(x: &[u32], n: usize) -> &[u32] {
 fn pick_bins(bins: &[u32], asked: Asked, watch: Watch, status: bool) {
     let mut text = [0u8; LONGEST_RECORD];
     let end = window_end_of(asked, bins.len());
-    let shelf = setup_of(
+    let shelf = problem_of(
         asked,
         end,
         ErrorModel::SingletonPareto,

@@ -5,19 +5,18 @@ use crate::progress::say;
 use crate::showing::is_heard;
 use fitter::attempting::attempt_from_numbers;
 use fitter::attempts::FitAttempt;
-use fitter::settling::Setup;
 use fitter::starts::fit_starts;
 use histogram::reader::MAX_FILE_BINS;
 use meaning::answers::Written;
 use meaning::flags::is_set;
 use models::families::ErrorModel;
 use models::families::GenomeModel;
+use models::problems::Problem;
 use record::heads::Asked;
 use record::heads::SEEDS;
 use record::heads::SHAPES;
 use record::values::pattern;
 use search::beginning::begin_searches;
-use search::prices::Problem;
 use search::reporting::report_searches;
 use search::searching::run_searches;
 
@@ -65,8 +64,13 @@ fn first_floats(x: &[f64], n: usize) -> &[f64] {
     if n < x.len() { &x[..n] } else { x }
 }
 
-pub(crate) fn setup_of(asked: Asked, end: usize, error: ErrorModel, genome: GenomeModel) -> Setup {
-    Setup {
+pub(crate) fn problem_of(
+    asked: Asked,
+    end: usize,
+    error: ErrorModel,
+    genome: GenomeModel,
+) -> Problem {
+    Problem {
         scale: asked.scale,
         window_end: end,
         valley: asked.valley,
@@ -78,9 +82,9 @@ pub(crate) fn setup_of(asked: Asked, end: usize, error: ErrorModel, genome: Geno
 }
 
 // The number by which the spectrum is refused with what was asked, and 0 for none: what an attempt over no run gives.
-pub(crate) fn refusal(bins: &[u32], setup: Setup) -> u8 {
+pub(crate) fn refusal(bins: &[u32], problem: Problem) -> u8 {
     let mut table = [0.0f64; TABLE];
-    let answer = attempt_from_numbers(bins, setup, &[], &[], &[], &[], &[], &[], &[], &mut table);
+    let answer = attempt_from_numbers(bins, problem, &[], &[], &[], &[], &[], &[], &[], &mut table);
     answer.number
 }
 
@@ -237,13 +241,7 @@ pub(crate) fn attempt(
 ) -> Attempted {
     let seeds = SEEDS;
     let shapes = SHAPES;
-    let problem = Problem {
-        scale: asked.scale,
-        window_end: end,
-        peak: asked.peak,
-        error,
-        genome,
-    };
+    let problem = problem_of(asked, end, error, genome);
     let mut starts = [0.0f64; STARTS];
     let mut rows = [0.0f64; ROWS];
     let mut iterations = [0u64; RUNS];
@@ -293,7 +291,7 @@ pub(crate) fn attempt(
     );
     let answer = attempt_from_numbers(
         bins,
-        setup_of(asked, end, error, genome),
+        problem,
         first_bytes(&converged, runs),
         &costs,
         &places,

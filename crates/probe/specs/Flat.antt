@@ -8,7 +8,7 @@ use Rattle.routines.specs.Constants as constants
 use Rattle.routines.specs.declared.tables.Power.{Power}
 use Rattle.helpers.specs.declared.hoists.Lobe.{Lobe}
 use Rattle.helpers.specs.declared.log_sums.Logs3.{Logs3}
-use Rattle.helpers.specs.declared.hoists.ShelfLogs.{ShelfLogs}
+use Rattle.helpers.specs.declared.shelves.ShelfLogs.{ShelfLogs}
 use Rattle.probe.specs.declared.lobes.FlatLobe.{FlatLobe}
 use Rattle.probe.specs.declared.log_sums.FlatLogs3.{FlatLogs3}
 use Rattle.probe.specs.declared.tables.FlatPair.{FlatPair}

@@ -4,7 +4,8 @@ use Rattle.meaning.specs.Reply.{Reply, refuse, broken, give}
 use Rattle.routines.specs.Constants.{zero}
 use Rattle.models.specs.declared.params.Params.{Params}
 use Rattle.models.specs.declared.shelf_rules.Bounds.{Bounds}
-use Rattle.exports.specs.FlatFits.{ofErrors, shelfThere, shelfNumbers}
+use Rattle.models.specs.Parts.{shelfThere}
+use Rattle.exports.specs.FlatFits.{ofErrors, shelfNumbers}
 use Rattle.probe.specs.declared.params.FlatParams.{FlatParams}
 use Rattle.probe.specs.declared.params.FlatParamsAnswer.{FlatParamsAnswer}
 use Rattle.probe.specs.declared.tables.FlatPair.{FlatPair}

@@ -1,18 +1,18 @@
 // The parameters of a list, as C has them.
 ghost use mathlib.Core.Path.{_≡_};
 ghost use Rattle.models.specs.Params.{paramsAnswerOf, paramsSays};
-ghost use Rattle.exports.specs.FlatFits.{errorOf, genomeOf};
+ghost use Rattle.models.specs.Parts.{errorOf, genomeOf};
 ghost use Rattle.probe.specs.FlatModels.{ofParams, noParams, sayParams};
-use exports::families::error_of;
-use exports::families::genome_of;
 use exports::fits::FlatErrors;
 use exports::fits::flat_errors;
 use exports::fits::shelf_numbers;
-use exports::fits::shelf_there;
 use exports::shelf::FlatShelf;
 use models::params::Params;
 use models::params::ParamsAnswer;
 use models::params::params_from;
+use models::parts::error_of;
+use models::parts::genome_of;
+use models::parts::shelf_there;
 
 #[repr(C)]
 pub struct FlatParams {

@@ -6,9 +6,9 @@ ghost use Rattle.probe.specs.Flat.{ofShelfLogs, toShelfLogs};
 use crate::tables::FlatPair;
 use exports::shelf::FlatShelf;
 use exports::shelf::part_of;
-use helpers::hoists::ShelfLogs;
-use helpers::hoists::mix_entry;
-use helpers::hoists::shelf_logs;
+use helpers::shelves::ShelfLogs;
+use helpers::shelves::mix_entry;
+use helpers::shelves::shelf_logs;
 
 // The log of the rest, then that of the share.
 #[no_mangle]

@@ -12,7 +12,6 @@ use crate::words::flag;
 use helpers::hoists::Lobe;
 use helpers::hoists::density;
 use helpers::hoists::lobe_of;
-use helpers::hoists::shelf_logs;
 use helpers::lobes::discrete_nb_mode;
 use helpers::lobes::ln_dnbinom;
 use helpers::lobes::ln_dpois;
@@ -27,6 +26,7 @@ use helpers::shelves::ShelfPart;
 use helpers::shelves::ln_dbetabinom;
 use helpers::shelves::ln_single_copy;
 use helpers::shelves::mix_shelf;
+use helpers::shelves::shelf_logs;
 use helpers::shelves::shelf_trials;
 
 const LSE2: u64 = 32;

@@ -17,6 +17,7 @@ pub mod Differences
 pub mod Rows
 pub mod Says
 pub mod Patterns
+pub mod OneNan
 pub mod Commutes
 pub mod Rounding
 pub mod Values

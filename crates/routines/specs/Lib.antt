@@ -13,3 +13,4 @@ pub mod Hoists
 pub mod Signs
 pub mod Units
 pub mod Ops
+pub mod Bits

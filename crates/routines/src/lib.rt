@@ -1,5 +1,6 @@
 // Layer 1: exp, ln, expm1 and lgamma with their tables, rounding to a whole number, maximum and minimum, saturating
-// casts.
+// casts, a float as its bits.
+pub mod bits;
 pub mod casts;
 pub mod exp;
 pub mod expm1;

@@ -8,7 +8,7 @@ use Rattle.meaning.proofs.Chains.{chain-refused, chain-passed}
 use Rattle.models.specs.Refusals.{spectrumTests}
 use Rattle.search.specs.Beginning.{runsIn, ragged, beginSearchesOf}
 use Rattle.search.specs.Refusing.{shortRuns, searchTests}
-use Rattle.search.specs.declared.prices.Problem.{Problem}
+use Rattle.models.specs.declared.problems.Problem.{Problem}
 use Rattle.search.specs.declared.refusing.Lent.{Lent}
 
 module _ (bins : List ℕ) (p : Problem) (starts : List Float) (lent : Lent) where

@@ -17,7 +17,7 @@ use Rattle.search.specs.Prices.{priceSaid, priceOf, capOf}
 use Rattle.search.specs.Rule.{vertexOf}
 use Rattle.search.specs.Turns.{State, turnsOf}
 use Rattle.search.specs.Vertices.{Vertex, vertexAt, costIn, pointIn}
-use Rattle.search.specs.declared.prices.Problem.{Problem}
+use Rattle.models.specs.declared.problems.Problem.{Problem}
 use Rattle.search.proofs.FirstRows.{firsts-length, firsts-at}
 use Rattle.search.proofs.Improves.{never-rises}
 use Rattle.search.proofs.Parts.{in-parts}

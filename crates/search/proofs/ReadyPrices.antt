@@ -13,7 +13,7 @@ use Rattle.meaning.specs.Rows.{most, windowTests}
 use Rattle.models.specs.Prepared.{readyRows, readyDemand, prepareOf}
 use Rattle.models.proofs.ReadyCost.{prepared-is-cost}
 use Rattle.search.specs.Prices.{priceSaid, priceOf, readyPriceOf}
-use Rattle.search.specs.declared.prices.Problem.{Problem}
+use Rattle.models.specs.declared.problems.Problem.{Problem}
 
 module _ (end : ℕ) (ready : List Float) (some : 1 ≤ end) (few : end ≤ most) (room : readyDemand end ≤ length ready) where
   prepared : prepareOf end (length ready) ≡ give (readyRows (end + 2))

@@ -14,7 +14,7 @@ use Rattle.models.specs.Refusals.{spectrumTests, tableDemand, shortTable}
 use Rattle.models.proofs.Passed.{spectrum-passed}
 use Rattle.search.specs.Prices.{widthOf}
 use Rattle.search.specs.Refusing.{wrongStarts, shortRuns, searchTests}
-use Rattle.search.specs.declared.prices.Problem.{Problem}
+use Rattle.models.specs.declared.problems.Problem.{Problem}
 use Rattle.search.specs.declared.refusing.Lent.{Lent}
 
 -- ---- the slices that every run has a part in

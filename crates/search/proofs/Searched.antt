@@ -22,7 +22,7 @@ use Rattle.search.specs.Refusing.{shortRuns, searchTests}
 use Rattle.search.specs.Searches.{stateAt, afterAt, runSearchesOf}
 use Rattle.search.specs.Turns.{State, turnsOf}
 use Rattle.search.specs.Vertices.{Vertex, vertexAt, rowsIn, flat}
-use Rattle.search.specs.declared.prices.Problem.{Problem}
+use Rattle.models.specs.declared.problems.Problem.{Problem}
 use Rattle.search.specs.declared.refusing.Lent.{Lent}
 use Rattle.search.specs.declared.turns.Progress.{Progress}
 use Rattle.search.proofs.RowLaws.{rows-flat}

@@ -13,7 +13,7 @@ use Rattle.search.specs.Firsts.{firstSimplex}
 use Rattle.search.specs.Lists.{listOf}
 use Rattle.search.specs.Refusing.{searchTests}
 use Rattle.search.specs.Vertices.{rowAt, rowsIn, flat}
-use Rattle.search.specs.declared.prices.Problem.{Problem}
+use Rattle.models.specs.declared.problems.Problem.{Problem}
 use Rattle.search.specs.declared.refusing.Lent.{Lent}
 
 -- `d` numbers a start; `runs` starts, one behind the other

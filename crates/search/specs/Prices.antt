@@ -11,7 +11,7 @@ use Rattle.models.specs.Prepared.{preparedCostOf}
 use Rattle.models.specs.Refusals.{tableDemand}
 use Rattle.models.specs.declared.families.GenomeModel.{GenomeModel}
 use Rattle.models.specs.declared.families.GenomeModel.the-variants.{NegativeBinomial, ShelfNegativeBinomial}
-use Rattle.search.specs.declared.prices.Problem.{Problem}
+use Rattle.models.specs.declared.problems.Problem.{Problem}
 
 abbrev pub priceSaid : Reply Float → Float
 priceSaid (refuse n) = inf false

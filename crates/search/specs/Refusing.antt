@@ -5,17 +5,18 @@ use Prim.Native.Nat.{ℕ, _*_}
 use mathlib.Core.Bool.{Bool}
 use mathlib.Core.List.{List, [], _∷_}
 use lib.ListN.{length}
+use Rattle.meaning.specs.Numbers as number
 use Rattle.meaning.specs.Reply.{Test, test}
 use Rattle.meaning.specs.Rows.{inOrder, belowTwo, aboveMost, tooShort}
 use Rattle.models.specs.Prepared.{readyDemand}
 use Rattle.models.specs.Refusals.{spectrumTests, shortTable}
 use Rattle.search.specs.Prices.{widthOf}
-use Rattle.search.specs.declared.prices.Problem.{Problem}
+use Rattle.models.specs.declared.problems.Problem.{Problem}
 use Rattle.search.specs.declared.refusing.Lent.{Lent}
 
 -- 7
 abbrev pub wrongStarts : Bool → List Test
-wrongStarts wrong = test wrong 7 ∷ []
+wrongStarts wrong = test wrong number.wrongLength ∷ []
 
 -- 10: the slices that every run has a part in
 unfoldable pub shortRuns : Problem → ℕ → Lent → List Test

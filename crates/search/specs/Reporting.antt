@@ -9,6 +9,7 @@ use lib.Dec.{leb, ltb}
 use lib.ListN.{length, getD}
 use lib.Ieee.{Float, lt}
 use lib.Ieee.Scale.{finite}
+use Rattle.meaning.specs.Numbers as number
 use Rattle.meaning.specs.Flags.{isSet}
 use Rattle.meaning.specs.Fold.{fold}
 use Rattle.meaning.specs.Reply.{Reply, give, Test, test, chain}
@@ -56,7 +57,7 @@ reportedAt error genome = foundAt (listLengthOf error genome + 1) (capOf genome)
 -- ---- what is refused: more than 65,535 runs as 2, and a slice that is too short as 10
 abbrev pub shortOnes : List ℕ → ℕ → List Test
 shortOnes [] need = []
-shortOnes (room ∷ rooms) need = test (ltb room need) 10 ∷ shortOnes rooms need
+shortOnes (room ∷ rooms) need = test (ltb room need) number.tooShort ∷ shortOnes rooms need
 
 unfoldable pub reportTests : ℕ → ℕ → Columns → List Test
 reportTests w runs c =

@@ -16,7 +16,7 @@ use Rattle.search.specs.Prices.{priceOf, capOf, widthOf, standsFrom}
 use Rattle.search.specs.Refusing.{searchTests}
 use Rattle.search.specs.Turns.{State, turnsOf}
 use Rattle.search.specs.Vertices.{blockAt, flat}
-use Rattle.search.specs.declared.prices.Problem.{Problem}
+use Rattle.models.specs.declared.problems.Problem.{Problem}
 use Rattle.search.specs.declared.refusing.Lent.{Lent}
 
 -- `w` numbers a row and as many rows; `runs` runs

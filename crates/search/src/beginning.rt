@@ -9,12 +9,12 @@ ghost use Rattle.search.specs.Beginning.{simplexesBegun, iterationsBegun
 ghost use Rattle.search.specs.Prices.{readyPriceOf, priceOf, standsFrom};
 ghost use Rattle.search.specs.Searches.{lentOf, stoodFrom, readyAfter};
 use crate::firsts::first_simplex;
-use crate::prices::Problem;
 use crate::prices::width;
 use crate::refusing::Lent;
 use crate::refusing::search_refusal;
 use meaning::answers::Written;
 use models::prepared::prepare_window;
+use models::problems::Problem;
 
 // Each run begins at its start.
 fn begin_all(

@@ -6,10 +6,10 @@ ghost use Rattle.search.specs.Firsts.{firstPoint, firstSimplex};
 ghost use Rattle.search.specs.Prices.{readyPriceOf, standsFrom};
 ghost use Rattle.search.specs.Vertices.{rowsIn};
 use crate::points::copy;
-use crate::prices::Problem;
 use crate::prices::price;
 use crate::rows::put;
 use crate::steps::MOST_COORDINATES;
+use models::problems::Problem;
 
 // The start, or with 0.5 added to its coordinate i - 1.
 fn first_point(start: &[f64], i: usize, point: &mut [f64])

@@ -8,16 +8,7 @@ use models::costs::cost_prepared;
 use models::families::ErrorModel;
 use models::families::GenomeModel;
 use models::families::list_length;
-
-// What a list is judged by, but for the bins.
-#[repr(C)]
-pub struct Problem {
-    pub scale: f64,
-    pub window_end: usize,
-    pub peak: usize,
-    pub error: ErrorModel,
-    pub genome: GenomeModel,
-}
+use models::problems::Problem;
 
 fn price_said(answer: Number) -> f64
     ensures { λ r. ⌜ r ≡ priceSaid (numberSays answer) ⌝ }

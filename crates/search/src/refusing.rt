@@ -4,9 +4,13 @@ ghost use Prim.Native.Nat.{_≤_};
 ghost use Rattle.meaning.specs.Reply.{firstOf};
 ghost use Rattle.meaning.specs.Rows.{most};
 ghost use Rattle.search.specs.Refusing.{shortRuns, searchTests};
-use crate::prices::Problem;
 use crate::prices::width;
 use meaning::limits::MOST;
+use meaning::refusals::TOO_LARGE;
+use meaning::refusals::TOO_SHORT;
+use meaning::refusals::TOO_SMALL;
+use meaning::refusals::WRONG_LENGTH;
+use models::problems::Problem;
 use models::refusals::spectrum_refusal;
 use models::refusals::table_refusal;
 
@@ -26,13 +30,13 @@ fn runs_refusal(problem: Problem, runs: usize, lent: Lent) -> u8
 {
     let w = width(problem);
     if lent.simplexes < runs * (w * w) {
-        return 10;
+        return TOO_SHORT;
     }
     if lent.iterations < runs {
-        return 10;
+        return TOO_SHORT;
     }
     if lent.stopped < runs {
-        return 10;
+        return TOO_SHORT;
     }
     0
 }
@@ -49,24 +53,24 @@ pub(crate) fn search_refusal(
 {
     let genome = problem.genome;
     if problem.peak < 2 || bins.len() < 2 {
-        return 1;
+        return TOO_SMALL;
     }
     if bins.len() > MOST || problem.peak > MOST || problem.window_end > MOST || runs > MOST {
-        return 2;
+        return TOO_LARGE;
     }
     let spectrum = spectrum_refusal(bins, problem.scale, problem.window_end);
     if spectrum != 0 {
         return spectrum;
     }
     if wrong {
-        return 7;
+        return WRONG_LENGTH;
     }
     let table = table_refusal(genome, problem.window_end, lent.table);
     if table != 0 {
         return table;
     }
     if lent.ready < 2 * (problem.window_end + 2) {
-        return 10;
+        return TOO_SHORT;
     }
     runs_refusal(problem, runs, lent)
 }

@@ -18,6 +18,8 @@ use meaning::answers::Written;
 use meaning::flags::byte_of;
 use meaning::flags::is_set;
 use meaning::limits::MOST;
+use meaning::refusals::TOO_LARGE;
+use meaning::refusals::TOO_SHORT;
 use models::families::ErrorModel;
 use models::families::GenomeModel;
 use models::families::list_length;
@@ -146,16 +148,16 @@ fn report_refusal(w: usize, runs: usize, lent: Columns) -> u8
     ensures { λ r. ⌜ r ≡ firstOf (reportTests w runs lent) ⌝ }
 {
     if runs > MOST {
-        return 2;
+        return TOO_LARGE;
     }
     if lent.simplexes < runs * (w * w) {
-        return 10;
+        return TOO_SHORT;
     }
     if lent.iterations < runs || lent.stopped < runs || lent.converged < runs {
-        return 10;
+        return TOO_SHORT;
     }
     if lent.costs < runs || lent.places < runs || lent.lengths < runs || lent.caps < runs {
-        return 10;
+        return TOO_SHORT;
     }
     0
 }

@@ -8,7 +8,6 @@ ghost use Rattle.meaning.specs.Lent.{onGive};
 ghost use Rattle.meaning.specs.Rows.{most};
 ghost use Rattle.search.specs.Prices.{readyPriceOf, priceOf, capOf, widthOf, standsFrom};
 ghost use Rattle.search.specs.Searches.{simplexesAfter, iterationsAfter, stoppedAfter, lentOf, runSearchesOf, stoodFrom, readyAfter};
-use crate::prices::Problem;
 use crate::prices::iteration_cap;
 use crate::prices::width;
 use crate::refusing::Lent;
@@ -19,6 +18,7 @@ use meaning::answers::Written;
 use meaning::flags::byte_of;
 use meaning::flags::is_set;
 use models::prepared::prepare_window;
+use models::problems::Problem;
 
 // Each run goes on for at most `limit` turns.
 fn run_all(

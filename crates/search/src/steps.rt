@@ -11,9 +11,9 @@ use crate::points::Move;
 use crate::points::centroid;
 use crate::points::copy;
 use crate::points::move_point;
-use crate::prices::Problem;
 use crate::prices::price;
 use crate::rows::put;
+use models::problems::Problem;
 
 // The most coordinates of a point.
 pub const MOST_COORDINATES: usize = 11;

@@ -7,9 +7,9 @@ ghost use Rattle.search.specs.Prices.{readyPriceOf, standsFrom};
 ghost use Rattle.search.specs.Progress.{stateOf, endedAt};
 ghost use Rattle.search.specs.Turns.{nextOf, turnsOf};
 use crate::order::order;
-use crate::prices::Problem;
 use crate::spread::is_settled;
 use crate::steps::step;
+use models::problems::Problem;
 
 // How far a run has come: the iterations made, and whether the test stopped it.
 pub struct Progress {

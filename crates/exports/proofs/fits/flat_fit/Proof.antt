@@ -6,7 +6,7 @@ use Rattle.exports.proofs.fits.flat_fit.Tie as tie
 
 returns : tie.Need-returns
 unfolding ofFit
-returns c = rw (c .shelf-numbers .ensures, c .before .shelf-there .ensures, c .before .before .flat-genome .ensures, c .before .before .before .flat-error .ensures, c .before .before .before .before .flat-errors .ensures)
+returns c = rw (c .shelf-numbers .ensures, c .before .shelf-there .ensures, c .before .before .genome-number .ensures, c .before .before .before .error-number .ensures, c .before .before .before .before .flat-errors .ensures)
 
 pub flat-fit-spec : {M : Type 1} → statement M
 flat-fit-spec =

@@ -3,14 +3,8 @@ use borrow.Author.Needs.{needs}
 use Rattle.exports.proofs.fits.shelf_numbers.Statement.{statement}
 use Rattle.exports.proofs.fits.shelf_numbers.Tie as tie
 
-enum-told : tie.Need-enum-told
-enum-told c = search needs
-
 returns : tie.Need-returns
-returns c = rw (c .enum-told .given .1)
-
-returns-2 : tie.Need-returns-2
-returns-2 c = rw (c .before .shelf .given .1)
+returns c = rw (c .shelf-held .ensures)
 
 pub shelf-numbers-spec : {M : Type 1} → statement M
-shelf-numbers-spec = tie.close (tie.spec enum-told (λ c. search needs) returns returns-2)
+shelf-numbers-spec = tie.close (tie.spec (λ c κs. search needs) returns)

@@ -15,8 +15,8 @@ returns c =
       c .rejection-number .ensures,
       there .rejection-there .ensures,
       flag .byte-of .ensures,
-      genome .flat-genome .ensures,
-      error .flat-error .ensures,
+      genome .genome-number .ensures,
+      error .error-number .ensures,
       error .before .flat-fit .ensures,
     )
 

@@ -5,7 +5,7 @@ use mathlib.Core.List.{List}
 use lib.ListN.{drop}
 use lib.Ieee.{Float}
 use Rattle.fitter.specs.Attempting.{standsFrom}
-use Rattle.fitter.specs.declared.settling.Setup.{Setup}
+use Rattle.models.specs.declared.problems.Problem.{Problem}
 use Rattle.exports.specs.FlatTables.{sayAttempt}
 use Rattle.exports.specs.declared.run_tables.FlatAttemptAnswer.{FlatAttemptAnswer}
 use borrow.Author.Needs.{needs}
@@ -13,11 +13,11 @@ use Rattle.exports.proofs.run_tables.fog_attempt_from_numbers.Statement
 use Rattle.exports.proofs.run_tables.fog_attempt_from_numbers.Tie as tie
 
 -- what stands in the table, by the setup and the number that C sees
-stands : (s t : Setup) (k m : ℕ) (before after : List Float) → s ≡ t → m ≡ k
+stands : (s t : Problem) (k m : ℕ) (before after : List Float) → s ≡ t → m ≡ k
     → drop (standsFrom s k) after ≡ drop (standsFrom s k) before
     → drop (standsFrom t m) after ≡ drop (standsFrom t m) before
 stands s t k m before after e f h =
-    subst (λ (u : Setup). drop (standsFrom u m) after ≡ drop (standsFrom u m) before) e
+    subst (λ (u : Problem). drop (standsFrom u m) after ≡ drop (standsFrom u m) before) e
     (subst (λ (n : ℕ). drop (standsFrom s n) after ≡ drop (standsFrom s n) before) (sym f) h)
 
 returns : tie.Need-returns

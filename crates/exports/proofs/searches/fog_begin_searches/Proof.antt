@@ -11,7 +11,7 @@ use Rattle.meaning.specs.Reply.{Reply}
 use Rattle.search.specs.Beginning.{simplexesBegun, iterationsBegun, stoppedBegun, beginSearchesOf, sizeOf, runsIn}
 use Rattle.search.specs.Prices.{priceOf}
 use Rattle.search.specs.Searches.{lentOf, stoodFrom, readyAfter}
-use Rattle.search.specs.declared.prices.Problem.{Problem}
+use Rattle.models.specs.declared.problems.Problem.{Problem}
 use Rattle.exports.specs.Flat.{sayWritten}
 use Rattle.exports.proofs.searches.fog_begin_searches.Statement.{statement}
 use Rattle.exports.proofs.searches.fog_begin_searches.Tie as tie

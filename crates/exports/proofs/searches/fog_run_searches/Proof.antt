@@ -10,7 +10,7 @@ use Rattle.meaning.specs.Lent.{onGive}
 use Rattle.meaning.specs.Reply.{Reply}
 use Rattle.search.specs.Prices.{priceOf, capOf, widthOf}
 use Rattle.search.specs.Searches.{simplexesAfter, iterationsAfter, stoppedAfter, lentOf, runSearchesOf, stoodFrom, readyAfter}
-use Rattle.search.specs.declared.prices.Problem.{Problem}
+use Rattle.models.specs.declared.problems.Problem.{Problem}
 use Rattle.exports.specs.Flat.{sayWritten}
 use Rattle.exports.proofs.searches.fog_run_searches.Statement.{statement}
 use Rattle.exports.proofs.searches.fog_run_searches.Tie as tie

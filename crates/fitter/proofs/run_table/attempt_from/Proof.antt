@@ -32,8 +32,8 @@ use denote.Triple.Spec.{Meets, tripleOf}
 use denote.Triple.Table.{entered, cited}
 use denote.Triple.Walked.{goes-none, goes-none-slice, goes-slice, walked, walk-meets}
 use denote.Exit.{yes}
-use Rattle.fitter.proofs.settling.Setup as Setup-type
-use Rattle.fitter.proofs.settling.Setup.Laws as Setup-laws
+use Rattle.models.proofs.problems.Problem as Problem-type
+use Rattle.models.proofs.problems.Problem.Laws as Problem-laws
 use Rattle.fitter.proofs.turns.begin_turns.Symbol as begin-def
 use Rattle.fitter.proofs.turns.begin_turns.Met as begin-thm
 use Rattle.fitter.proofs.turns.turn.Symbol as turn-def
@@ -44,7 +44,7 @@ use Rattle.fitter.proofs.run_table.attempt_from as scan
 use Rattle.fitter.proofs.run_table.attempt_from.Key as key
 use Rattle.fitter.proofs.run_table.attempt_from.Statement as stated
 use Rattle.fitter.proofs.run_table.attempt_from.Code as code
-use Rattle.fitter.proofs.run_table.attempt_from.Proof.Types.{Args, Setup-row}
+use Rattle.fitter.proofs.run_table.attempt_from.Proof.Types.{Args, Problem-row}
 use Rattle.fitter.proofs.RunSlices.{Lent-row, Arguments, m, bins-ref, runs-ref, lists-ref, table-ref, bins-at}
 use Rattle.fitter.proofs.RunSlices.{setup-at, runs-at, lists-at, table-at}
 use Rattle.fitter.proofs.run_table.attempt_from.Proof.Calls.{Begin, Turn, End}
@@ -69,7 +69,7 @@ module _ {M : Type 1} (𝓤 : URA M) (H : Heap 𝓤) (A : Atoms 𝓤) (W : Given
         qed W
         ((‵ (flft κb qb) ⊛ ‵ (flft κr qr) ⊛ ‵ (flft κl ql) ⊛ ‵ (flft κt qt) ⊛ ‵ ftrue)
         ∷ ‵ (owns
-        (ShrSlice (named 0) κb u32 ∷ Setup-row ∷ ShrSlice (named 1) κr Lent-row ∷ ShrSlice (named 2) κl f64
+        (ShrSlice (named 0) κb u32 ∷ Problem-row ∷ ShrSlice (named 1) κr Lent-row ∷ ShrSlice (named 2) κl f64
         ∷ MutSlice (named 3) κt f64 ∷ [])
         (bins-ref a, (setup, (runs-ref a, (lists-ref a, (table-ref a γt table, tt)))))
         (bins-at a ∷ [], (setup-at a ∷ [], (runs-at a ∷ [], (lists-at a ∷ [], (table-at a (m a) ∷ [], tt))))))
@@ -83,7 +83,7 @@ module _ {M : Type 1} (𝓤 : URA M) (H : Heap 𝓤) (A : Atoms 𝓤) (W : Given
         pass1 ! (init ! 26 refl (tt, (tt, (record { fits = gb .0 }, tt)))) $
         pass1 !
         (init ! 24 refl
-        (LL.lawful Setup-type.the-type Setup-laws.the-laws 𝓤 H A W .typed setup (setup-at a ∷ []) gs .0)) $
+        (LL.lawful Problem-type.the-type Problem-laws.the-laws 𝓤 H A W .typed setup (setup-at a ∷ []) gs .0)) $
         pass1 ! (init ! 22 refl (tt, (tt, (record { fits = gr .0 }, tt)))) $
         pass1 ! (init ! 20 refl (tt, (tt, (record { fits = gl .0 }, tt)))) $
         pass1 ! (init ! 18 refl (tt, (tt, (record { fits = gt .0 }, tt)))) $ pass0 ! $ move ! (31 ∷ []) $ fsplit ! $
@@ -118,7 +118,7 @@ module _ {M : Type 1} (𝓤 : URA M) (H : Heap 𝓤) (A : Atoms 𝓤) (W : Given
       walk-meets 𝓤 H A scan.ended stayed W (
         goes-none-slice 𝓤 H A W 4 (0 ∷ []) tt (plain (λ _. u32)) yes,
         (
-          goes-none 𝓤 H A W 4 (λ _. Setup-row) yes (λ κs x f. refl),
+          goes-none 𝓤 H A W 4 (λ _. Problem-row) yes (λ κs x f. refl),
           (
             goes-none-slice 𝓤 H A W 4 (1 ∷ []) tt (plain (λ _. Lent-row)) yes,
             (
@@ -132,11 +132,11 @@ module _ {M : Type 1} (𝓤 : URA M) (H : Heap 𝓤) (A : Atoms 𝓤) (W : Given
       (WpFn-mono 𝓤 H (W .laws) 𝓣 code.function)
       (walked 𝓤 H A scan.ended stayed (scan.clauses 𝓤 H A mem run) (WpFn 𝓤 H (𝓣 .C) (𝓣 .Λ) code.function)
       (λ κs.
-      (slice-vals, (LL.vals Setup-type.the-type Setup-laws.the-laws, (slice-vals, (slice-vals, (slice-vals, tt))))))
+      (slice-vals, (LL.vals Problem-type.the-type Problem-laws.the-laws, (slice-vals, (slice-vals, (slice-vals, tt))))))
       (λ κs. (
         shr-slice-tells (named 0) (κs .0) u32,
         (
-          LL.tells Setup-type.the-type Setup-laws.the-laws,
+          LL.tells Problem-type.the-type Problem-laws.the-laws,
           (
             shr-slice-tells (named 1) (κs .1 .0) Lent-row,
             (

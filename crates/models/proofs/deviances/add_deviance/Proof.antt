@@ -8,7 +8,7 @@ use Rattle.routines.specs.Ops.{_⊕_, ofCount}
 use Rattle.models.specs.Deviances.{expectedOf, devianceTerm}
 use Rattle.models.specs.Spectra.{seenTerm}
 use Rattle.models.specs.declared.deviances.Ready.{Ready}
-use Rattle.models.specs.declared.heights.Heights.{Heights}
+use Rattle.models.specs.declared.height_terms.Heights.{Heights}
 use Rattle.models.proofs.Survivals.{with-log, next-survival, heights-from-is}
 use borrow.Author.Needs.{needs}
 use Rattle.models.proofs.deviances.add_deviance.Statement.{statement}

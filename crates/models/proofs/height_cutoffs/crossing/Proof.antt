@@ -10,7 +10,7 @@ use Rattle.routines.specs.Ops.{ofCount}
 use Rattle.models.specs.Errors.{survivalOf}
 use Rattle.models.specs.HeightTerms.{heightsOf}
 use Rattle.models.specs.declared.height_terms.HeightTerms.{HeightTerms}
-use Rattle.models.specs.declared.heights.Heights.{Heights}
+use Rattle.models.specs.declared.height_terms.Heights.{Heights}
 use Rattle.models.proofs.Survivals.{first-survival, next-survival, error-from-is}
 use Rattle.models.specs.HeightCutoffs.{outgrows, crossingFrom, crossingOf}
 use Rattle.models.proofs.HeightCutoffs.{crossing-starts, crossing-ends, crossing-hits, crossing-goes, outgrows-is}

@@ -14,7 +14,7 @@ use Rattle.models.specs.Heights.{heightRows}
 use Rattle.models.specs.HeightTerms.{heightsOf}
 use Rattle.models.specs.declared.errors.ErrorParams.{ErrorParams}
 use Rattle.models.specs.declared.height_terms.HeightTerms.{HeightTerms}
-use Rattle.models.specs.declared.heights.Heights.{Heights}
+use Rattle.models.specs.declared.height_terms.Heights.{Heights}
 use Rattle.models.proofs.HeightRows.{rows-more}
 use Rattle.models.proofs.Survivals.{first-survival, first-log, with-log, next-survival, heights-from-is}
 use borrow.Author.Needs.{needs}

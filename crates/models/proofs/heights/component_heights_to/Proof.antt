@@ -12,7 +12,7 @@ use Rattle.models.specs.Heights.{heightsAt, heightRows, heightsToOf}
 use Rattle.models.specs.HeightTerms.{heightTermsOf, heightsOf}
 use Rattle.models.specs.declared.fit.SpectrumFit.{SpectrumFit}
 use Rattle.models.specs.declared.height_terms.HeightTerms.{HeightTerms}
-use Rattle.models.specs.declared.heights.Heights.{Heights}
+use Rattle.models.specs.declared.height_terms.Heights.{Heights}
 use Rattle.models.proofs.HeightRows.{rows-length}
 use Rattle.models.proofs.HeightTerms.{terms-heights}
 use borrow.Author.Needs.{needs}

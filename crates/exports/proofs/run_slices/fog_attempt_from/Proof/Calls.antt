@@ -25,7 +25,7 @@ use denote.Triple.Statement.{Contract}
 use denote.Triple.Clauses.{ensured, lasts}
 use denote.Triple.Spec.{tripleOf}
 use Rattle.fitter.specs.declared.runs.LentRun.{LentRun}
-use Rattle.fitter.specs.declared.settling.Setup.{Setup}
+use Rattle.models.specs.declared.problems.Problem.{Problem}
 use Rattle.exports.specs.FlatSetups.{setupFrom}
 use Rattle.exports.specs.FlatTables.{sayAttempt}
 use Rattle.exports.specs.declared.run_tables.FlatAttemptAnswer.{FlatAttemptAnswer}
@@ -34,7 +34,7 @@ use Rattle.fitter.proofs.RunSlices.{setup-at, runs-at, lists-at, table-at}
 use Rattle.exports.proofs.run_slices.setup_from as made
 use Rattle.fitter.proofs.run_table.attempt_from as asked
 use Rattle.exports.proofs.run_tables.flat_attempt_answer as said
-use Rattle.exports.proofs.run_slices.fog_attempt_from.Proof.Types.{Flat-row, Setup-row, Answer-row, Args}
+use Rattle.exports.proofs.run_slices.fog_attempt_from.Proof.Types.{Flat-row, Problem-row, Answer-row, Args}
 use Rattle.exports.proofs.run_slices.fog_attempt_from.Proof.Types.{Numbers, Answer}
 
 module _ {M : Type 1} (𝓤 : URA M) (H : Heap 𝓤) (A : Atoms 𝓤) (mem : Memory → SProp 𝓤) (run : Routine → Fun 𝓤) where
@@ -50,7 +50,7 @@ module _ {M : Type 1} (𝓤 : URA M) (H : Heap 𝓤) (A : Atoms 𝓤) (mem : Mem
   module _ (a : Args) where
     open Arguments a using (setup)
 
-    pub made-said : (s : Setup)
+    pub made-said : (s : Problem)
         → ent 𝓤 (ensured 𝓤 H A made.ended (made.clauses 𝓤 H A mem run) tt (setup, tt) tt s)
         (fact 𝓤 (s ≡ setupFrom setup))
     made-said s =
@@ -70,7 +70,7 @@ module _ (a : Args) where
   open Arguments a using (κb, κr, κl, qb, qr, ql, table)
 
   abbrev pub args : GName → Numbers a
-      → RefT (List ℕ) × (Setup × (RefT (List LentRun) × (RefT (List Float) × (RefT (List Float) × Unit {0}))))
+      → RefT (List ℕ) × (Problem × (RefT (List LentRun) × (RefT (List Float) × (RefT (List Float) × Unit {0}))))
   args δ k = (bins-ref a, (k .s, (runs-ref a, (lists-ref a, (table-ref a δ table, tt)))))
 
   abbrev vals : Numbers a → List Val × (List Val × (List Val × (List Val × (List Val × Unit {0}))))
@@ -86,7 +86,7 @@ module _ (a : Args) where
   abbrev Handed : ℕ → GName → Numbers a → Fml
   Handed ν δ k =
       owns
-      (ShrSlice (named 0) κb u32 ∷ Setup-row ∷ ShrSlice (named 1) κr Lent-row ∷ ShrSlice (named 2) κl f64
+      (ShrSlice (named 0) κb u32 ∷ Problem-row ∷ ShrSlice (named 1) κr Lent-row ∷ ShrSlice (named 2) κl f64
       ∷ MutSlice (named 3) (ν ∷ []) f64 ∷ [])
       (args δ k) (vals k)
 

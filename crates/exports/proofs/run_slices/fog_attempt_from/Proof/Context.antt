@@ -14,7 +14,7 @@ use denote.Memory.{pointee}
 use denote.Slice.{sliceTy}
 use Rattle.fitter.proofs.RunSlices.{Lent-row, Arguments, m, bins-at, setup-at, runs-at, lists-at, table-at, OwnB, OwnR}
 use Rattle.fitter.proofs.RunSlices.{OwnL, OwnT}
-use Rattle.fitter.proofs.settling.Setup.Laws as Setup-laws
+use Rattle.models.proofs.problems.Problem.Laws as Problem-laws
 use Rattle.fitter.proofs.settling.AttemptAnswer.Laws as Answer-laws
 use Rattle.exports.proofs.run_slices.FlatSetup.Laws as Flat-laws
 use Rattle.exports.proofs.run_tables.FlatAttemptAnswer.Laws as Out-laws
@@ -39,7 +39,7 @@ En 𝓤 H ls =
     (Out-laws.mir, ls .l0) ∷ (sliceTy (tyRef (named 0) imm (tyInt w32)), ls .l1) ∷ (Flat-laws.mir, ls .l2) ∷
     (sliceTy (tyRef (named 1) imm (pointee (Lent-row .written))), ls .l3) ∷
     (sliceTy (tyRef (named 2) imm (tyFloat binary64)), ls .l4) ∷
-    (sliceTy (tyRef (named 3) mut (tyFloat binary64)), ls .l5) ∷ (Setup-laws.mir, ls .l6) ∷ (Answer-laws.mir, ls .l7)
+    (sliceTy (tyRef (named 3) mut (tyFloat binary64)), ls .l5) ∷ (Problem-laws.mir, ls .l6) ∷ (Answer-laws.mir, ls .l7)
     ∷ (ref, ls .l8) ∷ (sliceTy ref, ls .l9) ∷ []
 
 module _ {M : Type 1} (𝓤 : URA M) (a : Args) (ls : Blocks) where
@@ -52,7 +52,7 @@ module _ {M : Type 1} (𝓤 : URA M) (a : Args) (ls : Blocks) where
       ‵ (froom (sliceTy ref) l9 0) ∷ ‵ (fdies (sliceTy ref) l9)
       ∷ ‵ (froom ref l8 0) ∷ ‵ (fdies ref l8)
       ∷ ‵ (froom Answer-laws.mir l7 0) ∷ ‵ (fdies Answer-laws.mir l7)
-      ∷ ‵ (froom Setup-laws.mir l6 0) ∷ ‵ (fdies Setup-laws.mir l6)
+      ∷ ‵ (froom Problem-laws.mir l6 0) ∷ ‵ (fdies Problem-laws.mir l6)
       ∷ ‵ (fat fullShare (sliceTy (tyRef (named 3) mut (tyFloat binary64))) l5 0 (table-at a (m a))) ∷ ‵
       (fdies (sliceTy (tyRef (named 3) mut (tyFloat binary64))) l5)
       ∷ ‵ (fat fullShare (sliceTy (tyRef (named 2) imm (tyFloat binary64))) l4 0 (lists-at a)) ∷ ‵
@@ -72,7 +72,7 @@ module _ {M : Type 1} (𝓤 : URA M) (a : Args) (ls : Blocks) where
       ‵ (froom (sliceTy ref) l9 0) ∷ ‵ (fdies (sliceTy ref) l9)
       ∷ ‵ (froom ref l8 0) ∷ ‵ (fdies ref l8)
       ∷ ‵ (froom Answer-laws.mir l7 0) ∷ ‵ (fdies Answer-laws.mir l7)
-      ∷ ‵ (fat fullShare Setup-laws.mir l6 0 (k .v)) ∷ ‵ (fdies Setup-laws.mir l6)
+      ∷ ‵ (fat fullShare Problem-laws.mir l6 0 (k .v)) ∷ ‵ (fdies Problem-laws.mir l6)
       ∷ ‵ (fat fullShare (sliceTy (tyRef (named 3) mut (tyFloat binary64))) l5 0 (table-at a (m a))) ∷ ‵
       (fdies (sliceTy (tyRef (named 3) mut (tyFloat binary64))) l5)
       ∷ ‵ (fat fullShare (sliceTy (tyRef (named 2) imm (tyFloat binary64))) l4 0 (lists-at a)) ∷ ‵
@@ -92,7 +92,7 @@ module _ {M : Type 1} (𝓤 : URA M) (a : Args) (ls : Blocks) where
       ‵ (froom (sliceTy ref) l9 0) ∷ ‵ (fdies (sliceTy ref) l9)
       ∷ ‵ (froom ref l8 0) ∷ ‵ (fdies ref l8)
       ∷ ‵ (fat fullShare Answer-laws.mir l7 0 (j .u)) ∷ ‵ (fdies Answer-laws.mir l7)
-      ∷ ‵ (fat fullShare Setup-laws.mir l6 0 (k .v)) ∷ ‵ (fdies Setup-laws.mir l6)
+      ∷ ‵ (fat fullShare Problem-laws.mir l6 0 (k .v)) ∷ ‵ (fdies Problem-laws.mir l6)
       ∷ ‵ (fat fullShare (sliceTy (tyRef (named 3) mut (tyFloat binary64))) l5 0 (table-at a (m a))) ∷ ‵
       (fdies (sliceTy (tyRef (named 3) mut (tyFloat binary64))) l5)
       ∷ ‵ (fat fullShare (sliceTy (tyRef (named 2) imm (tyFloat binary64))) l4 0 (lists-at a)) ∷ ‵

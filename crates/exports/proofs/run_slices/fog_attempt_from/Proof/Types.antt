@@ -12,13 +12,13 @@ use denote.Struct.Laws as LL
 use Rattle.fitter.specs.Attempting.{attemptAnswerOf, attemptFrom, standsFrom}
 use Rattle.fitter.specs.Columns.{runIn}
 use Rattle.fitter.specs.declared.settling.AttemptAnswer.{AttemptAnswer}
-use Rattle.fitter.specs.declared.settling.Setup.{Setup}
+use Rattle.models.specs.declared.problems.Problem.{Problem}
 use Rattle.exports.specs.FlatSetups.{setupFrom}
 use Rattle.exports.specs.FlatTables.{sayAttempt}
 use Rattle.exports.specs.declared.run_slices.FlatSetup.{FlatSetup}
 use Rattle.exports.specs.declared.run_tables.FlatAttemptAnswer.{FlatAttemptAnswer}
 use Rattle.fitter.proofs.RunSlices.{Arguments, n, m}
-use Rattle.fitter.proofs.settling.Setup as Setup-type
+use Rattle.models.proofs.problems.Problem as Problem-type
 use Rattle.fitter.proofs.settling.AttemptAnswer as Answer-type
 use Rattle.exports.proofs.run_slices.FlatSetup as Flat-type
 use Rattle.exports.proofs.run_slices.FlatSetup.Laws as Flat-laws
@@ -27,8 +27,8 @@ use Rattle.exports.proofs.run_tables.FlatAttemptAnswer as Out-type
 abbrev pub Flat-row : RattleType
 Flat-row = Flat-type.the-row
 
-abbrev pub Setup-row : RattleType
-Setup-row = Setup-type.the-row
+abbrev pub Problem-row : RattleType
+Problem-row = Problem-type.the-row
 
 abbrev pub Answer-row : RattleType
 Answer-row = Answer-type.the-row
@@ -50,9 +50,9 @@ module _ (a : Args) where
 
   -- behind the first call: the numbers, with their machine value
   pub record Numbers : Type 0 where
-    pub s : Setup
+    pub s : Problem
     pub v : Val
-    pub is : Is Setup-row s (v ∷ [])
+    pub is : Is Problem-row s (v ∷ [])
     pub e : s ≡ setupFrom setup
 
   -- what the second call says
@@ -82,8 +82,8 @@ module _ (a : Args) where
   ended k j r e = (
     e
         ∙ ap sayAttempt (j .e)
-        ∙ ap (λ (s : Setup). sayAttempt (attemptAnswerOf (attemptFrom bins s lists (m a) (runIn runs) (n a)))) (k .e),
-    subst (λ (s : Setup). drops (standsFrom s (r .number)) (j .zs) ≡ drops (standsFrom s (r .number)) table) (k .e)
+        ∙ ap (λ (s : Problem). sayAttempt (attemptAnswerOf (attemptFrom bins s lists (m a) (runIn runs) (n a)))) (k .e),
+    subst (λ (s : Problem). drops (standsFrom s (r .number)) (j .zs) ≡ drops (standsFrom s (r .number)) table) (k .e)
         (subst (λ (i : ℕ). drops (standsFrom (k .s) i) (j .zs) ≡ drops (standsFrom (k .s) i) table)
         (sym (ap (λ (x : FlatAttemptAnswer). x .number) e)) (j .h)),
   )

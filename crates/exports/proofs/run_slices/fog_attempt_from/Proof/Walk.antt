@@ -27,15 +27,15 @@ use denote.Triple.Statement.{Triple}
 use denote.Triple.Call.{calls-at}
 use denote.Triple.Clauses.{ensured, lasts}
 use Rattle.fitter.specs.declared.settling.AttemptAnswer.{AttemptAnswer}
-use Rattle.fitter.specs.declared.settling.Setup.{Setup}
+use Rattle.models.specs.declared.problems.Problem.{Problem}
 use Rattle.exports.specs.FlatSetups.{setupFrom}
 use Rattle.exports.specs.FlatTables.{sayAttempt}
 use Rattle.exports.specs.declared.run_tables.FlatAttemptAnswer.{FlatAttemptAnswer}
 use Rattle.fitter.proofs.LentOn.{LentAgain, lends-again, comes-back}
 use Rattle.fitter.proofs.RunSlices.{Lent-row, Arguments, m, bins-ref, runs-ref, lists-ref, bins-at, setup-at, runs-at}
 use Rattle.fitter.proofs.RunSlices.{lists-at, OwnB, OwnR, OwnL, OwnT, Lended}
-use Rattle.fitter.proofs.settling.Setup as Setup-type
-use Rattle.fitter.proofs.settling.Setup.Laws as Setup-laws
+use Rattle.models.proofs.problems.Problem as Problem-type
+use Rattle.models.proofs.problems.Problem.Laws as Problem-laws
 use Rattle.fitter.proofs.settling.AttemptAnswer as Answer-type
 use Rattle.fitter.proofs.settling.AttemptAnswer.Laws as Answer-laws
 use Rattle.exports.proofs.run_slices.FlatSetup as Flat-type
@@ -49,7 +49,7 @@ use Rattle.fitter.proofs.run_table.attempt_from.Symbol as asked-def
 use Rattle.exports.proofs.run_tables.flat_attempt_answer as said
 use Rattle.exports.proofs.run_tables.flat_attempt_answer.Symbol as said-def
 use Rattle.exports.proofs.run_slices.fog_attempt_from.Code.Mir as code-mir
-use Rattle.exports.proofs.run_slices.fog_attempt_from.Proof.Types.{Flat-row, Setup-row, Answer-row, Out-row}
+use Rattle.exports.proofs.run_slices.fog_attempt_from.Proof.Types.{Flat-row, Problem-row, Answer-row, Out-row}
 use Rattle.exports.proofs.run_slices.fog_attempt_from.Proof.Types.{Args, Numbers, Answered, Stood, Answer}
 use Rattle.exports.proofs.run_slices.fog_attempt_from.Proof.Types.{ended}
 use Rattle.exports.proofs.run_slices.fog_attempt_from.Proof.Calls.{Made, Asked, Said, made-said, said-said}
@@ -127,7 +127,7 @@ module _ {M : Type 1} (𝓤 : URA M) (H : Heap 𝓤) (A : Atoms 𝓤) (W : Given
       nothing ! $ move ! (9 ∷ 0 ∷ []) $ join ! $ move ! (31 ∷ 0 ∷ []) $ join ! $ move ! (30 ∷ 0 ∷ []) $ join ! $
       move ! (29 ∷ 0 ∷ []) $ join ! $ nothing ! $ move ! (8 ∷ 0 ∷ []) $ fjoin ! $ move ! (2 ∷ 0 ∷ []) $ fjoin ! $
       move ! (3 ∷ 0 ∷ []) $ fjoin ! $
-      owned ! Setup-row (Is Setup-row) (LL.makes Setup-type.the-type Setup-laws.the-plain 𝓤 H A) (k .s) (k .v ∷ [])
+      owned ! Problem-row (Is Problem-row) (LL.makes Problem-type.the-type Problem-laws.the-plain 𝓤 H A) (k .s) (k .v ∷ [])
       (k .is) $
       fjoin ! $ move ! (4 ∷ 0 ∷ []) $ fjoin ! $ move ! (1 ∷ 0 ∷ []) $
       use2 W (raw (Asked 𝓤 H A mem run .pre (to-asked 𝓤 H A W mem run a ν δ k))) (goes-asked 𝓤 H A W mem run a ν δ k) $
@@ -179,12 +179,12 @@ module _ {M : Type 1} (𝓤 : URA M) (H : Heap 𝓤) (A : Atoms 𝓤) (W : Given
       use1 W
       (later
       (some
-      (λ (s : Setup). (‵ ftrue ⊛ ‵ (Setup-row .own s (v ∷ []))) ⊛ raw
+      (λ (s : Problem). (‵ ftrue ⊛ ‵ (Problem-row .own s (v ∷ []))) ⊛ raw
       (ensured 𝓤 H A made.ended (made.clauses 𝓤 H A mem run) tt (setup, tt) tt s)))) (id⊢ 𝓤 _) $
       await ! tt $ pick ! (λ s. split ! $ move ! (1 ∷ []) $
       use1 W (raw (fact 𝓤 (s ≡ setupFrom setup))) (made-said 𝓤 H A mem run a s) $ heard ! (s ≡ setupFrom setup) (λ e.
-      split ! $ drop ! $ peeks ! Setup-row (Is Setup-row) (shows 𝓤 H A Setup-row) s (v ∷ []) (λ is.
+      split ! $ drop ! $ peeks ! Problem-row (Is Problem-row) (shows 𝓤 H A Problem-row) s (v ∷ []) (λ is.
       land ! (from ! (stop !))
-      (init ! 7 refl (LL.lawful Setup-type.the-type Setup-laws.the-laws 𝓤 H A W .typed s (v ∷ []) is .0)) $
+      (init ! 7 refl (LL.lawful Problem-type.the-type Problem-laws.the-laws 𝓤 H A W .typed s (v ∷ []) is .0)) $
       drop ! $
       asked-on (record { s = s; v = v; is = is; e = e })))))

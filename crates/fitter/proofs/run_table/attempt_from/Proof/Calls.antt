@@ -27,13 +27,13 @@ use denote.Triple.Entry.{onEntry}
 use denote.Triple.Spec.{tripleOf}
 use Rattle.fitter.specs.declared.runs.LentRun.{LentRun}
 use Rattle.fitter.specs.declared.settling.AttemptAnswer.{AttemptAnswer}
-use Rattle.fitter.specs.declared.settling.Setup.{Setup}
+use Rattle.models.specs.declared.problems.Problem.{Problem}
 use Rattle.fitter.specs.declared.turns.Turns.{Turns}
 use Rattle.fitter.proofs.SaidFacts.{says-one}
 use Rattle.fitter.proofs.turns.begin_turns as begin
 use Rattle.fitter.proofs.turns.turn as turn
 use Rattle.fitter.proofs.turns.end_turns as end
-use Rattle.fitter.proofs.run_table.attempt_from.Proof.Types.{Args, Turns-row, Setup-row, turns-at, lent-at}
+use Rattle.fitter.proofs.run_table.attempt_from.Proof.Types.{Args, Turns-row, Problem-row, turns-at, lent-at}
 use Rattle.fitter.proofs.RunSlices.{Lent-row, Arguments, n, m, bins-ref, lists-ref, table-ref, bins-at}
 use Rattle.fitter.proofs.RunSlices.{setup-at, lists-at, table-at}
 use Rattle.fitter.proofs.run_table.attempt_from.Proof.State.{Began, Finished}
@@ -59,14 +59,14 @@ Last = Unit {0} × (Unit {0} × (Unit {0} × (Unit {0} × (Unit {0} × (List Flo
 module _ (a : Args) where
   open Arguments a using (κb, κl, qb, ql, setup)
 
-  abbrev pub begin-args : RefT (List ℕ) × (Setup × (ℕ × (ℕ × Unit {0})))
+  abbrev pub begin-args : RefT (List ℕ) × (Problem × (ℕ × (ℕ × Unit {0})))
   begin-args = (bins-ref a, (setup, (n a, (m a, tt))))
 
   abbrev begin-vals : List Val × (List Val × (List Val × (List Val × Unit {0})))
   begin-vals = (bins-at a ∷ [], (setup-at a ∷ [], (vint w64 (n a) ∷ [], (vint w64 (m a) ∷ [], tt))))
 
   abbrev pub args : Turns → LentRun → GName → List Float
-      → Turns × (LentRun × (RefT (List ℕ) × (Setup × (RefT (List Float) × (RefT (List Float) × Unit {0})))))
+      → Turns × (LentRun × (RefT (List ℕ) × (Problem × (RefT (List Float) × (RefT (List Float) × Unit {0})))))
   args t r δ zs = (t, (r, (bins-ref a, (setup, (lists-ref a, (table-ref a δ zs, tt))))))
 
   abbrev vals : Turns → LentRun → List Float
@@ -86,7 +86,7 @@ module _ (a : Args) where
   abbrev Handed : ℕ → GName → Turns → LentRun → List Float → Fml
   Handed ν δ t r zs =
       owns
-      (Turns-row ∷ Lent-row ∷ ShrSlice (named 0) κb u32 ∷ Setup-row ∷ ShrSlice (named 1) κl f64
+      (Turns-row ∷ Lent-row ∷ ShrSlice (named 0) κb u32 ∷ Problem-row ∷ ShrSlice (named 1) κl f64
       ∷ MutSlice (named 2) (ν ∷ []) f64 ∷ [])
       (args t r δ zs) (vals t r zs)
 
@@ -101,7 +101,7 @@ module _ {M : Type 1} (𝓤 : URA M) (H : Heap 𝓤) (A : Atoms 𝓤) (W : Given
   abbrev Asked : List (Item 𝓤)
   Asked =
       (‵ (flft κb qb) ⊛ ‵ ftrue)
-      ∷ ‵ (owns (ShrSlice (named 0) κb u32 ∷ Setup-row ∷ usize ∷ usize ∷ []) (begin-args a) (begin-vals a)) ∷ []
+      ∷ ‵ (owns (ShrSlice (named 0) κb u32 ∷ Problem-row ∷ usize ∷ usize ∷ []) (begin-args a) (begin-vals a)) ∷ []
 
   pub goes-begin : ent 𝓤 (⋆ 𝓤 H A Asked) (Begin 𝓤 H A mem run .pre to-begin)
   goes-begin = qed W Asked ∵ join ! $ frame ! $ done !

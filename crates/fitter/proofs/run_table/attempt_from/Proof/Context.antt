@@ -22,7 +22,7 @@ use denote.Memory.{pointee}
 use denote.Slice.{sliceTy}
 use Rattle.fitter.proofs.runs.LentRun.Laws as Lent-laws
 use Rattle.fitter.proofs.turns.Turns.Laws as Turns-laws
-use Rattle.fitter.proofs.settling.Setup.Laws as Setup-laws
+use Rattle.models.proofs.problems.Problem.Laws as Problem-laws
 use Rattle.fitter.proofs.settling.AttemptAnswer.Laws as Answer-laws
 use Rattle.fitter.proofs.run_table.attempt_from.Code.Mir as code-mir
 use Rattle.fitter.proofs.run_table.attempt_from.Proof.Types.{Args, turns-at, word, ref}
@@ -52,7 +52,7 @@ pub record Blocks : Type 0 where
 
 abbrev pub En : {M : Type 1} (𝓤 : URA M) (H : Heap 𝓤) → Blocks → Env 𝓤 H
 En 𝓤 H ls =
-    (Answer-laws.mir, ls .l0) ∷ (sliceTy (tyRef (named 0) imm (tyInt w32)), ls .l1) ∷ (Setup-laws.mir, ls .l2) ∷
+    (Answer-laws.mir, ls .l0) ∷ (sliceTy (tyRef (named 0) imm (tyInt w32)), ls .l1) ∷ (Problem-laws.mir, ls .l2) ∷
     (sliceTy (tyRef (named 1) imm (pointee (Lent-row .written))), ls .l3) ∷
     (sliceTy (tyRef (named 2) imm (tyFloat binary64)), ls .l4) ∷
     (sliceTy (tyRef (named 3) mut (tyFloat binary64)), ls .l5) ∷ (Turns-laws.mir, ls .l6) ∷ (word, ls .l7) ∷
@@ -81,7 +81,7 @@ module _ {M : Type 1} (𝓤 : URA M) (a : Args) (ls : Blocks) where
       (fdies (sliceTy (tyRef (named 2) imm (tyFloat binary64))) l4)
       ∷ ‵ (fat fullShare (sliceTy (tyRef (named 1) imm (pointee (Lent-row .written)))) l3 0 (runs-at a)) ∷ ‵
       (fdies (sliceTy (tyRef (named 1) imm (pointee (Lent-row .written)))) l3)
-      ∷ ‵ (fat fullShare Setup-laws.mir l2 0 (setup-at a)) ∷ ‵ (fdies Setup-laws.mir l2)
+      ∷ ‵ (fat fullShare Problem-laws.mir l2 0 (setup-at a)) ∷ ‵ (fdies Problem-laws.mir l2)
       ∷ ‵ (fat fullShare (sliceTy (tyRef (named 0) imm (tyInt w32))) l1 0 (bins-at a)) ∷ ‵
       (fdies (sliceTy (tyRef (named 0) imm (tyInt w32))) l1)
       ∷ ‵ (froom Answer-laws.mir l0 0) ∷ ‵ (fdies Answer-laws.mir l0)
@@ -106,7 +106,7 @@ module _ {M : Type 1} (𝓤 : URA M) (a : Args) (ls : Blocks) where
       (fdies (sliceTy (tyRef (named 2) imm (tyFloat binary64))) l4)
       ∷ ‵ (fat fullShare (sliceTy (tyRef (named 1) imm (pointee (Lent-row .written)))) l3 0 (runs-at a)) ∷ ‵
       (fdies (sliceTy (tyRef (named 1) imm (pointee (Lent-row .written)))) l3)
-      ∷ ‵ (fat fullShare Setup-laws.mir l2 0 (setup-at a)) ∷ ‵ (fdies Setup-laws.mir l2)
+      ∷ ‵ (fat fullShare Problem-laws.mir l2 0 (setup-at a)) ∷ ‵ (fdies Problem-laws.mir l2)
       ∷ ‵ (fat fullShare (sliceTy (tyRef (named 0) imm (tyInt w32))) l1 0 (bins-at a)) ∷ ‵
       (fdies (sliceTy (tyRef (named 0) imm (tyInt w32))) l1)
       ∷ ‵ (froom Answer-laws.mir l0 0) ∷ ‵ (fdies Answer-laws.mir l0)
@@ -131,7 +131,7 @@ module _ {M : Type 1} (𝓤 : URA M) (a : Args) (ls : Blocks) where
       (fdies (sliceTy (tyRef (named 2) imm (tyFloat binary64))) l4)
       ∷ ‵ (fat fullShare (sliceTy (tyRef (named 1) imm (pointee (Lent-row .written)))) l3 0 (runs-at a)) ∷ ‵
       (fdies (sliceTy (tyRef (named 1) imm (pointee (Lent-row .written)))) l3)
-      ∷ ‵ (fat fullShare Setup-laws.mir l2 0 (setup-at a)) ∷ ‵ (fdies Setup-laws.mir l2)
+      ∷ ‵ (fat fullShare Problem-laws.mir l2 0 (setup-at a)) ∷ ‵ (fdies Problem-laws.mir l2)
       ∷ ‵ (fat fullShare (sliceTy (tyRef (named 0) imm (tyInt w32))) l1 0 (bins-at a)) ∷ ‵
       (fdies (sliceTy (tyRef (named 0) imm (tyInt w32))) l1)
       ∷ ‵ (froom Answer-laws.mir l0 0) ∷ ‵ (fdies Answer-laws.mir l0)
@@ -156,7 +156,7 @@ module _ {M : Type 1} (𝓤 : URA M) (a : Args) (ls : Blocks) where
       (fdies (sliceTy (tyRef (named 2) imm (tyFloat binary64))) l4)
       ∷ ‵ (fat fullShare (sliceTy (tyRef (named 1) imm (pointee (Lent-row .written)))) l3 0 (runs-at a)) ∷ ‵
       (fdies (sliceTy (tyRef (named 1) imm (pointee (Lent-row .written)))) l3)
-      ∷ ‵ (fat fullShare Setup-laws.mir l2 0 (setup-at a)) ∷ ‵ (fdies Setup-laws.mir l2)
+      ∷ ‵ (fat fullShare Problem-laws.mir l2 0 (setup-at a)) ∷ ‵ (fdies Problem-laws.mir l2)
       ∷ ‵ (fat fullShare (sliceTy (tyRef (named 0) imm (tyInt w32))) l1 0 (bins-at a)) ∷ ‵
       (fdies (sliceTy (tyRef (named 0) imm (tyInt w32))) l1)
       ∷ ‵ (froom Answer-laws.mir l0 0) ∷ ‵ (fdies Answer-laws.mir l0)

@@ -24,12 +24,12 @@ use Rattle.fitter.specs.Attempting.{attemptAnswerOf, attemptFrom, stands
 use Rattle.fitter.specs.Columns.{runIn}
 use Rattle.fitter.specs.declared.settling.AttemptAnswer.{AttemptAnswer}
 use Rattle.fitter.proofs.SaidFacts.{says-both}
-use Rattle.fitter.proofs.settling.Setup as Setup-type
-use Rattle.fitter.proofs.settling.Setup.Laws as Setup-laws
+use Rattle.models.proofs.problems.Problem as Problem-type
+use Rattle.models.proofs.problems.Problem.Laws as Problem-laws
 use Rattle.fitter.proofs.settling.AttemptAnswer as Answer-type
 use Rattle.fitter.proofs.settling.AttemptAnswer.Laws as Answer-laws
 use Rattle.fitter.proofs.run_table.attempt_from as scan
-use Rattle.fitter.proofs.run_table.attempt_from.Proof.Types.{Args, Setup-row, Answer-row}
+use Rattle.fitter.proofs.run_table.attempt_from.Proof.Types.{Args, Problem-row, Answer-row}
 use Rattle.fitter.proofs.RunSlices.{Lent-row, Arguments, n, m, bins-ref, runs-ref, lists-ref, table-ref}
 use Rattle.fitter.proofs.RunSlices.{bins-at, setup-at, runs-at, lists-at, table-at, OwnB, OwnR, OwnL, OwnT}
 
@@ -38,7 +38,7 @@ abbrev pub stayed : Stays (scan.ended .signature .params) (scan.ended .kept)
 stayed = (
   stay-none-slice (0 ∷ []) tt (plain (λ _. u32)) yes,
   (
-    stay-none (λ _. Setup-row) yes,
+    stay-none (λ _. Problem-row) yes,
     (
       stay-none-slice (1 ∷ []) tt (plain (λ _. Lent-row)) yes,
       (
@@ -98,7 +98,7 @@ module _ {M : Type 1} (𝓤 : URA M) (H : Heap 𝓤) (A : Atoms 𝓤) (W : Given
       nothing ! $ move ! (4 ∷ 0 ∷ []) $ join ! $ move ! (3 ∷ 0 ∷ []) $ join ! $ move ! (2 ∷ 0 ∷ []) $ join ! $
       move ! (1 ∷ 0 ∷ []) $ join ! $ frame ! $ nothing ! $ move ! (4 ∷ 0 ∷ []) $ fjoin ! $ move ! (3 ∷ 0 ∷ []) $
       fjoin ! $ move ! (2 ∷ 0 ∷ []) $ fjoin ! $
-      owned ! Setup-row (Is Setup-row) (LL.makes Setup-type.the-type Setup-laws.the-plain 𝓤 H A) setup
+      owned ! Problem-row (Is Problem-row) (LL.makes Problem-type.the-type Problem-laws.the-plain 𝓤 H A) setup
       (setup-at a ∷ []) gs $
       fjoin ! $ move ! (1 ∷ 0 ∷ []) $ fjoin ! $ frame ! $
       owned ! Answer-row (Is Answer-row) (LL.makes Answer-type.the-type Answer-laws.the-plain 𝓤 H A) r (v ∷ []) is $

@@ -18,32 +18,32 @@ use denote.Laws.{Is, valss}
 use denote.Struct.Declared.{fields}
 use denote.Struct.Laws as LL
 use Rattle.fitter.specs.declared.runs.LentRun.{LentRun}
-use Rattle.fitter.specs.declared.settling.Setup.{Setup}
+use Rattle.models.specs.declared.problems.Problem.{Problem}
 use Rattle.fitter.specs.declared.turns.Turns.{Turns}
 use Rattle.fitter.proofs.FirstField.{field-at, first-field}
 use Rattle.fitter.proofs.runs.LentRun as Lent-type
 use Rattle.fitter.proofs.runs.LentRun.Laws as Lent-laws
 use Rattle.fitter.proofs.turns.Turns as Turns-type
 use Rattle.fitter.proofs.turns.Turns.Laws as Turns-laws
-use Rattle.fitter.proofs.settling.Setup as Setup-type
-use Rattle.fitter.proofs.settling.Setup.Laws as Setup-laws
+use Rattle.models.proofs.problems.Problem as Problem-type
+use Rattle.models.proofs.problems.Problem.Laws as Problem-laws
 use Rattle.fitter.proofs.settling.AttemptAnswer as Answer-type
 use Rattle.fitter.proofs.RunSlices.{Arguments}
 
 abbrev pub Turns-row : RattleType
 Turns-row = Turns-type.the-row
 
-abbrev pub Setup-row : RattleType
-Setup-row = Setup-type.the-row
+abbrev pub Problem-row : RattleType
+Problem-row = Problem-type.the-row
 
 abbrev pub Answer-row : RattleType
 Answer-row = Answer-type.the-row
 
-abbrev pub setup-val : Setup → Val
-setup-val s = LL.val Setup-type.the-type Setup-laws.the-laws s
+abbrev pub setup-val : Problem → Val
+setup-val s = LL.val Problem-type.the-type Problem-laws.the-laws s
 
 abbrev pub Args : Type 0
-Args = Arguments Setup-row setup-val
+Args = Arguments Problem-row setup-val
 
 abbrev pub lent-at : LentRun → Val
 lent-at r = LL.val Lent-type.the-type Lent-laws.the-laws r

@@ -46,8 +46,8 @@ use Rattle.fitter.proofs.runs.LentRun as Lent-type
 use Rattle.fitter.proofs.runs.LentRun.Laws as Lent-laws
 use Rattle.fitter.proofs.turns.Turns as Turns-type
 use Rattle.fitter.proofs.turns.Turns.Laws as Turns-laws
-use Rattle.fitter.proofs.settling.Setup as Setup-type
-use Rattle.fitter.proofs.settling.Setup.Laws as Setup-laws
+use Rattle.models.proofs.problems.Problem as Problem-type
+use Rattle.models.proofs.problems.Problem.Laws as Problem-laws
 use Rattle.fitter.proofs.settling.AttemptAnswer as Answer-type
 use Rattle.fitter.proofs.settling.AttemptAnswer.Laws as Answer-laws
 use Rattle.fitter.proofs.turns.begin_turns as begin
@@ -57,7 +57,7 @@ use Rattle.fitter.proofs.turns.turn.Symbol as turn-def
 use Rattle.fitter.proofs.turns.end_turns as end
 use Rattle.fitter.proofs.turns.end_turns.Symbol as end-def
 use Rattle.fitter.proofs.run_table.attempt_from.Code.Mir as code-mir
-use Rattle.fitter.proofs.run_table.attempt_from.Proof.Types.{Args, Turns-row, Setup-row, Answer-row, turns-at}
+use Rattle.fitter.proofs.run_table.attempt_from.Proof.Types.{Args, Turns-row, Problem-row, Answer-row, turns-at}
 use Rattle.fitter.proofs.run_table.attempt_from.Proof.Types.{ref, told, next-there, next-read}
 use Rattle.fitter.proofs.RunSlices.{Lent-row, Arguments, n, m, bins-ref, lists-ref, bins-at, setup-at, lists-at}
 use Rattle.fitter.proofs.RunSlices.{table-at, OwnB, OwnL, OwnT, Lended}
@@ -142,7 +142,7 @@ module _ {M : Type 1} (𝓤 : URA M) (H : Heap 𝓤) (A : Atoms 𝓤) (W : Given
       -- the tokens, and what is handed over
       nothing ! $ move ! (7 ∷ 0 ∷ []) $ join ! $ move ! (39 ∷ 0 ∷ []) $ join ! $ move ! (37 ∷ 0 ∷ []) $ join ! $
       nothing ! $ move ! (6 ∷ 0 ∷ []) $ fjoin ! $ move ! (2 ∷ 0 ∷ []) $ fjoin ! $
-      owned ! Setup-row (Is Setup-row) (LL.makes Setup-type.the-type Setup-laws.the-plain 𝓤 H A) setup
+      owned ! Problem-row (Is Problem-row) (LL.makes Problem-type.the-type Problem-laws.the-plain 𝓤 H A) setup
       (setup-at a ∷ []) gs $
       fjoin ! $ move ! (3 ∷ 0 ∷ []) $ fjoin ! $
       owned ! Lent-row (Is Lent-row) (LL.makes Lent-type.the-type Lent-laws.the-plain 𝓤 H A) (lent-of a k)
@@ -305,7 +305,7 @@ module _ {M : Type 1} (𝓤 : URA M) (H : Heap 𝓤) (A : Atoms 𝓤) (W : Given
       split ! $ nothing ! $ move ! (33 ∷ 0 ∷ []) $ join ! $ nothing ! $
       owned ! usize (Is usize) (uint-makes 𝓤 H A W w64) (m a) (vint w64 (m a) ∷ []) (refl, gt .0) $ fjoin ! $
       owned ! usize (Is usize) (uint-makes 𝓤 H A W w64) (n a) (vint w64 (n a) ∷ []) (refl, gr .0) $ fjoin ! $
-      owned ! Setup-row (Is Setup-row) (LL.makes Setup-type.the-type Setup-laws.the-plain 𝓤 H A) setup
+      owned ! Problem-row (Is Problem-row) (LL.makes Problem-type.the-type Problem-laws.the-plain 𝓤 H A) setup
       (setup-at a ∷ []) gs $
       fjoin ! $ move ! (2 ∷ 0 ∷ []) $ fjoin ! $ move ! (1 ∷ 0 ∷ []) $
       use2 W (raw (Begin 𝓤 H A mem run .pre (to-begin 𝓤 H A W mem run a))) (goes-begin 𝓤 H A W mem run a) $
