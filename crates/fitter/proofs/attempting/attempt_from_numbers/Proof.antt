@@ -14,7 +14,7 @@ use Rattle.fitter.proofs.attempting.attempt_from_numbers.Tie as tie
 -- ---- behind the first pass
 module _ (t : tie.After-settle) where
   abbrev first : tie.After-survey-columns
-  first = t .before .before
+  first = search
 
   abbrev start : tie.Start
   start = first .before .before .before .before .before .before .before .before .before .before .before .before
@@ -43,22 +43,23 @@ module _ (t : tie.After-settle) where
   settled-so : let a = start .args in
       t .settle .result ≡ settled (a .bins .now) (a .setup) (a .lists .now) room at n
   settled-so =
+      let after-run-count : tie.After-run-count = search in
       let a = start .args in
-      settled-is (a .bins .now) (a .setup) (a .lists .now) room at n _ _ _ (first .before .before .run-count .ensures)
+      settled-is (a .bins .now) (a .setup) (a .lists .now) room at n _ _ _ (after-run-count .run-count .ensures)
       surveyed-so (t .settle .ensures .0)
 
 same-length : tie.Need-same-length
 same-length c =
-    let r = c .before .before .before .before in
-    let t = r .before .before .before .before .before in
+    let r : tie.After-retry-columns = search in
+    let t : tie.After-settle = search in
     r .retry-columns .kept .1 .1 .1 .1 .1 .1 .1 .1 .1 .1 .0 ∙ t .settle .kept .1 .1 .1 .1 .1 .0
 
 returns : tie.Need-returns
 returns c =
     let w = c .before in
-    let r = w .before .before .before in
-    let u = r .before .before in
-    let t = u .before .before .before in
+    let r : tie.After-retry-columns = search in
+    let u : tie.Then1 = search in
+    let t : tie.After-settle = search in
     let a = start t .args in
     let s = t .settle .result in
     let held : r .retry-columns .result
@@ -76,12 +77,12 @@ returns c =
     )
 
 same-length-2 : tie.Need-same-length-2
-same-length-2 c = let t = c .before .before .before .before in t .settle .kept .1 .1 .1 .1 .1 .0
+same-length-2 c = let t : tie.After-settle = search in t .settle .kept .1 .1 .1 .1 .1 .0
 
 returns-2 : tie.Need-returns-2
 returns-2 c =
     let u = c .before in
-    let t = u .before .before .before in
+    let t : tie.After-settle = search in
     let a = start t .args in (
       c .finish2 .ensures
           ∙ one-pass (a .bins .now) (a .setup) (a .lists .now) (room t) (at t) (n t) _ _ (surveyed-so t) (settled-so t)

@@ -6,7 +6,9 @@ use Rattle.fitter.proofs.fit_rules.component_mass_exceeded.Tie as tie
 
 returns : tie.Need-returns
 unfolding componentMassExceeded
-returns c = rw (c .above-or-nan .ensures, c .before .ln .ensures, c .before .before .excess .ensures)
+returns c =
+    let after-excess : tie.After-excess = search in
+    rw (c .above-or-nan .ensures, c .before .ln .ensures, after-excess .excess .ensures)
 
 pub component-mass-exceeded-spec : {M : Type 1} → statement M
 component-mass-exceeded-spec =

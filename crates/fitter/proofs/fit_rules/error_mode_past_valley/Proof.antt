@@ -10,7 +10,8 @@ use Rattle.fitter.proofs.fit_rules.error_mode_past_valley.Tie as tie
 returns : tie.Need-returns
 unfolding errorModePastValley
 returns c =
-    let a = c .before .before .args in
+    let s : tie.Start = search in
+    let a = s .args in
     c .mode-past .ensures ∙ ap (λ (mode : Reply ℕ). modePast mode (a .valley)) (c .before .error-mode .ensures)
 
 pub error-mode-past-valley-spec : {M : Type 1} → statement M

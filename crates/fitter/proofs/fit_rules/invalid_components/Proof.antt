@@ -26,34 +26,36 @@ abbrev five : SpectrumFit → Bool
 five fit = four fit || badDispersion (fit .dispersion)
 
 abbrev of-one : tie.Else1 → SpectrumFit
-of-one c = c .before .before .args .fit
+of-one c = let s : tie.Start = search in s .args .fit
 
 not-one : (c : tie.Else1) → one (of-one c) ≡ false
 not-one c = sym (c .before .bad-weight .ensures) ∙ c .if1 .left
 
 abbrev of-two : tie.Else2 → SpectrumFit
-of-two c = of-one (c .before .before)
+of-two c = let else1 : tie.Else1 = search in of-one else1
 
 not-two : (c : tie.Else2) → two (of-two c) ≡ false
-not-two c = neither (not-one (c .before .before)) (c .before .bad-weight2 .ensures) (c .if2 .left)
+not-two c = let else1 : tie.Else1 = search in neither (not-one else1) (c .before .bad-weight2 .ensures) (c .if2 .left)
 
 abbrev of-three : tie.Else3 → SpectrumFit
-of-three c = of-two (c .before .before)
+of-three c = let else2 : tie.Else2 = search in of-two else2
 
 not-three : (c : tie.Else3) → three (of-three c) ≡ false
-not-three c = neither (not-two (c .before .before)) (c .before .bad-weight3 .ensures) (c .if3 .left)
+not-three c = let else2 : tie.Else2 = search in neither (not-two else2) (c .before .bad-weight3 .ensures) (c .if3 .left)
 
 abbrev of-four : tie.Else4 → SpectrumFit
-of-four c = of-three (c .before .before)
+of-four c = let else3 : tie.Else3 = search in of-three else3
 
 not-four : (c : tie.Else4) → four (of-four c) ≡ false
-not-four c = neither (not-three (c .before .before)) (c .before .bad-mean .ensures) (c .if4 .left)
+not-four c = let else3 : tie.Else3 = search in neither (not-three else3) (c .before .bad-mean .ensures) (c .if4 .left)
 
 abbrev of-five : tie.Else5 → SpectrumFit
-of-five c = of-four (c .before .before)
+of-five c = let else4 : tie.Else4 = search in of-four else4
 
 not-five : (c : tie.Else5) → five (of-five c) ≡ false
-not-five c = neither (not-four (c .before .before)) (c .before .bad-dispersion .ensures) (c .if5 .left)
+not-five c =
+    let else4 : tie.Else4 = search in
+    neither (not-four else4) (c .before .bad-dispersion .ensures) (c .if5 .left)
 
 returns : tie.Need-returns
 unfolding invalidComponents
@@ -61,19 +63,25 @@ returns c = rw (sym (c .before .bad-weight .ensures) ∙ c .if1 .taken)
 
 returns-2 : tie.Need-returns-2
 unfolding invalidComponents
-returns-2 c = rw (not-one (c .before .before), sym (c .before .bad-weight2 .ensures) ∙ c .if2 .taken)
+returns-2 c =
+    let else1 : tie.Else1 = search in
+    rw (not-one else1, sym (c .before .bad-weight2 .ensures) ∙ c .if2 .taken)
 
 returns-3 : tie.Need-returns-3
 unfolding invalidComponents
-returns-3 c = rw (not-two (c .before .before), sym (c .before .bad-weight3 .ensures) ∙ c .if3 .taken)
+returns-3 c =
+    let else2 : tie.Else2 = search in
+    rw (not-two else2, sym (c .before .bad-weight3 .ensures) ∙ c .if3 .taken)
 
 returns-4 : tie.Need-returns-4
 unfolding invalidComponents
-returns-4 c = rw (not-three (c .before .before), sym (c .before .bad-mean .ensures) ∙ c .if4 .taken)
+returns-4 c = let else3 : tie.Else3 = search in rw (not-three else3, sym (c .before .bad-mean .ensures) ∙ c .if4 .taken)
 
 returns-5 : tie.Need-returns-5
 unfolding invalidComponents
-returns-5 c = rw (not-four (c .before .before), sym (c .before .bad-dispersion .ensures) ∙ c .if5 .taken)
+returns-5 c =
+    let else4 : tie.Else4 = search in
+    rw (not-four else4, sym (c .before .bad-dispersion .ensures) ∙ c .if5 .taken)
 
 returns-6 : tie.Need-returns-6
 unfolding invalidComponents

@@ -19,16 +19,16 @@ abbrev two : SpectrumFit → Bool
 two fit = one fit || badMass (getD (fit .«component_log_window_masses») 1 nan)
 
 abbrev of-one : tie.Else1 → SpectrumFit
-of-one c = c .before .before .before .args .fit
+of-one c = let s : tie.Start = search in s .args .fit
 
 not-one : (c : tie.Else1) → one (of-one c) ≡ false
 not-one c = sym (c .before .bad-mass .ensures) ∙ c .if1 .left
 
 abbrev of-two : tie.Else2 → SpectrumFit
-of-two c = of-one (c .before .before)
+of-two c = let else1 : tie.Else1 = search in of-one else1
 
 not-two : (c : tie.Else2) → two (of-two c) ≡ false
-not-two c = neither (not-one (c .before .before)) (c .before .bad-mass2 .ensures) (c .if2 .left)
+not-two c = let else1 : tie.Else1 = search in neither (not-one else1) (c .before .bad-mass2 .ensures) (c .if2 .left)
 
 returns : tie.Need-returns
 unfolding invalidWindowMass
@@ -36,7 +36,7 @@ returns c = rw (sym (c .before .bad-mass .ensures) ∙ c .if1 .taken)
 
 returns-2 : tie.Need-returns-2
 unfolding invalidWindowMass
-returns-2 c = rw (not-one (c .before .before), sym (c .before .bad-mass2 .ensures) ∙ c .if2 .taken)
+returns-2 c = let else1 : tie.Else1 = search in rw (not-one else1, sym (c .before .bad-mass2 .ensures) ∙ c .if2 .taken)
 
 returns-3 : tie.Need-returns-3
 unfolding invalidWindowMass

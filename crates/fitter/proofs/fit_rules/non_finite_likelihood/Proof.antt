@@ -16,11 +16,13 @@ one fit = not (finite (fit .«log_likelihood»))
 abbrev two : SpectrumFit → Bool
 two fit = one fit || not (finite (fit .bic))
 
-not-one : (c : tie.Else1) → one (c .before .before .args .fit) ≡ false
+not-one : (c : tie.Else1) → let s : tie.Start = search in one (s .args .fit) ≡ false
 not-one c = ap not (sym (c .before .is-finite .ensures)) ∙ c .if1 .left
 
-not-two : (c : tie.Else2) → two (c .before .before .before .before .args .fit) ≡ false
-not-two c = neither (not-one (c .before .before)) (ap not (c .before .is-finite2 .ensures)) (c .if2 .left)
+not-two : (c : tie.Else2) → let s : tie.Start = search in two (s .args .fit) ≡ false
+not-two c =
+    let else1 : tie.Else1 = search in
+    neither (not-one else1) (ap not (c .before .is-finite2 .ensures)) (c .if2 .left)
 
 returns : tie.Need-returns
 unfolding nonFiniteLikelihood
@@ -28,7 +30,9 @@ returns c = rw (ap not (sym (c .before .is-finite .ensures)) ∙ c .if1 .taken)
 
 returns-2 : tie.Need-returns-2
 unfolding nonFiniteLikelihood
-returns-2 c = rw (not-one (c .before .before), ap not (sym (c .before .is-finite2 .ensures)) ∙ c .if2 .taken)
+returns-2 c =
+    let else1 : tie.Else1 = search in
+    rw (not-one else1, ap not (sym (c .before .is-finite2 .ensures)) ∙ c .if2 .taken)
 
 returns-3 : tie.Need-returns-3
 unfolding nonFiniteLikelihood

@@ -7,7 +7,7 @@ use Rattle.fitter.proofs.fit_rules.primary_mode_outside_band.Tie as tie
 returns : tie.Need-returns
 unfolding primaryModeOutsideBand
 returns c =
-    let made = c .before .before in
+    let made : tie.After-from-u64 = search in
     let mode = made .before .primary-mode in
     rw (c .outside-band .ensures, c .before .from-u642 .ensures, made .from-u64 .ensures, mode .ensures)
 

@@ -7,10 +7,11 @@ use Rattle.fitter.proofs.judging.judge_run.Tie as tie
 
 returns : tie.Need-returns
 returns c =
+    let s : tie.Start = search in
     let judged = c .before in
-    let unpacked = judged .before .before .before .before in
-    let listed = unpacked .before .before in
-    let a = listed .before .before .before .before .args in
+    let unpacked : tie.After-unpack = search in
+    let listed : tie.After-list-at = search in
+    let a = s .args in
     let u = a .setup in (
       judged-is (a .bins .now) u (a .lists .now) _ (a .run) _ _ (judged .judge .result) _ (listed .list-at .ensures)
           (unpacked .unpack .ensures .0) (judged .judge .ensures) (c .rejection-of-verdict .ensures),

@@ -18,11 +18,11 @@ enum-told : tie.Need-enum-told
 enum-told c = c .match .keys2
 
 abbrev start : tie.After-run-point → tie.Start
-start p = p .before .before .before .before
+start p = search
 
 returns : tie.Need-returns
 returns c =
-    let p = c .before .before in
+    let p : tie.After-run-point = search in
     let a = start p .args in (
       passed-by (a .bins .now) (a .setup) (a .lists .now) _ (a .position) (a .run) (a .held)
           (sym (c .enum-told .given .1) ∙ p .run-point .ensures),
@@ -32,9 +32,9 @@ returns c =
 returns-2 : tie.Need-returns-2
 returns-2 c =
     let w = c .before in
-    let k = w .before .before in
+    let k : tie.After-point = search in
     let g = k .point .given in
-    let p = k .before .before in
+    let p : tie.After-run-point = search in
     let a = start p .args in (
       looked-at (a .bins .now) (a .setup) (a .lists .now) _ (a .position) (a .run) (a .held) (g .0 .0) (g .0 .1 .0)
           false _ (sym (g .1) ∙ p .run-point .ensures) (sym (w .could-win .ensures) ∙ from-not (c .if1 .taken)) refl,
@@ -42,21 +42,21 @@ returns-2 c =
     )
 
 same-length : tie.Need-same-length
-same-length c = let j = c .before .before .before .before in j .judge-run .kept .1 .1 .1 .1 .0
+same-length c = let j : tie.After-judge-run = search in j .judge-run .kept .1 .1 .1 .1 .0
 
 -- ---- what the tests behind the run's judgement say
 module _ (u : tie.After-is-unrejected) where
   abbrev judged : tie.After-judge-run
-  judged = u .before .before .before
+  judged = search
 
   abbrev win : tie.After-could-win
-  win = judged .before .before .before
+  win = search
 
   abbrev point : tie.After-point
-  point = win .before .before
+  point = search
 
   abbrev from : tie.Start
-  from = start (point .before .before)
+  from = search
 
   verdict : (b : Bool) → u .is-unrejected .result ≡ b
       → unrejected (judgedFitOf (from .args .bins .now) (from .args .setup) (from .args .lists .now)
@@ -67,30 +67,32 @@ module _ (u : tie.After-is-unrejected) where
 
 returns-3 : tie.Need-returns-3
 returns-3 c =
+    let else1 : tie.Else1 = search in
     let u = c .before in
     let g = point u .point .given in
-    let p = point u .before .before in
+    let p : tie.After-run-point = search in
     let a = from u .args in (
       looked-at (a .bins .now) (a .setup) (a .lists .now) _ (a .position) (a .run) (a .held) (g .0 .0) (g .0 .1 .0)
           true false (sym (g .1) ∙ p .run-point .ensures)
-          (sym (win u .could-win .ensures) ∙ from-not-not (judged u .before .before .if1 .left))
+          (sym (win u .could-win .ensures) ∙ from-not-not (else1 .if1 .left))
           (verdict u false (from-not (c .if2 .taken))),
       judged u .judge-run .ensures .1,
     )
 
 same-length-2 : tie.Need-same-length-2
-same-length-2 c = let j = c .before .before .before .before in j .judge-run .kept .1 .1 .1 .1 .0
+same-length-2 c = let j : tie.After-judge-run = search in j .judge-run .kept .1 .1 .1 .1 .0
 
 returns-4 : tie.Need-returns-4
 returns-4 c =
+    let else1 : tie.Else1 = search in
     let u = c .before in
     let g = point u .point .given in
-    let p = point u .before .before in
+    let p : tie.After-run-point = search in
     let a = from u .args in (
       ap (λ (j : JudgedFit). record { best = bestOf (a .position) (a .run); judged = j }) (judged u .judge-run .ensures .0)
           ∙ looked-at (a .bins .now) (a .setup) (a .lists .now) _ (a .position) (a .run) (a .held) (g .0 .0) (g .0 .1 .0)
           true true (sym (g .1) ∙ p .run-point .ensures)
-          (sym (win u .could-win .ensures) ∙ from-not-not (judged u .before .before .if1 .left))
+          (sym (win u .could-win .ensures) ∙ from-not-not (else1 .if1 .left))
           (verdict u true (from-not-not (c .if2 .left))),
       judged u .judge-run .ensures .1,
     )

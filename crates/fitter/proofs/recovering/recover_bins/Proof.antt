@@ -13,17 +13,19 @@ use Rattle.fitter.proofs.recovering.recover_bins.Tie as tie
 
 returns : tie.Need-returns
 returns c =
-    let a = c .before .before .before .args in
+    let s : tie.Start = search in
+    let a = s .args in
     rw (too-few (a .bins .now) (a .scale) (length (a .out .now)) (c .if1 .taken)) (refl, refl)
 
 returns-2 : tie.Need-returns-2
 returns-2 c =
-    let a = c .before .before .before .before .args in
+    let s : tie.Start = search in
+    let a = s .args in
     rw (too-many (a .bins .now) (a .scale) (length (a .out .now)) (c .before .if1 .left) (c .if2 .taken)) (refl, refl)
 
 -- where neither 1 nor 2 came
 abbrev start : tie.Else2 → tie.Start
-start c = c .before .before .before .before
+start c = search
 
 returns-3 : tie.Need-returns-3
 returns-3 c =
@@ -33,13 +35,13 @@ returns-3 c =
     (refl, refl)
 
 write-bins-requires : tie.Need-write-bins-requires
-write-bins-requires c κs = c .before .before .if3 .left
+write-bins-requires c κs = let else3 : tie.Else3 = search in else3 .if3 .left
 
 returns-4 : tie.Need-returns-4
 returns-4 c =
-    let w = c .before .before in
-    let u = w .before .before in
-    let e = u .before .before in
+    let w : tie.After-write-bins = search in
+    let u : tie.After-used-scale = search in
+    let e : tie.Else2 = search in
     let a = start e .args in
     rw
     (recovers (a .bins .now) (a .scale) (length (a .out .now)) (e .before .if1 .left) (e .if2 .left) (u .before .if3 .left)) (

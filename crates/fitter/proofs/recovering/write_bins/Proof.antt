@@ -22,7 +22,7 @@ abbrev μ-loop : tie.MeasureT-loop
 
 loop-holds : tie.Need-loop-holds Inv-loop μ-loop
 loop-holds c =
-    let s = c .before .before in
+    let s : tie.Start Inv-loop μ-loop = search in
     (zero-le, refl, s .pre, none-written (s .args .used) (s .args .bins .now) (s .args .out .now))
 
 shared-slice-read-rounded-quotient : tie.Need-shared-slice-read-rounded-quotient Inv-loop μ-loop
@@ -39,8 +39,9 @@ loop-less c = omega arith
 
 loop-again : tie.Need-loop-again Inv-loop μ-loop
 loop-again c =
-    let at = c .before .before .before in
-    let a = at .before .before .before .args in
+    let s : tie.Start Inv-loop μ-loop = search in
+    let at : tie.At-loop Inv-loop μ-loop = search in
+    let a = s .args in
     let i = at .loop .i in
     let inv = at .loop .inv in (
       omega arith,
@@ -56,8 +57,9 @@ same-length c = c .before .loop .inv .1
 
 returns : tie.Need-returns Inv-loop μ-loop
 returns c =
+    let s : tie.Start Inv-loop μ-loop = search in
     let at = c .before in
-    let a = at .before .before .before .args in
+    let a = s .args in
     let e : at .loop .i ≡ length (a .bins .now) = omega arith in
     at .loop .inv .3
     ∙ ap (λ (j : ℕ). over (recovered (a .used) (take j (a .bins .now))) (a .out .now)) e

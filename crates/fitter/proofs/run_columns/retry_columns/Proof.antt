@@ -34,7 +34,7 @@ run-at-requires c κs =
 
 module _ (r : tie.After-retry-run Inv-loop μ-loop) where
   abbrev turn : tie.In-loop Inv-loop μ-loop
-  turn = r .before .before .before
+  turn = search
 
   abbrev loop : tie.At-loop Inv-loop μ-loop
   loop = turn .before
@@ -54,27 +54,29 @@ module _ (r : tie.After-retry-run Inv-loop μ-loop) where
       ≡ retryStep (a .bins .now) (a .setup) (a .lists .now) (length (a .table .now)) (loop .loop .i) ran
       (loop .loop .kept)
   next =
+      let after-run-at : tie.After-run-at Inv-loop μ-loop = search in
       let a = start .args in
       r .retry-run .ensures .0
       ∙ ap (λ (m : ℕ).
-      retryStep (a .bins .now) (a .setup) (a .lists .now) m (loop .loop .i) (r .before .before .run-at .result)
+      retryStep (a .bins .now) (a .setup) (a .lists .now) m (loop .loop .i) (after-run-at .run-at .result)
       (loop .loop .kept))
       (loop .loop .inv .1)
       ∙ ap (λ (x : Run).
       retryStep (a .bins .now) (a .setup) (a .lists .now) (length (a .table .now)) (loop .loop .i) x (loop .loop .kept))
-      (r .before .before .run-at .ensures)
+      (after-run-at .run-at .ensures)
 
 add-i : tie.Need-add-i Inv-loop μ-loop
 add-i c =
-    let t = turn (c .before .before) in
-    omega (arith, t .loop-test .taken, t .before .before .run-count .ok)
+    let after-run-count : tie.After-run-count Inv-loop μ-loop = search in
+    let t : tie.In-loop Inv-loop μ-loop = search in
+    omega (arith, t .loop-test .taken, after-run-count .run-count .ok)
 
 loop-less : tie.Need-loop-less Inv-loop μ-loop
-loop-less c = let t = turn (c .before .before) in omega (arith, t .loop-test .taken)
+loop-less c = let t : tie.In-loop Inv-loop μ-loop = search in omega (arith, t .loop-test .taken)
 
 loop-again : tie.Need-loop-again Inv-loop μ-loop
 loop-again c =
-    let r = c .before .before in
+    let r : tie.After-retry-run Inv-loop μ-loop = search in
     let i = loop r .loop .inv in (
       goes-on _ _ _ _ (i .0) _ (turn r .loop-test .taken) (next r),
       r .retry-run .kept .1 .1 .1 .1 .1 .1 .0 ∙ i .1,
@@ -87,8 +89,9 @@ same-length c = c .before .loop .inv .1
 returns : tie.Need-returns Inv-loop μ-loop
 unfolding retriedOf
 returns c =
+    let s : tie.Start Inv-loop μ-loop = search in
     let l = c .before in
-    let a = l .before .before .before .before .before .before .before .before .before .before .before .args in
+    let a = s .args in
     let at =
     runOf (a .converged .now) (a .costs .now) (a .places .now) (a .lengths .now) (a .iterations .now) (a .caps .now) in (
       ends _ _ _ _ (l .loop .inv .0) (c .loop-test .left)

@@ -30,41 +30,51 @@ mul-t11 c =
     search needs
 
 shared-slice-read-t13 : tie.Need-shared-slice-read-t13
-shared-slice-read-t13 c = all (c .before .before) .second
+shared-slice-read-t13 c =
+    let after-shared-slice-known7 : tie.After-shared-slice-known7 = search in
+    all after-shared-slice-known7 .second
 
 mul-t14 : tie.Need-mul-t14
 mul-t14 c =
-    let k = c .before .before in
+    let k : tie.After-shared-slice-known7 = search in
     let h : start k .args .i < length (start k .args .places .now) = all k .third in
     search needs
 
 shared-slice-read-t16 : tie.Need-shared-slice-read-t16
-shared-slice-read-t16 c = all (c .before .before .before) .third
+shared-slice-read-t16 c =
+    let after-shared-slice-known7 : tie.After-shared-slice-known7 = search in
+    all after-shared-slice-known7 .third
 
 mul-t17 : tie.Need-mul-t17
 mul-t17 c =
-    let k = c .before .before .before in
+    let k : tie.After-shared-slice-known7 = search in
     let h : start k .args .i < length (start k .args .lengths .now) = all k .fourth in
     search needs
 
 shared-slice-read-t19 : tie.Need-shared-slice-read-t19
-shared-slice-read-t19 c = all (c .before .before .before .before) .fourth
+shared-slice-read-t19 c =
+    let after-shared-slice-known7 : tie.After-shared-slice-known7 = search in
+    all after-shared-slice-known7 .fourth
 
 mul-t20 : tie.Need-mul-t20
 mul-t20 c =
-    let k = c .before .before .before .before in
+    let k : tie.After-shared-slice-known7 = search in
     let h : start k .args .i < length (start k .args .iterations .now) = all k .fifth in
     search needs
 
 shared-slice-read-t22 : tie.Need-shared-slice-read-t22
-shared-slice-read-t22 c = all (c .before .before .before .before .before) .fifth
+shared-slice-read-t22 c =
+    let after-shared-slice-known7 : tie.After-shared-slice-known7 = search in
+    all after-shared-slice-known7 .fifth
 
 shared-slice-read-is-set-2 : tie.Need-shared-slice-read-is-set-2
-shared-slice-read-is-set-2 c = all (c .before .before .before .before .before .before) .sixth
+shared-slice-read-is-set-2 c =
+    let after-shared-slice-known7 : tie.After-shared-slice-known7 = search in
+    all after-shared-slice-known7 .sixth
 
 returns : tie.Need-returns
 unfolding runOf
-returns c = rw (c .is-set2 .ensures, c .before .before .before .before .before .before .is-set .ensures)
+returns c = let after-is-set : tie.After-is-set = search in rw (c .is-set2 .ensures, after-is-set .is-set .ensures)
 
 pub run-at-spec : {M : Type 1} → statement M
 run-at-spec =

@@ -29,8 +29,9 @@ loop-holds c = begins _ _ _ _ _ zero-le (c .no-survey .ensures)
 
 run-at-requires : tie.Need-run-at-requires Inv-loop μ-loop
 run-at-requires c κs =
+    let after-run-count : tie.After-run-count Inv-loop μ-loop = search in
     let l = c .before in
-    subst (λ (m : ℕ). l .loop .i < m) (l .before .before .run-count .ensures) (c .loop-test .taken)
+    subst (λ (m : ℕ). l .loop .i < m) (after-run-count .run-count .ensures) (c .loop-test .taken)
 
 enum-known-point : tie.Need-enum-known-point Inv-loop μ-loop
 enum-known-point c = c .match .keys1
@@ -41,13 +42,13 @@ enum-told c = c .match .keys2
 -- ---- one turn, from the run's answer on
 module _ (p : tie.After-run-point Inv-loop μ-loop) where
   abbrev turn : tie.In-loop Inv-loop μ-loop
-  turn = p .before .before .before
+  turn = search
 
   abbrev loop : tie.At-loop Inv-loop μ-loop
   loop = turn .before
 
   abbrev start : tie.Start Inv-loop μ-loop
-  start = loop .before .before .before .before .before .before .before .before .before
+  start = search
 
   abbrev ran : Run
   ran =
@@ -56,7 +57,7 @@ module _ (p : tie.After-run-point Inv-loop μ-loop) where
       (loop .loop .i)
 
   run-is : p .before .before .run-at .result ≡ ran
-  run-is = p .before .before .run-at .ensures
+  run-is = let after-run-at : tie.After-run-at Inv-loop μ-loop = search in after-run-at .run-at .ensures
 
   counted : p .before .count-run .result ≡ countOf ran (loop .loop .s)
   counted = p .before .count-run .ensures ∙ ap (λ (r : Run). countOf r (loop .loop .s)) run-is
@@ -70,31 +71,33 @@ module _ (p : tie.After-run-point Inv-loop μ-loop) where
 
 add-i : tie.Need-add-i Inv-loop μ-loop
 add-i c =
-    let t = turn (c .before .before) in
-    omega (arith, t .loop-test .taken, t .before .before .before .run-count .ok)
+    let after-run-count : tie.After-run-count Inv-loop μ-loop = search in
+    let t : tie.In-loop Inv-loop μ-loop = search in
+    omega (arith, t .loop-test .taken, after-run-count .run-count .ok)
 
 loop-less : tie.Need-loop-less Inv-loop μ-loop
-loop-less c = let t = turn (c .before .before) in omega (arith, t .loop-test .taken)
+loop-less c = let t : tie.In-loop Inv-loop μ-loop = search in omega (arith, t .loop-test .taken)
 
 loop-again : tie.Need-loop-again Inv-loop μ-loop
 loop-again c =
-    let p = c .before .before in
+    let p : tie.After-run-point Inv-loop μ-loop = search in
     goes-on _ _ _ _ (loop p .loop .inv) _ (turn p .loop-test .taken)
     (counted p ∙ point-is p RunPoint.Missing (c .enum-told .given .1))
 
 add-i-2 : tie.Need-add-i-2 Inv-loop μ-loop
 add-i-2 c =
-    let t = turn (c .before .before .before .before) in
-    omega (arith, t .loop-test .taken, t .before .before .before .run-count .ok)
+    let after-run-count : tie.After-run-count Inv-loop μ-loop = search in
+    let t : tie.In-loop Inv-loop μ-loop = search in
+    omega (arith, t .loop-test .taken, after-run-count .run-count .ok)
 
 loop-less-2 : tie.Need-loop-less-2 Inv-loop μ-loop
-loop-less-2 c = let t = turn (c .before .before .before .before) in omega (arith, t .loop-test .taken)
+loop-less-2 c = let t : tie.In-loop Inv-loop μ-loop = search in omega (arith, t .loop-test .taken)
 
 loop-again-2 : tie.Need-loop-again-2 Inv-loop μ-loop
 loop-again-2 c =
-    let k = c .before .before in
+    let k : tie.After-point Inv-loop μ-loop = search in
     let g = k .point .given in
-    let p = k .before .before in
+    let p : tie.After-run-point Inv-loop μ-loop = search in
     let a = start p .args in
     let i = loop p .loop .i in
     goes-on _ _ _ _ (loop p .loop .inv) _ (turn p .loop-test .taken)
@@ -107,9 +110,11 @@ loop-again-2 c =
 returns : tie.Need-returns Inv-loop μ-loop
 unfolding surveyOf
 returns c =
+    let after-run-count : tie.After-run-count Inv-loop μ-loop = search in
+    let s : tie.Start Inv-loop μ-loop = search in
     let l = c .before in
-    let n = l .before .before .run-count in
-    let a = l .before .before .before .before .before .before .before .before .before .args in
+    let n = after-run-count .run-count in
+    let a = s .args in
     ends _ _ _ _ (l .loop .inv) (c .loop-test .left)
     ∙ ap
     (surveyOf (a .lent) (a .wanted)

@@ -26,10 +26,10 @@ returns : tie.Need-returns
 returns c = none _ _ _ (omega (arith, c .before .if1 .taken))
 
 returns-2 : tie.Need-returns-2
-returns-2 c = none _ _ _ (omega (arith, c .before .before .if1 .left, c .before .if2 .taken))
+returns-2 c = let else1 : tie.Else1 = search in none _ _ _ (omega (arith, else1 .if1 .left, c .before .if2 .taken))
 
 returns-3 : tie.Need-returns-3
-returns-3 c = part _ _ _ (omega (arith, c .before .before .if1 .left, c .before .if2 .left))
+returns-3 c = let else1 : tie.Else1 = search in part _ _ _ (omega (arith, else1 .if1 .left, c .before .if2 .left))
 
 pub list-at-spec : {M : Type 1} → statement M
 list-at-spec =

@@ -12,7 +12,9 @@ tolerance-is = refl
 
 returns : tie.Need-returns
 unfolding replacesOf
-returns c = rw (tolerance-is, c .max .ensures, c .before .abs2 .ensures, c .before .before .abs .ensures)
+returns c =
+    let after-abs : tie.After-abs = search in
+    rw (tolerance-is, c .max .ensures, c .before .abs2 .ensures, after-abs .abs .ensures)
 
 pub replaces-spec : {M : Type 1} → statement M
 replaces-spec = tie.close (tie.spec (λ c κs. search needs) (λ c κs. search needs) (λ c κs. search needs) returns)

@@ -36,10 +36,10 @@ four-steps l d none one two three four h p q r s t =
 
 returns : tie.Need-returns
 returns c =
-    let third = c .before .before in
-    let second = third .before .before in
-    let first = second .before .before in
-    let begun = first .before .before in
+    let third : tie.After-replace3 = search in
+    let second : tie.After-replace2 = search in
+    let first : tie.After-replace = search in
+    let begun : tie.After-none-yet = search in
     four-steps _ _ _ _ _ _ _ (begun .before .good .0 .1 .0 .1) (begun .none-yet .ensures) (first .replace .ensures)
     (second .replace2 .ensures) (third .replace3 .ensures) (c .replace4 .ensures)
 

@@ -25,7 +25,7 @@ module _ (best : Selected) (next : FitAttempt) where
 
 returns : tie.Need-returns
 returns c =
-    let valid = c .before .before in
+    let valid : tie.Then1 = search in
     c .replaces .ensures
     ∙ by-bic _ _ (sym (valid .before .is-valid .ensures) ∙ valid .if1 .taken) (c .before .if2 .taken)
 

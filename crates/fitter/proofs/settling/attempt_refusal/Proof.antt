@@ -57,12 +57,12 @@ module _ (s : tie.Start) where
 
 -- ---- 1
 abbrev start-low : tie.Else3 → tie.Start
-start-low c = c .before .before .before .before
+start-low c = search
 
 returns : tie.Need-returns
 unfolding setupTests
 returns c =
-    let s = c .before .before in
+    let s : tie.Start = search in
     let which : Some (λ (n : ℕ). n < 2) (lows s) =
     ⊎-elim (λ t. inl (t .taken))
     (⊎-elim (λ t. inr (inl (ltb-true _ _ (t .1 .taken)))) (λ t. inr (inr (inl (ltb-true _ _ (t .2 .taken))))))
@@ -73,9 +73,10 @@ returns c =
 past-low : (c : tie.Else3) → Number (start-low c) (aboveMost (highs (start-low c)) ∷ after-high (start-low c))
 unfolding setupTests
 past-low c =
+    let else1 : tie.Else1 = search in
     let s = start-low c in
     let none = below-two-clear (lows s)
-    (c .before .before .if1 .left, (ltb-false _ _ (c .before .if2 .left), (ltb-false _ _ (c .if3 .left), tt))) in
+    (else1 .if1 .left, (ltb-false _ _ (c .before .if2 .left), (ltb-false _ _ (c .if3 .left), tt))) in
     goes-on (belowTwo (lows s)) (inOrder (aboveMost (highs s) ∷ after-high s)) refl none
 
 -- ---- 2
@@ -93,7 +94,7 @@ returns-2 c =
     (stops (aboveMost (highs s)) (inOrder (after-high s)) 2 (above-most-found (highs s) which) (omega arith))
 
 abbrev low : tie.Else8 → tie.Else3
-low c = c .before .before .before .before .before
+low c = search
 
 past-high : (c : tie.Else8) → Number (start-low (low c)) (after-high (start-low (low c)))
 past-high c n h =
@@ -118,55 +119,61 @@ past-high c n h =
 spectrum-says : (c : tie.After-spectrum-refusal)
     → c .spectrum-refusal .result ≡ firstOf (spectrum (start-low (low (c .before))))
 spectrum-says c =
-    let e7 = c .before .before in
-    let e4 = e7 .before .before .before in
+    let e7 : tie.Else7 = search in
+    let e4 : tie.Else4 = search in
     let a = start-low (low (c .before)) .args in
     spectrum-number (a .bins .now) (a .setup .scale) (a .setup .«window_end»)
     (ltb-false _ _ (low (c .before) .if3 .left)) (e4 .if4 .left) (ltb-false _ _ (e7 .if7 .left)) _
     (c .spectrum-refusal .ensures)
 
 abbrev start-spectrum : tie.Else9 → tie.Start
-start-spectrum c = start-low (low (c .before .before))
+start-spectrum c = search
 
 returns-3 : tie.Need-returns-3
 returns-3 c =
-    let s = start-low (low (c .before .before)) in
+    let else8 : tie.Else8 = search in
+    let s : tie.Start = search in
     let first = spectrum-says (c .before) in
-    past-high (c .before .before) _
+    past-high else8 _
     (stops (spectrum s) (inOrder (after-spectrum s)) _ first (omega (arith, c .if9 .taken)))
 
 past-spectrum : (c : tie.Else9) → Number (start-spectrum c) (after-spectrum (start-spectrum c))
 past-spectrum c n h =
+    let else8 : tie.Else8 = search in
     let s = start-spectrum c in
     let none = sym (c .if9 .left) ∙ spectrum-says (c .before) in
-    past-high (c .before .before) n
+    past-high else8 n
     (goes-on (spectrum s) (inOrder (after-spectrum s)) (unfold spectrumTests in refl) none n h)
 
 -- ---- 7, and 9 of a run
 returns-4 : tie.Need-returns-4
 returns-4 c =
-    let s = start-spectrum (c .before .before) in
-    past-spectrum (c .before .before) _
+    let else9 : tie.Else9 = search in
+    let s : tie.Start = search in
+    past-spectrum else9 _
     (stops (runs s) (inOrder (after-bad s)) _ (c .before .first-number .ensures) (omega (arith, c .if10 .taken)))
 
 past-runs : (c : tie.Else10)
-    → Number (start-spectrum (c .before .before)) (after-bad (start-spectrum (c .before .before)))
+    → let s : tie.Start = search in Number s (after-bad s)
 past-runs c n h =
-    let s = start-spectrum (c .before .before) in
+    let else9 : tie.Else9 = search in
+    let s : tie.Start = search in
     let none = sym (c .if10 .left) ∙ c .before .first-number .ensures in
-    past-spectrum (c .before .before) n (goes-on (runs s) (inOrder (after-bad s)) refl none n h)
+    past-spectrum else9 n (goes-on (runs s) (inOrder (after-bad s)) refl none n h)
 
 -- ---- 9 of the limit
 returns-5 : tie.Need-returns-5
-returns-5 c = past-runs (c .before .before) 9 (rw (sym (c .before .bad-limit .ensures) ∙ c .if11 .taken))
+returns-5 c =
+    let else10 : tie.Else10 = search in
+    past-runs else10 9 (rw (sym (c .before .bad-limit .ensures) ∙ c .if11 .taken))
 
 -- ---- 10
 -- behind 2 and 5 it says the number of this
-table-says : (c : tie.After-table-refusal) → let a = start-spectrum (c .before .before .before .before .before) .args in
+table-says : (c : tie.After-table-refusal) → let s : tie.Start = search in let a = s .args in
     c .table-refusal .result ≡ firstOf (shortTable (a .setup .genome) (a .setup .«window_end») (a .room))
 table-says c =
-    let e9 = c .before .before .before .before .before in
-    let e7 = e9 .before .before .before in
+    let e9 : tie.Else9 = search in
+    let e7 : tie.Else7 = search in
     let a = start-spectrum e9 .args in
     let u = a .setup in
     let inside = spectrum-passed (a .bins .now) (u .scale) (u .«window_end»)
@@ -176,8 +183,9 @@ table-says c =
 
 returns-6 : tie.Need-returns-6
 returns-6 c =
+    let else10 : tie.Else10 = search in
     let e = c .before in
-    past-runs (e .before .before) _ (rw (sym (e .before .bad-limit .ensures) ∙ e .if11 .left) (table-says c))
+    past-runs else10 _ (rw (sym (e .before .bad-limit .ensures) ∙ e .if11 .left) (table-says c))
 
 pub attempt-refusal-spec : {M : Type 1} → statement M
 attempt-refusal-spec =

@@ -7,7 +7,7 @@ use Rattle.fitter.proofs.settling.settle.Statement.{statement}
 use Rattle.fitter.proofs.settling.settle.Tie as tie
 
 abbrev start : tie.After-attempt-refusal → tie.Start
-start r = r .before .before .before .before
+start r = search
 
 returns : tie.Need-returns
 returns c =
@@ -23,7 +23,7 @@ returns c =
 returns-2 : tie.Need-returns-2
 returns-2 c =
     let t = c .before in
-    let e = t .before .before .before .before in
+    let e : tie.Else1 = search in
     let r = e .before in
     let a = start r .args in (
       rw (c .no-held2 .ensures)
@@ -33,13 +33,13 @@ returns-2 c =
     )
 
 same-length : tie.Need-same-length
-same-length c = let j = c .before .before .before in j .judge-run .kept .1 .1 .1 .1 .0
+same-length c = let j : tie.After-judge-run = search in j .judge-run .kept .1 .1 .1 .1 .0
 
 returns-3 : tie.Need-returns-3
 returns-3 c =
-    let j = c .before .before .before in
-    let t = j .before .before in
-    let e = t .before .before .before .before in
+    let j : tie.After-judge-run = search in
+    let t : tie.Else2 = search in
+    let e : tie.Else1 = search in
     let r = e .before in
     let a = start r .args in (
       rw (c .is-unrejected .ensures, j .judge-run .ensures .0)

@@ -40,8 +40,9 @@ loop-less c = omega arith
 
 loop-again : tie.Need-loop-again Inv-loop μ-loop
 loop-again c =
-    let at = c .before .before .before .before in
-    let a = at .before .before .before .args in
+    let s : tie.Start Inv-loop μ-loop = search in
+    let at : tie.At-loop Inv-loop μ-loop = search in
+    let a = s .args in
     goes-on _ _ _ _ (at .loop .inv) _ (omega arith)
     (ap (λ (n : ℕ). at .loop .total ⊕ ofCount n)
     (c .before .rounded-quotient .ensures ∙ recovered-at (a .used) (a .bins .now) (at .loop .i) (omega arith)))
@@ -49,12 +50,14 @@ loop-again c =
 returns : tie.Need-returns Inv-loop μ-loop
 unfolding massOf
 returns c =
+    let after-reach : tie.After-reach Inv-loop μ-loop = search in
+    let s : tie.Start Inv-loop μ-loop = search in
     let at = c .before in
-    let a = at .before .before .before .args in
+    let a = s .args in
     let step = massStep (recovered (a .used) (a .bins .now)) in
-    let end = at .before .reach .ensures ∙ ap (min (a .to)) (sym (recovered-length (a .used) (a .bins .now))) in
+    let end = after-reach .reach .ensures ∙ ap (min (a .to)) (sym (recovered-length (a .used) (a .bins .now))) in
     ends _ _ _ _ (at .loop .inv) (omega arith)
-    ∙ fold-reach step (a .from - 1) (at .before .reach .result) (neg zero)
+    ∙ fold-reach step (a .from - 1) (after-reach .reach .result) (neg zero)
     ∙ ap (λ (n : ℕ). fold step (a .from - 1) n (neg zero)) end
 
 pub mass-spec : {M : Type 1} → statement M

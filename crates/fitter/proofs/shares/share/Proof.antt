@@ -17,11 +17,11 @@ returns : tie.Need-returns
 returns c = empty-lobe _ _ _ _ (c .before .mass .ensures) _ (unfold ofBits round in refl) (c .if1 .taken)
 
 mass-requires-2 : tie.Need-mass-requires-2
-mass-requires-2 c κs = c .before .before .before .pre .0
+mass-requires-2 c κs = let s : tie.Start = search in s .pre .0
 
 returns-2 : tie.Need-returns-2
 returns-2 c =
-    let some = c .before .before in
+    let some : tie.Else1 = search in
     c .clamp .ensures
     ∙ full-lobe _ _ _ _ (some .before .mass .ensures) _ _ _ (c .before .mass2 .ensures)
     (unfold ofBits round in refl) (unfold ofBits round in refl) (some .if1 .left)

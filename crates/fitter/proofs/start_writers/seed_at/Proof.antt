@@ -11,7 +11,8 @@ use Rattle.fitter.proofs.start_writers.seed_at.Tie as tie
 
 returns : tie.Need-returns
 returns c =
-    let a = c .before .before .args in
+    let s : tie.Start = search in
+    let a = s .args in
     sym (List·getD-append (a .seeds .now) (a .hint ∷ []) nan (a .i) (c .before .if1 .taken))
 
 returns-2 : tie.Need-returns-2

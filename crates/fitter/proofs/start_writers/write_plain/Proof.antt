@@ -12,32 +12,40 @@ use Rattle.fitter.proofs.start_writers.write_plain.Statement.{statement
 use Rattle.fitter.proofs.start_writers.write_plain.Tie as tie
 
 abbrev start : tie.After-ratio-start → tie.Start
-start r = r .before .before .before .before .before .before
+start r = search
 
-weibull-is : (t : tie.After-enum-told) →
-    let r = t .before .before in
+weibull-is : (t : tie.After-enum-told) → let after-logit : tie.After-logit = search in
+    let after-ln : tie.After-ln = search in let after-dispersion-start : tie.After-dispersion-start = search in
+    let r : tie.After-ratio-start = search in
     let a = start r .args in
     plainStart (a .error) (a .seed) (a .start)
-    ≡ weibullList (r .before .before .before .before .dispersion-start .result) (r .before .before .before .ln .result)
-    (r .before .before .logit .result) (r .before .ln2 .result) (r .ratio-start .result)
+    ≡ weibullList (after-dispersion-start .dispersion-start .result) (after-ln .ln .result)
+    (after-logit .logit .result) (r .before .ln2 .result) (r .ratio-start .result)
 weibull-is t =
-    let r = t .before .before in
+    let after-logit : tie.After-logit = search in
+    let after-ln : tie.After-ln = search in
+    let after-dispersion-start : tie.After-dispersion-start = search in
+    let r : tie.After-ratio-start = search in
     let a = start r .args in
-    weibull-start (a .error) (a .seed) (a .start) _ _ _ _ (r .before .before .before .before .dispersion-start .ensures)
-    (r .before .before .before .ln .ensures) (r .before .before .logit .ensures) (r .ratio-start .ensures)
+    weibull-start (a .error) (a .seed) (a .start) _ _ _ _ (after-dispersion-start .dispersion-start .ensures)
+    (after-ln .ln .ensures) (after-logit .logit .ensures) (r .ratio-start .ensures)
     (t .enum-told .given .1) _ (r .before .ln2 .ensures)
 
-pareto-is : (t : tie.After-enum-told2) →
-    let r = t .before .before in
+pareto-is : (t : tie.After-enum-told2) → let after-logit : tie.After-logit = search in
+    let after-ln : tie.After-ln = search in let after-dispersion-start : tie.After-dispersion-start = search in
+    let r : tie.After-ratio-start = search in
     let a = start r .args in
     plainStart (a .error) (a .seed) (a .start)
-    ≡ paretoList (r .before .before .before .before .dispersion-start .result) (r .before .before .before .ln .result)
-    (r .before .before .logit .result) (r .ratio-start .result)
+    ≡ paretoList (after-dispersion-start .dispersion-start .result) (after-ln .ln .result)
+    (after-logit .logit .result) (r .ratio-start .result)
 pareto-is t =
-    let r = t .before .before in
+    let after-logit : tie.After-logit = search in
+    let after-ln : tie.After-ln = search in
+    let after-dispersion-start : tie.After-dispersion-start = search in
+    let r : tie.After-ratio-start = search in
     let a = start r .args in
-    pareto-start (a .error) (a .seed) (a .start) _ _ _ _ (r .before .before .before .before .dispersion-start .ensures)
-    (r .before .before .before .ln .ensures) (r .before .before .logit .ensures) (r .ratio-start .ensures)
+    pareto-start (a .error) (a .seed) (a .start) _ _ _ _ (after-dispersion-start .dispersion-start .ensures)
+    (after-ln .ln .ensures) (after-logit .logit .ensures) (r .ratio-start .ensures)
     (t .enum-told2 .given .1)
 
 enum-told : tie.Need-enum-told
@@ -45,26 +53,30 @@ enum-told c = search needs
 
 put-weibull-requires : tie.Need-put-weibull-requires
 put-weibull-requires c κs =
-    let s = start (c .before .before .before) in
+    let s : tie.Start = search in
     subst (λ (l : List Float). length l ≤ length (s .args .rest .now)) (weibull-is (c .before)) (s .pre)
 
 put-pareto-requires : tie.Need-put-pareto-requires
 put-pareto-requires c κs =
-    let s = start (c .before .before .before) in
+    let s : tie.Start = search in
     subst (λ (l : List Float). length l ≤ length (s .args .rest .now)) (pareto-is (c .before)) (s .pre)
 
 returns : tie.Need-returns
 returns c =
-    let p = c .before .before in
-    let e = weibull-is (p .before .before) in
-    let b = start (p .before .before .before .before) .args .rest .now in
+    let after-enum-told : tie.After-enum-told = search in
+    let s : tie.Start = search in
+    let p : tie.After-put-weibull = search in
+    let e = weibull-is after-enum-told in
+    let b = s .args .rest .now in
     (p .put-weibull .ensures .0 ∙ ap length (sym e), p .put-weibull .ensures .1 ∙ ap (λ (l : List Float). over l b) (sym e))
 
 returns-2 : tie.Need-returns-2
 returns-2 c =
-    let p = c .before .before in
-    let e = pareto-is (p .before .before) in
-    let b = start (p .before .before .before .before) .args .rest .now in
+    let after-enum-told2 : tie.After-enum-told2 = search in
+    let s : tie.Start = search in
+    let p : tie.After-put-pareto = search in
+    let e = pareto-is after-enum-told2 in
+    let b = s .args .rest .now in
     (p .put-pareto .ensures .0 ∙ ap length (sym e), p .put-pareto .ensures .1 ∙ ap (λ (l : List Float). over l b) (sym e))
 
 pub write-plain-spec : {M : Type 1} → statement M

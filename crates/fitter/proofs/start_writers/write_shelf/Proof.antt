@@ -11,13 +11,13 @@ use Rattle.fitter.proofs.start_writers.write_shelf.Statement.{statement
 use Rattle.fitter.proofs.start_writers.write_shelf.Tie as tie
 
 abbrev second : tie.After-logit3 → tie.After-logit2
-second c = c .before .before .before .before
+second c = search
 
 abbrev first : tie.After-logit3 → tie.After-logit
-first c = second c .before .before
+first c = search
 
 abbrev start : tie.After-logit3 → tie.Start
-start c = first c .before .before .before
+start c = search
 
 -- what is put is the shelf's part
 list-is : (c : tie.After-logit3)
@@ -25,9 +25,11 @@ list-is : (c : tie.After-logit3)
     ≡ shelfList (start c .args .share) (start c .args .shape)
 unfolding round ofBits
 list-is c =
+    let after-shelf-concentration-bounds : tie.After-shelf-concentration-bounds = search in
     let a = start c .args in
-    shelf-part (a .share) (a .shape) (first c .before .shelf-concentration-bounds .result) _ _ _
-    (first c .before .shelf-concentration-bounds .ensures) (first c .logit .ensures) (second c .logit2 .ensures) (c .logit3 .ensures)
+    shelf-part (a .share) (a .shape) (after-shelf-concentration-bounds .shelf-concentration-bounds .result) _ _ _
+    (after-shelf-concentration-bounds .shelf-concentration-bounds .ensures) (first c .logit .ensures)
+    (second c .logit2 .ensures) (c .logit3 .ensures)
 
 put-shelf-requires : tie.Need-put-shelf-requires
 unfolding shelfList
@@ -35,8 +37,8 @@ put-shelf-requires c κs = start (c .before) .pre
 
 returns : tie.Need-returns
 returns c =
-    let p = c .before .before in
-    let q = p .before .before in (
+    let p : tie.After-put-shelf = search in
+    let q : tie.After-logit3 = search in (
       p .put-shelf .ensures .0 ∙ ap length (list-is q),
       p .put-shelf .ensures .1 ∙ ap (λ (l : List Float). over l (start q .args .rest .now)) (list-is q),
     )

@@ -17,7 +17,7 @@ abbrev shelf : tie.Start → List Float
 shelf s = shelfList (s .args .share) (s .args .shape)
 
 abbrev start : tie.After-write-plain → tie.Start
-start p = p .before .before .before
+start p = search
 
 inside : (p : tie.After-write-plain) → p .write-plain .result + length (shelf (start p)) ≤ length (p .write-plain .last .0)
 inside p =
@@ -26,31 +26,34 @@ inside p =
     fits (front s) (shelf s) (s .args .rest .now) (s .pre) (w .last .0) (w .result) (w .ensures .0) (w .ensures .1)
 
 write-plain-requires : tie.Need-write-plain-requires
-write-plain-requires c κs = let s = c .before .before in first-fits (front s) (shelf s) (s .args .rest .now) (s .pre)
+write-plain-requires c κs = let s : tie.Start = search in first-fits (front s) (shelf s) (s .args .rest .now) (s .pre)
+
+abbrev after-write-plain : tie.After-slice-known2 → tie.After-write-plain
+after-write-plain c = search
 
 mul-write-shelf : tie.Need-mul-write-shelf
-mul-write-shelf c = omega (arith, inside (c .before .before))
+mul-write-shelf c = omega (arith, inside (after-write-plain c))
 
 sub-write-shelf : tie.Need-sub-write-shelf
-sub-write-shelf c = omega (arith, inside (c .before .before))
+sub-write-shelf c = omega (arith, inside (after-write-plain c))
 
 part-write-shelf-start : tie.Need-part-write-shelf-start
-part-write-shelf-start c = omega (arith, inside (c .before .before))
+part-write-shelf-start c = omega (arith, inside (after-write-plain c))
 
 write-shelf-requires : tie.Need-write-shelf-requires
 write-shelf-requires c κs =
-    let p = c .before .before .before in
+    let p : tie.After-write-plain = search in
     let s = start p in
     let w = p .write-plain in
     room (front s) (shelf s) (s .args .rest .now) (s .pre) (w .last .0) (w .result) (w .ensures .0) (w .ensures .1)
 
 add-result : tie.Need-add-result
-add-result c = let p = c .before .before .before .before .before .before in omega (arith, inside p)
+add-result c = let p : tie.After-write-plain = search in omega (arith, inside p)
 
 returns : tie.Need-returns
 returns c =
-    let q = c .before .before in
-    let p = q .before .before .before .before in
+    let q : tie.After-write-shelf = search in
+    let p : tie.After-write-plain = search in
     let s = start p in
     let w = p .write-plain in
     let v = q .write-shelf in

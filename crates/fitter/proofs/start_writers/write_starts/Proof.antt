@@ -19,7 +19,7 @@ abbrev μ-loop : tie.MeasureT-loop
 μ-loop rest₀ error genome seeds hint table share shapes at₀ i₀ rest at i = length (seeds ++ (hint ∷ [])) - i
 
 abbrev start : tie.At-loop Inv-loop μ-loop → tie.Start Inv-loop μ-loop
-start l = l .before .before .before .before .before
+start l = search
 
 -- the lists that are written in turn, and how many they are
 abbrev lists : tie.At-loop Inv-loop μ-loop → ℕ → List Float
@@ -32,7 +32,8 @@ one-more : (l : tie.At-loop Inv-loop μ-loop) → many l ≡ length (start l .ar
 one-more l = let a = start l .args in length-append (a .seeds .now) (a .hint ∷ [])
 
 -- what the call writes is the next of them
-given : (r : tie.After-seed-at Inv-loop μ-loop) → let l = r .before .before in let a = start l .args in
+given : (r : tie.After-seed-at Inv-loop μ-loop) → let l : tie.At-loop Inv-loop μ-loop = search in
+    let a = start l .args in
     inTurn (tableStarts (a .error) (a .genome) (r .seed-at .result) (a .table .now) (a .share) (a .shapes .now)) (length (a .table .now) / 3) ≡ lists l (l .loop .i)
 unfolding seedStarts
 given r = rw (r .seed-at .ensures)
@@ -41,7 +42,7 @@ all-fit : (l : tie.At-loop Inv-loop μ-loop) → length (inTurn (lists l) (many 
 unfolding allStarts
 all-fit l = start l .pre
 
-less : (t : tie.In-loop Inv-loop μ-loop) → t .before .loop .i < many (t .before)
+less : (t : tie.In-loop Inv-loop μ-loop) → let l = t .before in l .loop .i < many l
 less t = omega (arith, one-more (t .before), t .loop-test .taken)
 
 loop-holds : tie.Need-loop-holds Inv-loop μ-loop
@@ -71,14 +72,19 @@ write-table-requires c κs =
     (asks (lists l) (many l) (start l .args .rest .now) _ _ (l .loop .i) (l .loop .inv) (less t) (all-fit l))
 
 -- how many numbers the call wrote
-wrote : (w : tie.After-write-table Inv-loop μ-loop) → let l = w .before .before .before .before in
+wrote : (w : tie.After-write-table Inv-loop μ-loop) → let l : tie.At-loop Inv-loop μ-loop = search in
     w .write-table .result ≡ length (lists l (l .loop .i))
-wrote w = w .write-table .ensures .0 ∙ ap length (given (w .before .before))
+wrote w =
+    let after-seed-at : tie.After-seed-at Inv-loop μ-loop = search in
+    w .write-table .ensures .0 ∙ ap length (given after-seed-at)
+
+abbrev turn : tie.After-slice-known2 Inv-loop μ-loop → tie.In-loop Inv-loop μ-loop
+turn c = search
 
 add-at : tie.Need-add-at Inv-loop μ-loop
 add-at c =
-    let w = c .before .before in
-    let t = w .before .before .before in
+    let w : tie.After-write-table Inv-loop μ-loop = search in
+    let t = turn c in
     let l = t .before in
     omega (
       arith,
@@ -89,13 +95,13 @@ add-i : tie.Need-add-i Inv-loop μ-loop
 add-i c = omega arith
 
 loop-less : tie.Need-loop-less Inv-loop μ-loop
-loop-less c = omega (arith, less (c .before .before .before .before .before))
+loop-less c = omega (arith, less (turn c))
 
 loop-again : tie.Need-loop-again Inv-loop μ-loop
 loop-again c =
-    let w = c .before .before in
-    let r = w .before .before in
-    let t = r .before in
+    let w : tie.After-write-table Inv-loop μ-loop = search in
+    let r : tie.After-seed-at Inv-loop μ-loop = search in
+    let t = turn c in
     let l = t .before in
     let k = w .write-table in
     let held : k .last .0 ≡ over (lists l (l .loop .i)) (take (length (l .loop .rest) - l .loop .at) (drop (l .loop .at) (l .loop .rest))) =

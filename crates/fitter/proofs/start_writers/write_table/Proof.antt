@@ -19,7 +19,7 @@ abbrev μ-loop : tie.MeasureT-loop
 μ-loop rest₀ error genome seed table share shapes n at₀ i₀ rest at i = n - i
 
 abbrev start : tie.At-loop Inv-loop μ-loop → tie.Start Inv-loop μ-loop
-start l = l .before .before .before .before
+start l = search
 
 -- the lists that are written in turn, and how many they are
 abbrev lists : tie.At-loop Inv-loop μ-loop → ℕ → List Float
@@ -29,7 +29,8 @@ abbrev many : tie.At-loop Inv-loop μ-loop → ℕ
 many l = let a = start l .args in length (a .table .now) / 3
 
 -- what the call writes is the next of them
-given : (r : tie.After-error-start-at Inv-loop μ-loop) → let l = r .before .before in let a = start l .args in
+given : (r : tie.After-error-start-at Inv-loop μ-loop) → let l : tie.At-loop Inv-loop μ-loop = search in
+    let a = start l .args in
     rowStarts (a .error) (a .genome) (a .seed) (r .error-start-at .result) (a .share) (a .shapes .now) ≡ lists l (l .loop .i)
 unfolding tableStarts
 given r = rw (r .error-start-at .ensures)
@@ -37,7 +38,7 @@ given r = rw (r .error-start-at .ensures)
 all-fit : (l : tie.At-loop Inv-loop μ-loop) → length (inTurn (lists l) (many l)) ≤ length (start l .args .rest .now)
 all-fit l = start l .pre
 
-less : (t : tie.In-loop Inv-loop μ-loop) → t .before .loop .i < many (t .before)
+less : (t : tie.In-loop Inv-loop μ-loop) → let l = t .before in l .loop .i < many l
 less t = t .loop-test .taken
 
 loop-holds : tie.Need-loop-holds Inv-loop μ-loop
@@ -67,14 +68,16 @@ write-row-requires c κs =
     (asks (lists l) (many l) (start l .args .rest .now) _ _ (l .loop .i) (l .loop .inv .1) (less t) (all-fit l))
 
 -- how many numbers the call wrote
-wrote : (w : tie.After-write-row Inv-loop μ-loop) → let l = w .before .before .before .before in
+wrote : (w : tie.After-write-row Inv-loop μ-loop) → let l : tie.At-loop Inv-loop μ-loop = search in
     w .write-row .result ≡ length (lists l (l .loop .i))
-wrote w = w .write-row .ensures .0 ∙ ap length (given (w .before .before))
+wrote w =
+    let after-error-start-at : tie.After-error-start-at Inv-loop μ-loop = search in
+    w .write-row .ensures .0 ∙ ap length (given after-error-start-at)
 
 add-at : tie.Need-add-at Inv-loop μ-loop
 add-at c =
-    let w = c .before .before in
-    let t = w .before .before .before in
+    let w : tie.After-write-row Inv-loop μ-loop = search in
+    let t : tie.In-loop Inv-loop μ-loop = search in
     let l = t .before in
     omega (
       arith,
@@ -89,8 +92,8 @@ loop-less c = omega arith
 
 loop-again : tie.Need-loop-again Inv-loop μ-loop
 loop-again c =
-    let w = c .before .before in
-    let r = w .before .before in
+    let w : tie.After-write-row Inv-loop μ-loop = search in
+    let r : tie.After-error-start-at Inv-loop μ-loop = search in
     let t = r .before in
     let l = t .before in
     let k = w .write-row in

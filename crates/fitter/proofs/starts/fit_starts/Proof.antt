@@ -23,10 +23,11 @@ fixed error genome p w seeds hint share shapes room ep ew = rw (ep, ew)
 
 returns : tie.Need-returns
 returns c =
-    let k = c .before .before in
-    let w = k .before .before .before .before in
+    let s : tie.Start = search in
+    let k : tie.After-fit-starts-lent = search in
+    let w : tie.After-weibull-starts = search in
     let p = w .before in
-    let a = p .before .before .before .before .args in
+    let a = s .args in
     let e = fixed (a .error) (a .genome) (p .pareto-starts .result) (w .weibull-starts .result) (a .seeds .now) (a .hint) (a .share)
     (a .shapes .now) (length (a .out .now)) (p .pareto-starts .ensures) (w .weibull-starts .ensures) in (
       k .fit-starts-lent .ensures .0 ∙ ap (λ (r : Reply (List Float)). counted r) e,

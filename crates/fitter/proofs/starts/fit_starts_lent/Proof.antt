@@ -22,7 +22,7 @@ use Rattle.fitter.proofs.starts.fit_starts_lent.Tie as tie
 -- ---- the table
 module _ (t : tie.After-start-table) where
   abbrev start : tie.Start
-  start = t .before .before .before .before .before .before
+  start = search
 
   abbrev p : List Float
   p = start .args .pareto .now
@@ -48,10 +48,10 @@ module _ (t : tie.After-start-table) where
 
 -- ---- the test of the room
 abbrev read : tie.After-too-short → tie.After-start-table
-read y = y .before .before .before .before .before
+read y = search
 
 abbrev even : tie.After-too-short → tie.Else2
-even y = y .before .before .before
+even y = search
 
 fine-at : (y : tie.After-too-short) → 0 ≡ firstOf (wrongTables (length (p (read y))) (length (w (read y))))
 fine-at y = fine (read y) (even y .before .if1 .left)
@@ -61,19 +61,20 @@ is-table y = took (read y) (fine-at y)
 
 short-is : (y : tie.After-too-short) → y .too-short .result ≡ ltb (length (start (read y) .args .out .now)) (length (all (read y)))
 short-is y =
+    let after-list-length : tie.After-list-length = search in
     let a = start (read y) .args in
     y .too-short .ensures
     ∙ ap (λ (n : ℕ). ltb (length (a .out .now)) n)
     (needed (a .error) (a .genome) (p (read y)) (w (read y)) (a .seeds .now) (a .hint) (a .share) (a .shapes .now)
-    (length (a .out .now)) (table (read y)) (is-table y) _ _ (y .before .before .list-length .ensures)
+    (length (a .out .now)) (table (read y)) (is-table y) _ _ (after-list-length .list-length .ensures)
     (y .before .per-row .ensures))
 
 -- ---- what is written
-writes : (h : tie.After-used-hint) → let y = h .before .before in let a = start (read y) .args in
+writes : (h : tie.After-used-hint) → let y : tie.After-too-short = search in let a = start (read y) .args in
     allStarts (a .error) (a .genome) (a .seeds .now ++ (h .used-hint .result ∷ [])) (table (read y)) (a .share) (a .shapes .now)
     ≡ all (read y)
 writes h =
-    let y = h .before .before in
+    let y : tie.After-too-short = search in
     let a = start (read y) .args in
     starts-are (a .error) (a .genome) (p (read y)) (w (read y)) (a .seeds .now) (a .hint) (a .share) (a .shapes .now)
     (length (a .out .now)) (table (read y)) (is-table y) (h .used-hint .result) (h .used-hint .ensures)
@@ -89,7 +90,7 @@ returns c =
 
 returns-2 : tie.Need-returns-2
 returns-2 c =
-    let t = c .before .before in
+    let t : tie.After-start-table = search in
     let a = start t .args in
     rw
     (shapes-refused (a .error) (a .genome) (p t) (w t) (a .seeds .now) (a .hint) (a .share) (a .shapes .now) (length (a .out .now))
@@ -98,8 +99,8 @@ returns-2 c =
 
 too-short-requires : tie.Need-too-short-requires
 too-short-requires c κs =
-    let e = c .before .before in
-    let t = e .before .before in
+    let e : tie.Else2 = search in
+    let t : tie.After-start-table = search in
     let a = start t .args in
     let f = fine t (e .before .if1 .left) in (
       subst (λ (k : ℕ). 0 < k) (sym (c .before .list-length .ensures)) (width-some (a .error) (a .genome)),
@@ -119,16 +120,16 @@ returns-3 c =
 write-starts-requires : tie.Need-write-starts-requires
 write-starts-requires c κs =
     let h = c .before in
-    let y = h .before .before in
+    let y : tie.After-too-short = search in
     let a = start (read y) .args in
     subst (λ (l : List Float). length l ≤ length (a .out .now)) (sym (writes h))
     (ltb-false _ _ (sym (short-is y) ∙ h .before .if3 .left))
 
 returns-4 : tie.Need-returns-4
 returns-4 c =
-    let k = c .before .before in
-    let h = k .before .before in
-    let y = h .before .before in
+    let k : tie.After-write-starts = search in
+    let h : tie.After-used-hint = search in
+    let y : tie.After-too-short = search in
     let t = read y in
     let a = start t .args in
     rw

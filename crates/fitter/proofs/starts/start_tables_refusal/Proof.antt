@@ -9,12 +9,12 @@ returns c = simp (sym (c .before .not-rows .ensures) ∙ c .if1 .taken)
 
 returns-2 : tie.Need-returns-2
 returns-2 c =
-    let one = c .before .before in
+    let one : tie.Else1 = search in
     simp (sym (one .before .not-rows .ensures) ∙ one .if1 .left, sym (c .before .not-rows2 .ensures) ∙ c .if2 .taken)
 
 returns-3 : tie.Need-returns-3
 returns-3 c =
-    let one = c .before .before in
+    let one : tie.Else1 = search in
     simp (sym (one .before .not-rows .ensures) ∙ one .if1 .left, sym (c .before .not-rows2 .ensures) ∙ c .if2 .left)
 
 pub start-tables-refusal-spec : {M : Type 1} → statement M

@@ -16,18 +16,20 @@ enum-told c = c .match .keys2
 
 returns : tie.Need-returns
 returns c =
-    let p = c .before .before in
-    let a = p .before .before .args in
+    let s : tie.Start = search in
+    let p : tie.After-run-point = search in
+    let a = s .args in
     p .before .count-run .ensures
     ∙ point-step (a .lent) (a .wanted) (a .position) (a .run) (a .s) RunPoint.Missing
     (sym (c .enum-told .given .1) ∙ p .run-point .ensures)
 
 returns-2 : tie.Need-returns-2
 returns-2 c =
-    let k = c .before .before in
+    let start : tie.Start = search in
+    let k : tie.After-point = search in
     let g = k .point .given in
-    let p = k .before .before in
-    let a = p .before .before .args in
+    let p : tie.After-run-point = search in
+    let a = start .args in
     c .weigh-run .ensures
     ∙ ap (λ (s : Survey). weighOf (a .lent) (a .wanted) (a .position) (a .run) (g .0 .0) (g .0 .1 .0) s)
     (p .before .count-run .ensures)

@@ -5,7 +5,7 @@ use Rattle.fitter.proofs.turns.retry_turn.Tie as tie
 
 returns : tie.Need-returns
 returns c =
-    let r = c .before .before .before .before in
+    let r : tie.After-retry-run = search in
     (rw (c .with-held .ensures, r .retry-run .ensures .0), r .retry-run .ensures .1)
 
 pub retry-turn-spec : {M : Type 1} → statement M

@@ -13,7 +13,7 @@ use Rattle.fitter.proofs.turns.settle_empty.Statement.{statement}
 use Rattle.fitter.proofs.turns.settle_empty.Tie as tie
 
 abbrev start : tie.After-attempt-refusal → tie.Start
-start r = r .before .before .before
+start r = search
 
 -- the number is that of no survey
 number-is : (r : tie.After-attempt-refusal) → let a = start r .args in

@@ -6,11 +6,11 @@ use Rattle.fitter.proofs.turns.survey_turn.Statement.{statement}
 use Rattle.fitter.proofs.turns.survey_turn.Tie as tie
 
 abbrev start : tie.After-survey-run → tie.Start
-start s = s .before .before .before .before .before .before
+start s = search
 
 returns : tie.Need-returns
 returns c =
-    let s = c .before .before in
+    let s : tie.After-survey-run = search in
     let a = start s .args in (
       first-on (a .bins .now) (a .setup) (a .lists .now) _ (a .run) (a .t) _ _ (s .before .list-length .ensures)
           (s .survey-run .ensures) (c .if1 .taken),
@@ -19,9 +19,9 @@ returns c =
 
 returns-2 : tie.Need-returns-2
 returns-2 c =
-    let k = c .before .before .before in
-    let e = k .before .before in
-    let s = e .before .before in
+    let k : tie.After-settle = search in
+    let e : tie.Else1 = search in
+    let s : tie.After-survey-run = search in
     let a = start s .args in (
       first-settled (a .bins .now) (a .setup) (a .lists .now) _ (a .run) (a .t) _ _ (s .before .list-length .ensures)
           (s .survey-run .ensures) _ _ (e .if1 .left) (k .settle .ensures .0) (c .second-from .ensures),

@@ -10,10 +10,11 @@ use Rattle.fitter.proofs.turns.turn.Tie as tie
 
 returns : tie.Need-returns
 returns c =
-    let r = c .before .before in
-    let t = r .before .before in
+    let s : tie.Start = search in
+    let r : tie.After-retry-turn = search in
+    let t : tie.Then1 = search in
     let run = t .before .run-of in
-    let a = t .before .before .before .before .before .args in
+    let a = s .args in
     let room = length (a .table .now) in (
       r .retry-turn .ensures .0
           ∙ turn-second (a .bins .now) (a .setup) (a .lists .now) room (run .result) (a .t) (t .if1 .taken)
@@ -23,10 +24,11 @@ returns c =
 
 returns-2 : tie.Need-returns-2
 returns-2 c =
-    let r = c .before .before in
-    let t = r .before .before in
+    let s : tie.Start = search in
+    let r : tie.After-survey-turn = search in
+    let t : tie.Else1 = search in
     let run = t .before .run-of in
-    let a = t .before .before .before .before .before .args in
+    let a = s .args in
     let room = length (a .table .now) in (
       r .survey-turn .ensures .0
           ∙ turn-first (a .bins .now) (a .setup) (a .lists .now) room (run .result) (a .t) (t .if1 .left)

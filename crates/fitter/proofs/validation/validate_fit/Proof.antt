@@ -24,15 +24,16 @@ module _ (s : tie.Start) where
 returns : tie.Need-returns
 unfolding validateOf
 returns c =
-    let s = c .before .before in
+    let s : tie.Start = search in
     let number = c .before .validate-refusal in
     sym (chain-refused (answer s) (tests s) (number .result) (number .ensures) (omega (arith, c .if1 .taken)))
 
 returns-2 : tie.Need-returns-2
 unfolding validateOf
 returns-2 c =
-    let s = c .before .before .before in
-    let none = sym (c .before .if1 .left) ∙ c .before .before .validate-refusal .ensures in
+    let after-validate-refusal : tie.After-validate-refusal = search in
+    let s : tie.Start = search in
+    let none = sym (c .before .if1 .left) ∙ after-validate-refusal .validate-refusal .ensures in
     c .judge .ensures ∙ sym (chain-passed (answer s) (tests s) (numbers s) none)
 
 pub validate-fit-spec : {M : Type 1} → statement M

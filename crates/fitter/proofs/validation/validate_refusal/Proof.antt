@@ -48,10 +48,10 @@ returns : tie.Need-returns
 returns c = too-low (c .before) (inl (c .if1 .taken))
 
 returns-2 : tie.Need-returns-2
-returns-2 c = too-low (c .before .before) (inr (inl (c .if2 .taken)))
+returns-2 c = let s : tie.Start = search in too-low s (inr (inl (c .if2 .taken)))
 
 abbrev start : tie.Else2 → tie.Start
-start c = c .before .before
+start c = search
 
 past-low : (c : tie.Else2) → Number (start c) (high (start c))
 unfolding validateTests
@@ -70,33 +70,38 @@ returns-3 : tie.Need-returns-3
 returns-3 c = too-high (c .before) (inl (c .if3 .taken))
 
 returns-4 : tie.Need-returns-4
-returns-4 c = too-high (c .before .before) (inr (inl (c .if4 .taken)))
+returns-4 c = let else2 : tie.Else2 = search in too-high else2 (inr (inl (c .if4 .taken)))
 
 returns-5 : tie.Need-returns-5
-returns-5 c = too-high (c .before .before .before) (inr (inr (inl (c .if5 .taken))))
+returns-5 c = let else2 : tie.Else2 = search in too-high else2 (inr (inr (inl (c .if5 .taken))))
 
 abbrev low : tie.Else5 → tie.Else2
-low c = c .before .before .before
+low c = search
 
 past-high : (c : tie.Else5) → Number (start (low c)) (window (start (low c)))
 past-high c n h =
+    let else3 : tie.Else3 = search in
     let s = start (low c) in
-    let none = above-most-clear (highs s) (c .before .before .if3 .left, (c .before .if4 .left, (c .if5 .left, tt))) in
+    let none = above-most-clear (highs s) (else3 .if3 .left, (c .before .if4 .left, (c .if5 .left, tt))) in
     past-low (low c) n (goes-on (aboveMost (highs s)) (inOrder (window s)) refl none n h)
 
 -- ---- 5
 returns-6 : tie.Need-returns-6
 returns-6 c = past-high (c .before) 5 (rw (eq-eqb _ _ (c .if6 .taken)))
 
-past-window : (c : tie.Else6) → Number (start (low (c .before))) (limit (start (low (c .before))))
+past-window : (c : tie.Else6) → let s : tie.Start = search in Number s (limit s)
 past-window c n h = past-high (c .before) n (rw (ne-eqb _ _ (c .if6 .left)) h)
 
 -- ---- 9
 returns-7 : tie.Need-returns-7
-returns-7 c = past-window (c .before .before) 9 (rw (sym (c .before .bad-limit .ensures) ∙ c .if7 .taken))
+returns-7 c =
+    let else6 : tie.Else6 = search in
+    past-window else6 9 (rw (sym (c .before .bad-limit .ensures) ∙ c .if7 .taken))
 
 returns-8 : tie.Need-returns-8
-returns-8 c = past-window (c .before .before) 0 (rw (sym (c .before .bad-limit .ensures) ∙ c .if7 .left))
+returns-8 c =
+    let else6 : tie.Else6 = search in
+    past-window else6 0 (rw (sym (c .before .bad-limit .ensures) ∙ c .if7 .left))
 
 pub validate-refusal-spec : {M : Type 1} → statement M
 validate-refusal-spec =

@@ -11,8 +11,9 @@ returns c = rw (c .before .if1 .taken) (c .poisson-lobe .ensures)
 returns-2 : tie.Need-returns-2
 unfolding lobeOf
 returns-2 c =
+    let else1 : tie.Else1 = search in
     let logs = c .before in
-    rw (logs .before .before .if1 .left, c .binomial-lobe .ensures, logs .ln2 .ensures, logs .before .ln .ensures)
+    rw (else1 .if1 .left, c .binomial-lobe .ensures, logs .ln2 .ensures, logs .before .ln .ensures)
 
 pub lobe-of-spec : {M : Type 1} → statement M
 lobe-of-spec =

@@ -12,16 +12,18 @@ use Rattle.helpers.proofs.kept.density_at.Tie as tie
 returns : tie.Need-returns
 unfolding growthAt
 returns c =
-    let inside = c .before .before in
-    let a = inside .before .before .args in
+    let s : tie.Start = search in
+    let inside : tie.Then1 = search in
+    let a = s .args in
     c .density-from .ensures
     ∙ ap (densityFrom (a .lobe) (a .x) (a .gamma)) (getD-any (a .kept .now) (a .i) nan (growthOf (a .lobe) (a .x)) (inside .if1 .taken))
 
 returns-2 : tie.Need-returns-2
 unfolding growthAt
 returns-2 c =
+    let s : tie.Start = search in
     let past = c .before in
-    let a = past .before .before .args in
+    let a = s .args in
     c .density-with .ensures
     ∙ sym (density-from-is (a .lobe) (a .x) (a .gamma))
     ∙ ap (densityFrom (a .lobe) (a .x) (a .gamma)) (sym (List·getD-eq-default (a .kept .now) _ (past .if1 .left)))

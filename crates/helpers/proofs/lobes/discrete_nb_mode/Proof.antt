@@ -8,12 +8,17 @@ use Rattle.helpers.proofs.lobes.discrete_nb_mode.Tie as tie
 returns : tie.Need-returns
 unfolding discreteNbModeOf
 returns c =
-    let test = c .before .before .before in
-    rw (sym (test .before .before .is-finite .ensures) ∙ test .before .if1 .taken, test .if2 .taken) (rw (c .to-u64 .ensures, c .before .min .ensures, c .before .before .floor .ensures))
+    let after-floor : tie.After-floor = search in
+    let after-is-finite : tie.After-is-finite = search in
+    let test : tie.Then2 = search in
+    rw (sym (after-is-finite .is-finite .ensures) ∙ test .before .if1 .taken, test .if2 .taken)
+    (rw (c .to-u64 .ensures, c .before .min .ensures, after-floor .floor .ensures))
 
 returns-2 : tie.Need-returns-2
 unfolding discreteNbModeOf
-returns-2 c = rw (sym (c .before .before .is-finite .ensures) ∙ c .before .if1 .taken, c .if2 .left)
+returns-2 c =
+    let after-is-finite : tie.After-is-finite = search in
+    rw (sym (after-is-finite .is-finite .ensures) ∙ c .before .if1 .taken, c .if2 .left)
 
 returns-3 : tie.Need-returns-3
 unfolding discreteNbModeOf

@@ -9,7 +9,7 @@ use Rattle.helpers.proofs.log_sums.beside_one.Tie as tie
 returns : tie.Need-returns
 unfolding neg ofBits
 returns c =
-    let start = c .before .before in
+    let start : tie.Start = search in
     absorbs-two _ _ (yes (start .good .0 .1)) (yes (start .good .1 .0 .1)) (c .before .if1 .taken) (c .if2 .taken)
 
 returns-2 : tie.Need-returns-2

@@ -15,13 +15,14 @@ returns-2 c = rw (c .before .if1 .left, c .if2 .taken)
 
 returns-3 : tie.Need-returns-3
 unfolding lnSubExpOf div neg ofBits
-returns-3 c = rw (c .before .before .if1 .left, c .before .if2 .left, c .if3 .taken)
+returns-3 c = let else1 : tie.Else1 = search in rw (else1 .if1 .left, c .before .if2 .left, c .if3 .taken)
 
 returns-4 : tie.Need-returns-4
 unfolding lnSubExpOf div neg ofBits
 returns-4 c =
-    let test = c .before .before in
-    rw (test .before .before .if1 .left, test .before .if2 .left, test .if3 .left) (rw (c .ln .ensures, c .before .expm1 .ensures))
+    let else1 : tie.Else1 = search in
+    let test : tie.Else3 = search in
+    rw (else1 .if1 .left, test .before .if2 .left, test .if3 .left) (rw (c .ln .ensures, c .before .expm1 .ensures))
 
 pub ln-sub-exp-spec : {M : Type 1} → statement M
 ln-sub-exp-spec =

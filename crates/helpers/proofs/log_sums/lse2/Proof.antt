@@ -8,21 +8,24 @@ use Rattle.helpers.proofs.log_sums.lse2.Tie as tie
 
 weights-requires : tie.Need-weights-requires
 weights-requires c κs =
-    let most = c .before .before .max .ensures in
+    let after-max : tie.After-max = search in
+    let most = after-max .max .ensures in
     sym (ap finite most) ∙ sym (c .before .is-finite .ensures) ∙ c .if1 .taken
 
 returns : tie.Need-returns
 unfolding lse2Of
 returns c =
-    let test = c .before .before in
-    let most = sym (test .before .before .max .ensures) in
+    let after-max : tie.After-max = search in
+    let test : tie.Then1 = search in
+    let most = sym (after-max .max .ensures) in
     let known = sym (test .before .is-finite .ensures) ∙ test .if1 .taken in
     rw (most, known) (rw (c .with-log .ensures, c .before .weights .ensures, most))
 
 returns-2 : tie.Need-returns-2
 unfolding lse2Of
 returns-2 c =
-    let most = sym (c .before .before .max .ensures) in
+    let after-max : tie.After-max = search in
+    let most = sym (after-max .max .ensures) in
     let known = sym (c .before .is-finite .ensures) ∙ c .if1 .left in
     rw (most, known)
 

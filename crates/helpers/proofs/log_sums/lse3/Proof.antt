@@ -11,9 +11,9 @@ use Rattle.helpers.proofs.log_sums.lse3.Tie as tie
 returns : tie.Need-returns
 unfolding lse3Of
 returns c =
-    let level = c .before .before in
+    let level : tie.Then2 = search in
     let test = level .before in
-    let two = test .before .before in
+    let two : tie.After-max2 = search in
     let known = sym (test .before .is-finite .ensures) ∙ test .if1 .taken in
     let third = sym (exp-level _ _ (level .if2 .taken) known) in
     rw (sym (two .before .max .ensures), sym (two .max2 .ensures), known, third)
@@ -22,15 +22,15 @@ returns c =
 weights-requires : tie.Need-weights-requires
 weights-requires c κs =
     let test = c .before in
-    let two = test .before .before in
+    let two : tie.After-max2 = search in
     let known = sym (test .before .is-finite .ensures) ∙ test .if1 .taken in
     let same = max-of-two _ _ _ _ _ (two .before .max .ensures) (two .max2 .ensures) known (c .if2 .left) in
     sym (ap finite same) ∙ known
 
 added-requires : tie.Need-added-requires
 added-requires c κs =
-    let test = c .before .before in
-    let two = test .before .before in
+    let test : tie.Then1 = search in
+    let two : tie.After-max2 = search in
     let known = sym (test .before .is-finite .ensures) ∙ test .if1 .taken in
     let same = max-of-two _ _ _ _ _ (two .before .max .ensures) (two .max2 .ensures) known (c .before .if2 .left) in
     subst Least (sym (c .weights .ensures)) (weights-least _ _ (sym (ap finite same) ∙ known))
@@ -38,18 +38,20 @@ added-requires c κs =
 returns-2 : tie.Need-returns-2
 unfolding lse3Of
 returns-2 c =
-    let level = c .before .before .before in
+    let after-weights : tie.After-weights = search in
+    let after-max : tie.After-max = search in
+    let level : tie.Else2 = search in
     let test = level .before in
-    let two = test .before .before in
+    let two : tie.After-max2 = search in
     let known = sym (test .before .is-finite .ensures) ∙ test .if1 .taken in
-    let same = max-of-two _ _ _ _ _ (two .before .max .ensures) (two .max2 .ensures) known (level .if2 .left) in
-    rw (sym (two .before .max .ensures), sym (two .max2 .ensures), known)
-    (rw (c .with-log2 .ensures, c .before .added .ensures, c .before .before .weights .ensures, sym same))
+    let same = max-of-two _ _ _ _ _ (after-max .max .ensures) (two .max2 .ensures) known (level .if2 .left) in
+    rw (sym (after-max .max .ensures), sym (two .max2 .ensures), known)
+    (rw (c .with-log2 .ensures, c .before .added .ensures, after-weights .weights .ensures, sym same))
 
 returns-3 : tie.Need-returns-3
 unfolding lse3Of
 returns-3 c =
-    let two = c .before .before in
+    let two : tie.After-max2 = search in
     let known = sym (c .before .is-finite .ensures) ∙ c .if1 .left in
     rw (sym (two .before .max .ensures), sym (two .max2 .ensures), known)
 

@@ -32,9 +32,10 @@ loop-less c = omega arith
 
 loop-again : tie.Need-loop-again Inv-loop μ-loop
 loop-again c =
-    let second = c .before .before in
-    let summed = second .before .before in
-    let inv = summed .before .before .loop .inv in
+    let l : tie.At-loop Inv-loop μ-loop = search in
+    let second : tie.After-ln2 Inv-loop μ-loop = search in
+    let summed : tie.After-lse2 Inv-loop μ-loop = search in
+    let inv = l .loop .inv in
     (inv .0, inv .1, sum-goes-on _ _ _ (inv .2) _ _ (omega arith) (summed .lse2 .ensures) (rw (c .ln3 .ensures, second .ln2 .ensures, inv .0, inv .1)))
 
 returns : tie.Need-returns Inv-loop μ-loop

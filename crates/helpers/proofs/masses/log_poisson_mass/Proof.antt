@@ -33,8 +33,10 @@ loop-less c = omega arith
 
 loop-again : tie.Need-loop-again Inv-loop μ-loop
 loop-again c =
-    let inv = c .before .before .before .before .loop .inv in
-    (inv .0, sum-goes-on _ _ _ (inv .1) _ _ (omega arith) (c .before .before .lse2 .ensures) (rw (c .ln2 .ensures, inv .0)))
+    let after-lse2 : tie.After-lse2 Inv-loop μ-loop = search in
+    let l : tie.At-loop Inv-loop μ-loop = search in
+    let inv = l .loop .inv in
+    (inv .0, sum-goes-on _ _ _ (inv .1) _ _ (omega arith) (after-lse2 .lse2 .ensures) (rw (c .ln2 .ensures, inv .0)))
 
 returns : tie.Need-returns Inv-loop μ-loop
 unfolding poissonMassOf

@@ -23,7 +23,9 @@ abbrev μ-loop : tie.MeasureT-loop
 
 loop-holds : tie.Need-loop-holds Inv-loop μ-loop
 unfolding div neg ofBits
-loop-holds c = (omega arith, inl refl, c .least .ensures, shelf-begins (c .before .before .args .table .now))
+loop-holds c =
+    let s : tie.Start Inv-loop μ-loop = search in
+    (omega arith, inl refl, c .least .ensures, shelf-begins (s .args .table .now))
 
 shared-slice-read-lse2 : tie.Need-shared-slice-read-lse2 Inv-loop μ-loop
 shared-slice-read-lse2 c = omega arith
@@ -36,16 +38,23 @@ loop-less c = omega arith
 
 loop-again : tie.Need-loop-again Inv-loop μ-loop
 loop-again c =
-    let at = c .before .before .before in
-    let inv = at .loop .inv in
-    (omega arith, inr (omega arith), inv .2, shelf-more (at .before .before .before .args .table .now) (at .loop .i) (at .loop .total) (c .lse2 .result) nan (inv .0) (omega arith) (inv .3) (c .lse2 .ensures))
+    let s : tie.Start Inv-loop μ-loop = search in
+    let at : tie.At-loop Inv-loop μ-loop = search in
+    let inv = at .loop .inv in (
+      omega arith,
+      inr (omega arith),
+      inv .2,
+      shelf-more (s .args .table .now) (at .loop .i) (at .loop .total)
+          (c .lse2 .result) nan (inv .0) (omega arith) (inv .3) (c .lse2 .ensures),
+    )
 
 returns : tie.Need-returns Inv-loop μ-loop
 unfolding shelfMassOf
 returns c =
+    let s : tie.Start Inv-loop μ-loop = search in
     let at = c .before in
     let inv = at .loop .inv in
-    let table = at .before .before .before .args .table .now in
+    let table = s .args .table .now in
     inv .3 ∙ shelf-ends table (at .loop .i) (at .before .least .result) (inv .0) (inv .1) (omega arith) ∙ ap (λ (n : ℕ). fold (shelfStep table) 1 n (inf true)) (inv .2)
 
 pub log-shelf-mass-spec : {M : Type 1} → statement M

@@ -9,13 +9,21 @@ enum-told c = search needs
 
 returns : tie.Need-returns
 unfolding singleCopyMassTo
-returns c = rw (c .enum-told .given .1) (c .before .before .log-nb-mass-to .ensures)
+returns c =
+    let after-log-nb-mass-to : tie.After-log-nb-mass-to = search in
+    rw (c .enum-told .given .1) (after-log-nb-mass-to .log-nb-mass-to .ensures)
 
 returns-2 : tie.Need-returns-2
 unfolding singleCopyMassTo
 returns-2 c =
-    let arm = c .before .before .before in
-    rw (arm .shelf .given .1, c .mix-shelf .ensures, c .before .log-shelf-mass .ensures, arm .before .before .log-nb-mass-to .ensures)
+    let after-log-nb-mass-to : tie.After-log-nb-mass-to = search in
+    let arm : tie.After-shelf = search in
+    rw (
+      arm .shelf .given .1,
+      c .mix-shelf .ensures,
+      c .before .log-shelf-mass .ensures,
+      after-log-nb-mass-to .log-nb-mass-to .ensures,
+    )
 
 pub single-copy-log-mass-to-spec : {M : Type 1} → statement M
 single-copy-log-mass-to-spec =

@@ -9,7 +9,9 @@ use Rattle.helpers.proofs.mixtures.entry_of.Statement.{statement}
 use Rattle.helpers.proofs.mixtures.entry_of.Tie as tie
 
 returns : tie.Need-returns
-returns c = let a = c .before .before .args in getD-any (a .table .now) (a .n) nan (inf true) (c .before .if1 .taken)
+returns c =
+    let s : tie.Start = search in
+    let a = s .args in getD-any (a .table .now) (a .n) nan (inf true) (c .before .if1 .taken)
 
 returns-2 : tie.Need-returns-2
 unfolding div neg ofBits

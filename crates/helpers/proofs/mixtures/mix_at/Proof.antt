@@ -5,7 +5,7 @@ use Rattle.helpers.proofs.mixtures.mix_at.Tie as tie
 
 returns-2 : tie.Need-returns-2
 returns-2 c =
-    let called = c .before .before .before in
+    let called : tie.After-entry-of = search in
     rw (called .before .enum-told2 .given .1, c .lse2 .ensures, called .entry-of .ensures)
 
 pub mix-at-spec : {M : Type 1} → statement M

@@ -5,7 +5,7 @@ use Rattle.helpers.proofs.mixtures.mix_mass.Tie as tie
 
 returns-2 : tie.Need-returns-2
 returns-2 c =
-    let called = c .before .before .before in
+    let called : tie.After-log-shelf-mass = search in
     rw (called .before .enum-told2 .given .1, c .lse2 .ensures, called .log-shelf-mass .ensures)
 
 pub mix-mass-spec : {M : Type 1} → statement M

@@ -51,14 +51,15 @@ loop-less c = omega arith
 
 loop-again : tie.Need-loop-again Inv-loop μ-loop
 loop-again c =
+    let l : tie.At-loop Inv-loop μ-loop = search in
     let first = c .before in
     let sums = first .before in
-    let kept2 = sums .before .before .before .before in
-    let kept1 = kept2 .before .before .before .before in
-    let growth2 = kept1 .before .before in
-    let growth1 = growth2 .before .before in
-    let log = growth1 .before .before in
-    let turn = log .before .before .loop in
+    let kept2 : tie.After-keep2 Inv-loop μ-loop = search in
+    let kept1 : tie.After-keep Inv-loop μ-loop = search in
+    let growth2 : tie.After-growth-of2 Inv-loop μ-loop = search in
+    let growth1 : tie.After-growth-of Inv-loop μ-loop = search in
+    let log : tie.After-log-at Inv-loop μ-loop = search in
+    let turn = l .loop in
     let inv = turn .inv in (
       sum-goes-on _ _ _ (inv .0) _ _ (omega arith) (sums .before .lse2 .ensures)
           (rw (first .ratio-with .ensures, growth1 .growth-of .ensures, log .log-at .ensures)),

@@ -13,9 +13,10 @@ returns c =
 returns-2 : tie.Need-returns-2
 unfolding lobeOf
 returns-2 c =
+    let else1 : tie.Else1 = search in
     let first = c .before in
     let logs = first .before in
-    rw (logs .before .before .if1 .left)
+    rw (else1 .if1 .left)
     (rw (c .binomial-lobe2 .ensures, first .binomial-lobe .ensures, logs .ln2 .ensures, logs .before .ln .ensures))
 
 pub lobes-of-spec : {M : Type 1} → statement M

@@ -15,14 +15,16 @@ use Rattle.helpers.proofs.prepared.gamma_at.Tie as tie
 returns : tie.Need-returns
 unfolding gammaWith
 returns c =
-    let a = c .before .before .before .args in
+    let s : tie.Start = search in
+    let a = s .args in
     getD-any (a .ready .now) (2 * a .n + 1) nan (lgammaWith (ofCount (a .n) ⊕ one) (a .log)) (c .before .if1 .taken)
 
 returns-2 : tie.Need-returns-2
 unfolding gammaWith
 returns-2 c =
-    let past = c .before .before in
-    c .lgamma-with .ensures ∙ sym (List·getD-eq-default (past .before .before .args .ready .now) _ (past .if1 .left))
+    let s : tie.Start = search in
+    let past : tie.Else1 = search in
+    c .lgamma-with .ensures ∙ sym (List·getD-eq-default (s .args .ready .now) _ (past .if1 .left))
 
 pub gamma-at-spec : {M : Type 1} → statement M
 gamma-at-spec =

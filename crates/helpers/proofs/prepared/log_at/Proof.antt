@@ -14,14 +14,16 @@ use Rattle.helpers.proofs.prepared.log_at.Tie as tie
 returns : tie.Need-returns
 unfolding lnAt
 returns c =
-    let a = c .before .before .before .args in
+    let s : tie.Start = search in
+    let a = s .args in
     getD-any (a .ready .now) (2 * a .n) nan (lnOf (ofCount (a .n))) (c .before .if1 .taken)
 
 returns-2 : tie.Need-returns-2
 unfolding lnAt
 returns-2 c =
-    let past = c .before .before in
-    c .ln .ensures ∙ sym (List·getD-eq-default (past .before .before .args .ready .now) _ (past .if1 .left))
+    let s : tie.Start = search in
+    let past : tie.Else1 = search in
+    c .ln .ensures ∙ sym (List·getD-eq-default (s .args .ready .now) _ (past .if1 .left))
 
 pub log-at-spec : {M : Type 1} → statement M
 log-at-spec =

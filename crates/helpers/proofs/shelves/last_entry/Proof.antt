@@ -10,14 +10,20 @@ use Rattle.helpers.proofs.shelves.last_entry.Tie as tie
 
 returns : tie.Need-returns
 unfolding lastOf
-returns c = rw (c .before .to-u64 .ensures, c .before .before .min .ensures)
+returns c = let after-min : tie.After-min = search in rw (c .before .to-u64 .ensures, after-min .min .ensures)
 
 returns-2 : tie.Need-returns-2
 unfolding lastOf
 returns-2 c =
-    let args = c .before .before .before .before .args in
+    let after-to-u64 = c .before in
+    let after-min : tie.After-min = search in
+    let s : tie.Start = search in
+    let args = s .args in
     let few : lastOf (args .trials) (args .top) ≤ args .top = last-few (args .trials) (args .top) (omega arith) in
-    let cut : c .before .to-u64 .result ≡ lastOf (args .trials) (args .top) = rw (c .before .to-u64 .ensures, c .before .before .min .ensures) in
+    let cut : after-to-u64 .to-u64 .result ≡ lastOf (args .trials) (args .top) = rw (
+      after-to-u64 .to-u64 .ensures,
+      after-min .min .ensures,
+    ) in
     omega (arith, c .if1 .left)
 
 pub last-entry-spec : {M : Type 1} → statement M

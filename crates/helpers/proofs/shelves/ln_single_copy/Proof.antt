@@ -9,13 +9,23 @@ enum-told c = search needs
 
 returns : tie.Need-returns
 unfolding lnSingleCopyOf
-returns c = rw (c .enum-told .given .1) (c .before .before .ln-dnbinom .ensures)
+returns c =
+    let after-ln-dnbinom : tie.After-ln-dnbinom = search in
+    rw (c .enum-told .given .1) (after-ln-dnbinom .ln-dnbinom .ensures)
 
 returns-2 : tie.Need-returns-2
 unfolding lnSingleCopyOf
 returns-2 c =
-    let arm = c .before .before .before .before in
-    rw (arm .shelf .given .1, c .mix-shelf .ensures, c .before .ln-dbetabinom .ensures, c .before .before .shelf-trials .ensures, arm .before .before .ln-dnbinom .ensures)
+    let after-shelf-trials : tie.After-shelf-trials = search in
+    let after-ln-dnbinom : tie.After-ln-dnbinom = search in
+    let arm : tie.After-shelf = search in
+    rw (
+      arm .shelf .given .1,
+      c .mix-shelf .ensures,
+      c .before .ln-dbetabinom .ensures,
+      after-shelf-trials .shelf-trials .ensures,
+      after-ln-dnbinom .ln-dnbinom .ensures,
+    )
 
 pub ln-single-copy-spec : {M : Type 1} → statement M
 ln-single-copy-spec =

@@ -12,7 +12,9 @@ unfolding neg div ofBits
 returns c = rw (c .enum-told .given .1)
 
 returns-2 : tie.Need-returns-2
-returns-2 c = rw (c .before .before .before .before .shelf .given .1, c .ln2 .ensures, c .before .ln .ensures)
+returns-2 c =
+    let after-shelf : tie.After-shelf = search in
+    rw (after-shelf .shelf .given .1, c .ln2 .ensures, c .before .ln .ensures)
 
 pub shelf-logs-spec : {M : Type 1} → statement M
 shelf-logs-spec =

@@ -6,7 +6,15 @@ use Rattle.helpers.proofs.shelves.table_start.Tie as tie
 
 returns : tie.Need-returns
 unfolding tableStart
-returns c = rw (c .lgamma4 .ensures, c .before .lgamma3 .ensures, c .before .before .lgamma2 .ensures, c .before .before .before .lgamma .ensures)
+returns c =
+    let after-lgamma2 : tie.After-lgamma2 = search in
+    let after-lgamma : tie.After-lgamma = search in
+    rw (
+      c .lgamma4 .ensures,
+      c .before .lgamma3 .ensures,
+      after-lgamma2 .lgamma2 .ensures,
+      after-lgamma .lgamma .ensures,
+    )
 
 pub table-start-spec : {M : Type 1} → statement M
 table-start-spec =

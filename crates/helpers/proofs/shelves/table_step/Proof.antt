@@ -6,7 +6,10 @@ use Rattle.helpers.proofs.shelves.table_step.Tie as tie
 
 returns : tie.Need-returns
 unfolding tableStep
-returns c = rw (c .ln4 .ensures, c .before .ln3 .ensures, c .before .before .ln2 .ensures, c .before .before .before .ln .ensures)
+returns c =
+    let after-ln2 : tie.After-ln2 = search in
+    let after-ln : tie.After-ln = search in
+    rw (c .ln4 .ensures, c .before .ln3 .ensures, after-ln2 .ln2 .ensures, after-ln .ln .ensures)
 
 pub table-step-spec : {M : Type 1} → statement M
 table-step-spec =

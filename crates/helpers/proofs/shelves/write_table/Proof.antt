@@ -19,7 +19,9 @@ abbrev μ-loop : tie.MeasureT-loop
 μ-loop trials alpha beta last table₀ entry₀ x₀ table entry x = last - x
 
 loop-holds : tie.Need-loop-holds Inv-loop μ-loop
-loop-holds c = (zero-le, refl, c .before .before .pre, c .table-start .ensures ∙ entry-first _ _ _, table-none _ _ _ _)
+loop-holds c =
+    let s : tie.Start Inv-loop μ-loop = search in
+    (zero-le, refl, s .pre, c .table-start .ensures ∙ entry-first _ _ _, table-none _ _ _ _)
 
 slice-write-table : tie.Need-slice-write-table Inv-loop μ-loop
 slice-write-table c = omega arith
@@ -32,7 +34,8 @@ loop-less c = omega arith
 
 loop-again : tie.Need-loop-again Inv-loop μ-loop
 loop-again c =
-    let inv = c .before .before .before .loop .inv in (
+    let l : tie.At-loop Inv-loop μ-loop = search in
+    let inv = l .loop .inv in (
       omega arith,
       simp length-set (inv .1),
       inv .2,
@@ -45,10 +48,12 @@ slice-write-table-2 c = omega arith
 
 returns : tie.Need-returns Inv-loop μ-loop
 returns c =
-    let inv = c .before .loop .inv in
-    let a = c .before .before .before .before .args in
-    let done : c .before .loop .x ≡ a .last = omega arith in
-    table-more (a .trials) (a .alpha) (a .beta) (a .last) (a .table .now) (c .before .loop .table) (c .before .loop .entry)
+    let l = c .before in
+    let s : tie.Start Inv-loop μ-loop = search in
+    let inv = l .loop .inv in
+    let a = s .args in
+    let done : l .loop .x ≡ a .last = omega arith in
+    table-more (a .trials) (a .alpha) (a .beta) (a .last) (a .table .now) (l .loop .table) (l .loop .entry)
     (inv .4 ∙ ap (λ (k : ℕ). over (tableOf (a .trials) (a .alpha) (a .beta) k) (a .table .now)) done) (inv .2) (inv .3 ∙ ap (entryOf (a .trials) (a .alpha) (a .beta)) done)
 
 pub write-table-spec : {M : Type 1} → statement M

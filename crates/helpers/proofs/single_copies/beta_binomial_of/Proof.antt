@@ -5,9 +5,10 @@ use Rattle.helpers.proofs.single_copies.beta_binomial_of.Tie as tie
 
 returns : tie.Need-returns
 returns c =
-    let third = c .before .before in
+    let after-lgamma : tie.After-lgamma = search in
+    let third : tie.After-lgamma3 = search in
     rw (c .lgamma5 .ensures, c .before .lgamma4 .ensures, third .lgamma3 .ensures)
-    (rw (third .before .lgamma2 .ensures, third .before .before .lgamma .ensures))
+    (rw (third .before .lgamma2 .ensures, after-lgamma .lgamma .ensures))
 
 pub beta-binomial-of-spec : {M : Type 1} → statement M
 beta-binomial-of-spec =

@@ -12,10 +12,11 @@ returns c = rw (c .if1 .taken)
 returns-2 : tie.Need-returns-2
 unfolding betaDensityOf
 returns-2 c =
-    let third = c .before .before in
-    let second = third .before .before .before in
-    let first = second .before .before in
-    rw (first .before .before .before .if1 .left)
+    let else1 : tie.Else1 = search in
+    let third : tie.After-lgamma3 = search in
+    let second : tie.After-lgamma2 = search in
+    let first : tie.After-lgamma = search in
+    rw (else1 .if1 .left)
     (rw (third .lgamma3 .ensures, second .lgamma2 .ensures, first .lgamma .ensures))
 
 pub beta-density-spec : {M : Type 1} → statement M

@@ -5,7 +5,8 @@ use Rattle.helpers.proofs.single_copies.beta_part.Tie as tie
 
 returns-2 : tie.Need-returns-2
 returns-2 c =
-    rw (c .before .before .before .shelf .given .1, c .beta-binomial-of .ensures, c .before .shelf-trials .ensures)
+    let after-shelf : tie.After-shelf = search in
+    rw (after-shelf .shelf .given .1, c .beta-binomial-of .ensures, c .before .shelf-trials .ensures)
 
 pub beta-part-spec : {M : Type 1} → statement M
 beta-part-spec =

@@ -6,7 +6,9 @@ use Rattle.helpers.proofs.single_copies.single_copy_of.Tie as tie
 
 returns : tie.Need-returns
 unfolding singleCopyOf
-returns c = rw (c .beta-part .ensures, c .before .shelf-logs .ensures, c .before .before .lobe-of .ensures)
+returns c =
+    let after-lobe-of : tie.After-lobe-of = search in
+    rw (c .beta-part .ensures, c .before .shelf-logs .ensures, after-lobe-of .lobe-of .ensures)
 
 pub single-copy-of-spec : {M : Type 1} → statement M
 single-copy-of-spec = tie.close (tie.spec (λ c κs. search needs) (λ c κs. search needs) (λ c κs. search needs) returns)

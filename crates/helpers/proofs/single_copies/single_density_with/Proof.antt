@@ -9,14 +9,17 @@ enum-told c = search needs
 
 returns : tie.Need-returns
 unfolding singleDensityWith
-returns c = rw (c .enum-told .given .1) (c .before .before .density-with .ensures)
+returns c =
+    let after-density-with : tie.After-density-with = search in
+    rw (c .enum-told .given .1) (after-density-with .density-with .ensures)
 
 returns-2 : tie.Need-returns-2
 unfolding singleDensityWith
 returns-2 c =
-    let shelf = c .before .before in
-    let arm = shelf .before .before .before in
-    rw (arm .beta .given .1, c .lse2 .ensures, shelf .beta-density .ensures, arm .before .before .density-with .ensures)
+    let after-density-with : tie.After-density-with = search in
+    let shelf : tie.After-beta-density = search in
+    let arm : tie.After-beta = search in
+    rw (arm .beta .given .1, c .lse2 .ensures, shelf .beta-density .ensures, after-density-with .density-with .ensures)
 
 pub single-density-with-spec : {M : Type 1} → statement M
 single-density-with-spec =

@@ -28,18 +28,28 @@ returns : tie.Need-returns
 returns c = let a = c .before .args in sym (only-one (a .least) (a .most) (a .value) (a .byte) (omega arith) (λ (_ : a .byte ≡ 1). omega arith))
 
 returns-2 : tie.Need-returns-2
-returns-2 c = let a = c .before .before .args in sym (only-one (a .least) (a .most) (a .value) (a .byte) (omega arith) (λ (e : a .byte ≡ 1). absurd (c .if2 .taken e)))
+returns-2 c =
+    let s : tie.Start = search in
+    let a = s .args in sym (only-one (a .least) (a .most) (a .value) (a .byte) (omega arith)
+    (λ (e : a .byte ≡ 1). absurd (c .if2 .taken e)))
 
 returns-3 : tie.Need-returns-3
-returns-3 c = let a = c .before .before .before .args in sym (only-one (a .least) (a .most) (a .value) (a .byte) (omega arith) (λ (_ : a .byte ≡ 1). omega arith))
+returns-3 c =
+    let s : tie.Start = search in
+    let a = s .args in sym (only-one (a .least) (a .most) (a .value) (a .byte) (omega arith)
+    (λ (_ : a .byte ≡ 1). omega arith))
 
 -- ---- a 1
 returns-4 : tie.Need-returns-4
-returns-4 c = let a = c .before .before .before .before .args in sym (takes.below-range (between (a .least) (a .most)) (a .value) 9 (a .byte) (omega arith) (omega arith))
+returns-4 c =
+    let s : tie.Start = search in
+    let a = s .args in sym (takes.below-range (between (a .least) (a .most)) (a .value) 9 (a .byte) (omega arith)
+    (omega arith))
 
 returns-5 : tie.Need-returns-5
 returns-5 c =
-    let a = c .before .before .before .before .args in
+    let s : tie.Start = search in
+    let a = s .args in
     let e : a .value + 2 ^ 63 ≡ withGroup (a .value) 9 (a .byte) = omega arith in
     ap Taken.Whole e ∙ sym (takes.ends (between (a .least) (a .most)) (a .value) 9 (a .byte) (omega arith) (λ (z : a .byte ≡ 0) (_ : 0 < 9). omega arith) (omega arith) (omega arith))
 

@@ -10,8 +10,9 @@ use Rattle.histogram.proofs.reader.bin_at.Tie as tie
 
 returns : tie.Need-returns
 returns c =
-    let o = c .before .before in
-    let a = o .before .before .args in
+    let s : tie.Start = search in
+    let o : tie.Then1 = search in
+    let a = s .args in
     let h : getD (a .file .now) (a .at) 0 ≤ 4294967295 = omega arith in
     sym (one-byte 4294967295 (a .file .now) (a .at) (o .if1 .taken) (c .if2 .taken) h)
 

@@ -41,7 +41,7 @@ loop-less c = omega arith
 
 loop-again : tie.Need-loop-again Inv-loop μ-loop
 loop-again c =
-    let l = c .before .before in
+    let l : tie.At-loop Inv-loop μ-loop = search in
     let a = l .before .args in
     let k = l .loop .k in
     let v = getD (a .held .now) k 0 in (
@@ -52,9 +52,6 @@ loop-again c =
           ∙ ap (λ (xs : List ℕ). over xs (a .bins .now)) (sym (take-suc (a .held .now) k 0 (omega arith)) ∙ ap (λ (j : ℕ). take j (a .held .now)) (sym (add-one k))),
     )
 
-same-length : tie.Need-same-length Inv-loop μ-loop
-same-length c = c .before .loop .inv .1
-
 returns : tie.Need-returns Inv-loop μ-loop
 returns c =
     let l = c .before in
@@ -64,4 +61,6 @@ returns c =
 
 pub copy-bins-spec : {M : Type 1} → statement M
 copy-bins-spec =
-    tie.close (tie.spec Inv-loop μ-loop loop-holds mul-bins shared-slice-read-bins mul-bins-2 slice-write-bins add-k loop-less loop-again same-length returns)
+    tie.close
+    (tie.spec Inv-loop μ-loop loop-holds mul-bins shared-slice-read-bins mul-bins-2 slice-write-bins add-k loop-less
+    loop-again (λ c. search needs) returns)

@@ -19,10 +19,10 @@ abbrev held : tie.After-read-bins → List ℕ
 held r = r .read-bins .last .1 .1 .1 .0
 
 abbrev start : tie.After-read-bins → tie.Start
-start r = r .before .before .before .before .before
+start r = search
 
 abbrev reading : tie.After-in-room → tie.After-read-bins
-reading c = c .before .before .before
+reading c = search
 
 -- what reading the bins gives
 abbrev given : tie.Start → Reply (List ℕ)
@@ -45,13 +45,13 @@ kept-room : (c : tie.After-in-room) → keptOf (c .in-room .result) ≤ room (st
 kept-room c = let r = reading c in let s = start r in kept-fits (c .in-room .result) (held r) (room s) (given s) (kept-held c) (says c)
 
 copy-bins-requires : tie.Need-copy-bins-requires
-copy-bins-requires c κs = let k = c .before .before .before in rw (c .before .kept .ensures) (kept-held k, kept-room k)
+copy-bins-requires c κs = let k : tie.After-in-room = search in rw (c .before .kept .ensures) (kept-held k, kept-room k)
 
 returns : tie.Need-returns
 returns c =
-    let copied = c .before .before in
-    let counting = copied .before .before in
-    let k = counting .before .before in
+    let copied : tie.After-copy-bins = search in
+    let counting : tie.After-kept = search in
+    let k : tie.After-in-room = search in
     let h = held (reading k) in
     let b = start (reading k) .args .bins .now in (
       says-counted (k .in-room .result) h (kept-held k) ∙ ap counted (says k),

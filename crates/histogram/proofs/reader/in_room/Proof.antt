@@ -14,13 +14,25 @@ enum-told c = search needs
 
 returns : tie.Need-returns
 returns c =
-    let g = c .before .before .read .given in
-    rw (g .1) (zero-le, λ (held : List ℕ) (h : g .0 .0 ≤ length held). sym (no-room (c .before .before .before .before .args .room) (g .0 .0) held h (c .if1 .taken)))
+    let after-read : tie.After-read = search in
+    let s : tie.Start = search in
+    let g = after-read .read .given in
+    rw (g .1) (
+      zero-le,
+      λ (held : List ℕ) (h : g .0 .0 ≤ length held). sym (no-room (s .args .room) (g .0 .0) held h
+          (c .if1 .taken)),
+    )
 
 returns-2 : tie.Need-returns-2
 returns-2 c =
-    let g = c .before .before .read .given in
-    rw (g .1) (le-refl (g .0 .0), λ (held : List ℕ) (h : g .0 .0 ≤ length held). sym (has-room (c .before .before .before .before .args .room) (g .0 .0) held h (c .if1 .left)))
+    let after-read : tie.After-read = search in
+    let s : tie.Start = search in
+    let g = after-read .read .given in
+    rw (g .1) (
+      le-refl (g .0 .0),
+      λ (held : List ℕ) (h : g .0 .0 ≤ length held). sym (has-room (s .args .room) (g .0 .0)
+          held h (c .if1 .left)),
+    )
 
 returns-3 : tie.Need-returns-3
 returns-3 c = rw (c .enum-told .given .1) (zero-le, λ (held : List ℕ) (h : 0 ≤ length held). refl)

@@ -25,17 +25,20 @@ abbrev μ-loop : tie.MeasureT-loop
 μ-loop file first n held₀ at₀ k₀ held at k = n - k
 
 abbrev at-loop : tie.After-bin-at Inv-loop μ-loop → tie.At-loop Inv-loop μ-loop
-at-loop c = c .before .before
+at-loop c = search
 
 -- what the number at the loop's place is
-number : (c : tie.After-bin-at Inv-loop μ-loop) (r : Number) → c .bin-at .result ≡ r → numberAtOf (between 0 4294967295) (at-loop c .before .before .before .args .file .now) (at-loop c .loop .at) ≡ numberSays r
+number : (c : tie.After-bin-at Inv-loop μ-loop) (r : Number) → let s : tie.Start Inv-loop μ-loop = search in
+    c .bin-at .result ≡ r → numberAtOf (between 0 4294967295) (s .args .file .now) (at-loop c .loop .at) ≡ numberSays r
 number c r e = sym (c .bin-at .ensures) ∙ ap numberSays e
 
 -- the last bin is read
-ended : (l : tie.At-loop Inv-loop μ-loop) → l .before .before .before .args .n ≤ l .loop .k →
-    (let a = l .before .before .before .args in readFrom (bins (a .n - l .loop .k) (take (l .loop .k) (l .loop .held))) (a .file .now) (l .loop .at) ≡ readFrom (bins 0 (take (a .n) (l .loop .held))) (a .file .now) (l .loop .at))
+ended : (l : tie.At-loop Inv-loop μ-loop) → let s : tie.Start Inv-loop μ-loop = search in s .args .n ≤ l .loop .k →
+    (let a = s .args in readFrom (bins (a .n - l .loop .k) (take (l .loop .k) (l .loop .held))) (a .file .now)
+    (l .loop .at) ≡ readFrom (bins 0 (take (a .n) (l .loop .held))) (a .file .now) (l .loop .at))
 ended l h =
-    let a = l .before .before .before .args in
+    let s : tie.Start Inv-loop μ-loop = search in
+    let a = s .args in
     let e : l .loop .k ≡ a .n = omega arith in
     let z : a .n - l .loop .k ≡ 0 = omega arith in
     rw (z, e)
@@ -49,21 +52,20 @@ enum-known-bin c = c .match .keys1
 enum-told : tie.Need-enum-told Inv-loop μ-loop
 enum-told c = c .match .keys2
 
-same-length : tie.Need-same-length Inv-loop μ-loop
-same-length c = at-loop (c .before .before) .loop .inv .1
-
 returns : tie.Need-returns Inv-loop μ-loop
 returns c =
-    let m = c .before .before in
+    let s : tie.Start Inv-loop μ-loop = search in
+    let m : tie.After-bin-at Inv-loop μ-loop = search in
     let l = at-loop m in
-    let a = l .before .before .before .args in
+    let a = s .args in
     (search needs, sym (l .loop .inv .2 ∙ bin-broken (a .n) (l .loop .k) (m .before .loop-test .taken) (take (l .loop .k) (l .loop .held)) (a .file .now) (l .loop .at) (c .enum-told .given .0 .0) (number m (Number.Broken (c .enum-told .given .0 .0)) (c .enum-told .given .1))))
 
 cast-held : tie.Need-cast-held Inv-loop μ-loop
 cast-held c =
-    let m = c .before .before .before in
+    let s : tie.Start Inv-loop μ-loop = search in
+    let m : tie.After-bin-at Inv-loop μ-loop = search in
     let l = at-loop m in
-    let a = l .before .before .before .args in
+    let a = s .args in
     let g = c .before .bin .given in
     let h : g .0 .0 ≤ 4294967295 = bin-fits (a .n) (l .loop .k) (m .before .loop-test .taken) [] (a .file .now) (l .loop .at) (record { value = g .0 .0; next = g .0 .1 .0 }) (number m (Number.Is (g .0 .0) (g .0 .1 .0)) (g .1)) in
     omega arith
@@ -73,9 +75,10 @@ slice-write-held c = omega arith
 
 loop-again : tie.Need-loop-again Inv-loop μ-loop
 loop-again c =
-    let m = c .before .before .before in
+    let s : tie.Start Inv-loop μ-loop = search in
+    let m : tie.After-bin-at Inv-loop μ-loop = search in
     let l = at-loop m in
-    let a = l .before .before .before .args in
+    let a = s .args in
     let g = c .before .bin .given in
     let k = l .loop .k in
     let held = l .loop .held in (
@@ -86,25 +89,27 @@ loop-again c =
           ∙ ap (λ (done : List ℕ). readFrom (bins (a .n - (k + 1)) done) (a .file .now) (g .0 .1 .0)) (sym (take-suc-set held k (g .0 .0) (omega arith)) ∙ ap (λ (j : ℕ). take j (set held k (g .0 .0))) (sym (add-one k))),
     )
 
-same-length-2 : tie.Need-same-length-2 Inv-loop μ-loop
-same-length-2 c = c .before .before .loop .inv .1
-
 returns-2 : tie.Need-returns-2 Inv-loop μ-loop
 returns-2 c =
-    let l = c .before .before in
-    (search needs, sym (l .loop .inv .2 ∙ ended l (c .before .loop-test .left) ∙ trailing (take (l .before .before .before .args .n) (l .loop .held)) (l .before .before .before .args .file .now) (l .loop .at) (c .if1 .taken)))
-
-same-length-3 : tie.Need-same-length-3 Inv-loop μ-loop
-same-length-3 c = c .before .before .loop .inv .1
+    let s : tie.Start Inv-loop μ-loop = search in
+    let l : tie.At-loop Inv-loop μ-loop = search in (
+      search needs,
+      sym (l .loop .inv .2 ∙ ended l (c .before .loop-test .left)
+          ∙ trailing (take (s .args .n) (l .loop .held)) (s .args .file .now) (l .loop .at) (c .if1 .taken)),
+    )
 
 returns-3 : tie.Need-returns-3 Inv-loop μ-loop
 returns-3 c =
-    let l = c .before .before in
-    (search needs, sym (l .loop .inv .2 ∙ ended l (c .before .loop-test .left) ∙ all-read (take (l .before .before .before .args .n) (l .loop .held)) (l .before .before .before .args .file .now) (l .loop .at) (c .if1 .left)))
+    let s : tie.Start Inv-loop μ-loop = search in
+    let l : tie.At-loop Inv-loop μ-loop = search in (
+      search needs,
+      sym (l .loop .inv .2 ∙ ended l (c .before .loop-test .left)
+          ∙ all-read (take (s .args .n) (l .loop .held)) (s .args .file .now) (l .loop .at) (c .if1 .left)),
+    )
 
 pub read-bins-spec : {M : Type 1} → statement M
 read-bins-spec =
     tie.close
-    (tie.spec Inv-loop μ-loop loop-holds (λ c κs. search needs) enum-known-bin enum-told same-length returns cast-held
-    (λ c. search needs) slice-write-held (λ c. search needs) (λ c. search needs) loop-again same-length-2 returns-2
-    same-length-3 returns-3)
+    (tie.spec Inv-loop μ-loop loop-holds (λ c κs. search needs) enum-known-bin enum-told (λ c. search needs) returns
+    cast-held (λ c. search needs) slice-write-held (λ c. search needs) (λ c. search needs) loop-again
+    (λ c. search needs) returns-2 (λ c. search needs) returns-3)

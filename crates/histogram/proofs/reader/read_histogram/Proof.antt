@@ -31,68 +31,90 @@ enum-told c = search needs
 
 returns : tie.Need-returns
 returns c =
-    let m = c .before .before in
-    let a = m .before .before .before .args in
+    let s : tie.Start = search in
+    let m : tie.After-number-at = search in
+    let a = s .args in
     let g = c .enum-told .given in
     let e = form-broken (a .file .now) (g .0 .0) (sym (m .number-at .ensures) ∙ ap numberSays (g .1)) in
     (said (a .file .now) (a .bins .now) e, stands (a .file .now) (a .bins .now) e)
 
 -- the form is read
-on : (m : tie.After-known-told) → (let a = m .before .before .before .before .before .before .args in readOf (a .file .now) ≡ readFrom count (a .file .now) (m .before .form .given .0 .1 .0))
+on : (m : tie.After-known-told) → (let s : tie.Start = search in let a = s .args in
+    readOf (a .file .now) ≡ readFrom count (a .file .now) (m .before .form .given .0 .1 .0))
 on m =
-    let a = m .before .before .before .before .before .before .args in
+    let after-number-at : tie.After-number-at = search in
+    let s : tie.Start = search in
+    let a = s .args in
     let g = m .before .form .given in
-    form-read (a .file .now) (record { value = g .0 .0; next = g .0 .1 .0 }) (sym (m .before .before .before .number-at .ensures) ∙ ap numberSays (g .1))
+    form-read (a .file .now) (record { value = g .0 .0; next = g .0 .1 .0 }) (sym (after-number-at .number-at .ensures)
+    ∙ ap numberSays (g .1))
 
 returns-2 : tie.Need-returns-2
 unfolding mostBins
 returns-2 c =
-    let m = c .before .before in
-    let a = m .before .before .before .before .before .before .before .args in
+    let after-form : tie.After-form = search in
+    let s : tie.Start = search in
+    let m : tie.After-number-at2 = search in
+    let a = s .args in
     let g = c .enum-told2 .given in
-    let e = on (m .before) ∙ count-broken (a .file .now) (m .before .before .form .given .0 .1 .0) (g .0 .0) (sym (m .number-at2 .ensures) ∙ ap numberSays (g .1)) in
+    let e = on (m .before) ∙ count-broken (a .file .now) (after-form .form .given .0 .1 .0) (g .0 .0)
+    (sym (m .number-at2 .ensures) ∙ ap numberSays (g .1)) in
     (said (a .file .now) (a .bins .now) e, stands (a .file .now) (a .bins .now) e)
+
+abbrev start : tie.After-known-told2 → tie.Start
+start c = search
+
+abbrev after-form : tie.After-known-told2 → tie.After-form
+after-form c = search
 
 -- the bin count
 number : (m : tie.After-known-told2) →
-    (let a = m .before .before .before .before .before .before .before .before .before .before .args in
+    (let a = start m .args in
     let g = m .before .count .given in
-    numberAtOf (between 2 mostBins) (a .file .now) (m .before .before .before .before .before .form .given .0 .1 .0) ≡ numberSays (Number.Is (g .0 .0) (g .0 .1 .0)))
+    numberAtOf (between 2 mostBins) (a .file .now) (after-form m .form .given .0 .1 .0)
+    ≡ numberSays (Number.Is (g .0 .0) (g .0 .1 .0)))
 unfolding mostBins
-number m = sym (m .before .before .before .number-at2 .ensures) ∙ ap numberSays (m .before .count .given .1)
+number m =
+    let after-number-at2 : tie.After-number-at2 = search in
+    sym (after-number-at2 .number-at2 .ensures) ∙ ap numberSays (m .before .count .given .1)
 
 few : (m : tie.After-known-told2) → m .before .count .given .0 .0 ≤ mostBins
 few m =
-    let a = m .before .before .before .before .before .before .before .before .before .before .args in
+    let a = start m .args in
     let g = m .before .count .given in
-    count-fits (a .file .now) (m .before .before .before .before .before .form .given .0 .1 .0) (record { value = g .0 .0; next = g .0 .1 .0 }) (number m)
+    count-fits (a .file .now) (after-form m .form .given .0 .1 .0) (record { value = g .0 .0; next = g .0 .1 .0 })
+    (number m)
 
 -- and what the file reads as behind it
 behind : (m : tie.After-known-told2) →
-    (let a = m .before .before .before .before .before .before .before .before .before .before .args in
+    (let a = start m .args in
     let g = m .before .count .given in
     readOf (a .file .now) ≡ readFrom (Bins (g .0 .0) []) (a .file .now) (g .0 .1 .0))
 behind m =
-    let a = m .before .before .before .before .before .before .before .before .before .before .args in
+    let after-known-told : tie.After-known-told = search in
+    let a = start m .args in
     let g = m .before .count .given in
-    on (m .before .before .before .before) ∙ count-read (a .file .now) (m .before .before .before .before .before .form .given .0 .1 .0) (record { value = g .0 .0; next = g .0 .1 .0 }) (number m)
+    on after-known-told ∙ count-read (a .file .now) (after-form m .form .given .0 .1 .0)
+    (record { value = g .0 .0; next = g .0 .1 .0 }) (number m)
 
 returns-3 : tie.Need-returns-3
 returns-3 c =
-    let h = c .before .before .before in
-    let m = h .before .before .before .before in
-    let a = m .before .before .before .before .before .before .before .before .before .before .args in
+    let s : tie.Start = search in
+    let h : tie.After-hand-over = search in
+    let m : tie.After-known-told2 = search in
+    let a = s .args in
     (h .hand-over .ensures .0 ∙ said (a .file .now) (a .bins .now) (behind m), h .hand-over .ensures .1 ∙ stands (a .file .now) (a .bins .now) (behind m))
 
 hand-over-requires-2 : tie.Need-hand-over-requires-2
 unfolding mostBins
-hand-over-requires-2 c κs = few (c .before .before .before)
+hand-over-requires-2 c κs = let after-known-told2 : tie.After-known-told2 = search in few after-known-told2
 
 returns-4 : tie.Need-returns-4
 returns-4 c =
-    let h = c .before .before .before in
-    let m = h .before .before .before .before in
-    let a = m .before .before .before .before .before .before .before .before .before .before .args in
+    let s : tie.Start = search in
+    let h : tie.After-hand-over2 = search in
+    let m : tie.After-known-told2 = search in
+    let a = s .args in
     (h .hand-over2 .ensures .0 ∙ said (a .file .now) (a .bins .now) (behind m), h .hand-over2 .ensures .1 ∙ stands (a .file .now) (a .bins .now) (behind m))
 
 pub read-histogram-spec : {M : Type 1} → statement M

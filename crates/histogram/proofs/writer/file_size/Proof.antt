@@ -24,20 +24,27 @@ ten n h = bytes-few 9 n (omega arith)
 
 -- the size of the bin at the loop's place
 size : (c : tie.After-number-size2 Inv-loop μ-loop) →
-    (let l = c .before .before .before .before in let v = getD (l .before .before .before .args .bins .now) (l .loop .k) 0 in (c .number-size2 .result ≡ length (numberBytes v)) × (c .number-size2 .result ≤ 10))
+    (let s : tie.Start Inv-loop μ-loop = search in let l : tie.At-loop Inv-loop μ-loop = search in
+    let v = getD (s .args .bins .now) (l .loop .k) 0 in (c .number-size2 .result ≡ length (numberBytes v)) ×
+    (c .number-size2 .result ≤ 10))
 size c =
-    let l = c .before .before .before .before in
-    let v = getD (l .before .before .before .args .bins .now) (l .loop .k) 0 in
+    let after-shared-slice-known2 : tie.After-shared-slice-known2 Inv-loop μ-loop = search in
+    let s : tie.Start Inv-loop μ-loop = search in
+    let l : tie.At-loop Inv-loop μ-loop = search in
+    let v = getD (s .args .bins .now) (l .loop .k) 0 in
     let e : c .number-size2 .result ≡ length (numberBytes v) = c .number-size2 .ensures ∙ ap (λ (n : ℕ). length (numberBytes n)) (c .before .wide .ensures) in
-    let t = ten v (omega (arith, c .before .before .shared-slice-known2 .given (l .loop .k))) in
+    let t = ten v (omega (arith, after-shared-slice-known2 .shared-slice-known2 .given (l .loop .k))) in
     (e, omega arith)
 
 add-size : tie.Need-add-size Inv-loop μ-loop
-add-size c = let t = ten (length (c .before .before .args .bins .now)) (omega arith) in omega arith
+add-size c =
+    let s : tie.Start Inv-loop μ-loop = search in
+    let t = ten (length (s .args .bins .now)) (omega arith) in omega arith
 
 loop-holds : tie.Need-loop-holds Inv-loop μ-loop
 loop-holds c =
-    let xs = c .before .before .args .bins .now in
+    let s : tie.Start Inv-loop μ-loop = search in
+    let xs = s .args .bins .now in
     let t = ten (length xs) (omega arith) in
     let f = file-length xs in
     (omega arith, omega arith, omega arith)
@@ -48,8 +55,9 @@ add-size-2 c = let s = size c in omega arith
 
 loop-again : tie.Need-loop-again Inv-loop μ-loop
 loop-again c =
-    let l = c .before .before .before .before in
-    let xs = l .before .before .before .args .bins .now in
+    let start : tie.Start Inv-loop μ-loop = search in
+    let l : tie.At-loop Inv-loop μ-loop = search in
+    let xs = start .args .bins .now in
     let s = size c in
     let k = l .loop .k in
     let h : k < length xs = omega arith in
@@ -58,8 +66,9 @@ loop-again c =
 
 returns : tie.Need-returns Inv-loop μ-loop
 returns c =
+    let s : tie.Start Inv-loop μ-loop = search in
     let l = c .before in
-    let e = ap length (no-bytes-left (l .before .before .before .args .bins .now) (l .loop .k) (c .loop-test .left)) in
+    let e = ap length (no-bytes-left (s .args .bins .now) (l .loop .k) (c .loop-test .left)) in
     omega arith
 
 pub file-size-spec : {M : Type 1} → statement M

@@ -21,13 +21,13 @@ abbrev μ-loop : tie.MeasureT-loop
 μ-loop out₀ bins at₀ k₀ out at k = length bins - k
 
 abbrev xs : tie.At-loop Inv-loop μ-loop → List ℕ
-xs l = l .before .before .before .args .bins .now
+xs l = let s : tie.Start Inv-loop μ-loop = search in s .args .bins .now
 
 abbrev bin : tie.At-loop Inv-loop μ-loop → ℕ
 bin l = getD (xs l) (l .loop .k) 0
 
 abbrev b : tie.At-loop Inv-loop μ-loop → List ℕ
-b l = l .before .before .before .args .out .now
+b l = let s : tie.Start Inv-loop μ-loop = search in s .args .out .now
 
 abbrev rest : tie.At-loop Inv-loop μ-loop → List ℕ
 rest l = numbersBytes (drop (suc (l .loop .k)) (xs l))
@@ -43,13 +43,16 @@ next c =
     let l = c .before in
     subst (λ (r : List ℕ). Putting (numbersBytes (xs l)) (b l) (l .loop .out) r (l .loop .at)) (bytes-from (xs l) (l .loop .k) (c .loop-test .taken)) (l .loop .inv .1)
 
-inside : (c : tie.In-loop Inv-loop μ-loop) → c .before .loop .at + length (numberBytes (bin (c .before))) ≤ length (c .before .loop .out)
+inside : (c : tie.In-loop Inv-loop μ-loop) → let l = c .before in l .loop .at + length (numberBytes (bin l))
+    ≤ length (l .loop .out)
 inside c =
+    let s : tie.Start Inv-loop μ-loop = search in
     let l = c .before in
-    fits (numbersBytes (xs l)) (b l) (l .loop .out) (l .loop .at) (numberBytes (bin l)) (rest l) (next c) (l .before .before .before .pre)
+    fits (numbersBytes (xs l)) (b l) (l .loop .out) (l .loop .at) (numberBytes (bin l)) (rest l) (next c) (s .pre)
 
 -- the number of bytes that the call put
-size : (w : tie.After-put-number Inv-loop μ-loop) → w .put-number .result ≡ length (numberBytes (bin (w .before .before .before .before .before)))
+size : (w : tie.After-put-number Inv-loop μ-loop) → let l : tie.At-loop Inv-loop μ-loop = search in
+    w .put-number .result ≡ length (numberBytes (bin l))
 size w = w .put-number .ensures .0 ∙ ap (λ (n : ℕ). length (numberBytes n)) (w .before .wide .ensures)
 
 loop-holds : tie.Need-loop-holds Inv-loop μ-loop
@@ -63,24 +66,28 @@ part-put-number-start c = omega (arith, inside c)
 
 put-number-requires : tie.Need-put-number-requires Inv-loop μ-loop
 put-number-requires c κs =
-    let t = c .before .before .before in
+    let s : tie.Start Inv-loop μ-loop = search in
+    let t : tie.In-loop Inv-loop μ-loop = search in
     let l = t .before in
-    rw (c .wide .ensures) (room (numbersBytes (xs l)) (b l) (l .loop .out) (l .loop .at) (numberBytes (bin l)) (rest l) (next t) (l .before .before .before .pre))
+    rw (c .wide .ensures) (room (numbersBytes (xs l)) (b l) (l .loop .out) (l .loop .at) (numberBytes (bin l)) (rest l)
+    (next t) (s .pre))
 
 add-at : tie.Need-add-at Inv-loop μ-loop
-add-at c = let w = c .before .before in omega (arith, inside (w .before .before .before .before), size w, w .before .before .before .before .before .loop .inv .1 .same)
+add-at c =
+    let t : tie.In-loop Inv-loop μ-loop = search in
+    let l : tie.At-loop Inv-loop μ-loop = search in
+    let w : tie.After-put-number Inv-loop μ-loop = search in omega (arith, inside t, size w, l .loop .inv .1 .same)
 
 loop-again : tie.Need-loop-again Inv-loop μ-loop
 loop-again c =
-    let w = c .before .before in
-    let t = w .before .before .before .before in
+    let s : tie.Start Inv-loop μ-loop = search in
+    let w : tie.After-put-number Inv-loop μ-loop = search in
+    let t : tie.In-loop Inv-loop μ-loop = search in
     let l = t .before in
     let e : w .put-number .last .0 ≡ over (numberBytes (bin l)) (lent l) = w .put-number .ensures .1 ∙ ap (λ (n : ℕ). over (numberBytes n) (lent l)) (w .before .wide .ensures) in
-    let p = puts-all (numbersBytes (xs l)) (b l) (l .loop .out) (l .loop .at) (numberBytes (bin l)) (rest l) (next t) (l .before .before .before .pre) (w .put-number .last .0) (w .put-number .result) (size w) e in
+    let p = puts-all (numbersBytes (xs l)) (b l) (l .loop .out) (l .loop .at) (numberBytes (bin l)) (rest l) (next t)
+    (s .pre) (w .put-number .last .0) (w .put-number .result) (size w) e in
     (omega arith, rw (add-one (l .loop .k)) p)
-
-same-length : tie.Need-same-length Inv-loop μ-loop
-same-length c = c .before .loop .inv .1 .same
 
 returns : tie.Need-returns Inv-loop μ-loop
 returns c =
@@ -93,4 +100,4 @@ put-bins-spec =
     tie.close
     (tie.spec Inv-loop μ-loop loop-holds sub-put-number part-put-number-start (λ c. search needs) (λ c. search needs)
     (λ c. search needs) (λ c κs. search needs) put-number-requires add-at (λ c. search needs) (λ c. search needs)
-    loop-again same-length returns)
+    loop-again (λ c. search needs) returns)

@@ -33,7 +33,7 @@ at-count s = puts (writeOf (xs s)) (b s) (b s) 0 1 (numberBytes (length (xs s)) 
 
 -- ---- the bins
 abbrev start : tie.After-put-number → tie.Start
-start c = c .before .before .before .before
+start c = search
 
 abbrev head : tie.After-put-number → ℕ
 head c = 1 + c .put-number .result
@@ -52,7 +52,7 @@ bins-fit c = let s = start c in fits (writeOf (xs s)) (b s) (counted c) (head c)
 
 -- ---- the end
 abbrev to-count : tie.After-put-bins → tie.After-put-number
-to-count c = c .before .before .before .before
+to-count c = search
 
 at-end : (c : tie.After-put-bins) →
     (let k = to-count c in
@@ -72,41 +72,51 @@ all-put c =
     let s = start k in
     ends (writeOf (xs s)) (b s) (take (head k) (counted k) ++ (c .put-bins .last .0 ++ drop (length (counted k) - head k) (drop (head k) (counted k)))) (head k + c .put-bins .result) (at-end c)
 
+abbrev start-from-after-shared-slice-known : tie.After-shared-slice-known → tie.Start
+start-from-after-shared-slice-known c = search
+
 slice-write-out : tie.Need-slice-write-out
-slice-write-out c = omega (arith, form-fits (c .before .before))
+slice-write-out c = omega (arith, form-fits (start-from-after-shared-slice-known c))
 
 sub-put-number : tie.Need-sub-put-number
-sub-put-number c = let s = c .before .before in omega (arith, form-fits s, at-count s .same)
+sub-put-number c = let s = start-from-after-shared-slice-known c in omega (arith, form-fits s, at-count s .same)
 
 part-put-number-start : tie.Need-part-put-number-start
-part-put-number-start c = let s = c .before .before in omega (arith, form-fits s, at-count s .same)
+part-put-number-start c = let s = start-from-after-shared-slice-known c in omega (arith, form-fits s, at-count s .same)
 
 put-number-requires : tie.Need-put-number-requires
-put-number-requires c κs = let s = c .before .before .before in room (writeOf (xs s)) (b s) (set (b s) 0 1) 1 (numberBytes (length (xs s))) (numbersBytes (xs s)) (at-count s) (s .pre)
+put-number-requires c κs = let s : tie.Start = search in room (writeOf (xs s)) (b s) (set (b s) 0 1) 1
+    (numberBytes (length (xs s))) (numbersBytes (xs s)) (at-count s) (s .pre)
+
+abbrev after-put-number : tie.After-slice-known2 → tie.After-put-number
+after-put-number c = search
 
 add-head : tie.Need-add-head
-add-head c = let k = c .before .before in omega (arith, bins-fit k, at-bins k .same)
+add-head c = let k = after-put-number c in omega (arith, bins-fit k, at-bins k .same)
 
 sub-put-bins : tie.Need-sub-put-bins
-sub-put-bins c = omega (arith, bins-fit (c .before .before))
+sub-put-bins c = omega (arith, bins-fit (after-put-number c))
 
 part-put-bins-start : tie.Need-part-put-bins-start
-part-put-bins-start c = omega (arith, bins-fit (c .before .before))
+part-put-bins-start c = omega (arith, bins-fit (after-put-number c))
 
 put-bins-requires : tie.Need-put-bins-requires
 put-bins-requires c κs =
-    let k = c .before .before .before in
+    let k : tie.After-put-number = search in
     let s = start k in
     room (writeOf (xs s)) (b s) (counted k) (head k) (numbersBytes (xs s)) [] (at-bins k) (s .pre)
 
+abbrev after-put-bins : tie.After-slice-known3 → tie.After-put-bins
+after-put-bins c = search
+
 add-result : tie.Need-add-result
-add-result c = let p = c .before .before in omega (arith, all-put p .0, start (to-count p) .pre)
+add-result c = let p = after-put-bins c in omega (arith, all-put p .0, start (to-count p) .pre)
 
 same-length : tie.Need-same-length
-same-length c = at-end (c .before .before) .same
+same-length c = at-end (after-put-bins c) .same
 
 returns : tie.Need-returns
-returns c = all-put (c .before .before)
+returns c = all-put (after-put-bins c)
 
 pub put-file-spec : {M : Type 1} → statement M
 put-file-spec =

@@ -17,26 +17,46 @@ Inv-loop out₀ n left₀ at₀ out left at = Putting (numberBytes n) out₀ out
 abbrev μ-loop : tie.MeasureT-loop
 μ-loop out₀ n left₀ at₀ out left at = left
 
+abbrev start-from-in-loop : tie.In-loop Inv-loop μ-loop → tie.Start Inv-loop μ-loop
+start-from-in-loop c = search
+
 -- the next byte, in a turn and behind the loop
 next : (c : tie.In-loop Inv-loop μ-loop) →
-    (let l = c .before in Putting (numberBytes (l .before .args .n)) (l .before .args .out .now) (l .loop .out) ((128 + l .loop .left % 128) ∷ numberBytes (l .loop .left / 128)) (l .loop .at))
-next c = let l = c .before in subst (λ (rest : List ℕ). Putting (numberBytes (l .before .args .n)) (l .before .args .out .now) (l .loop .out) rest (l .loop .at)) (bytes-more (l .loop .left) (c .loop-test .taken)) (l .loop .inv)
+    (let l = c .before in Putting (numberBytes (start-from-in-loop c .args .n)) (start-from-in-loop c .args .out .now)
+    (l .loop .out) ((128 + l .loop .left % 128) ∷ numberBytes (l .loop .left / 128)) (l .loop .at))
+next c = let l = c .before in subst (λ (rest : List ℕ). Putting (numberBytes (start-from-in-loop c .args .n))
+    (start-from-in-loop c .args .out .now) (l .loop .out) rest (l .loop .at))
+    (bytes-more (l .loop .left) (c .loop-test .taken)) (l .loop .inv)
 
-last : (c : tie.After-loop Inv-loop μ-loop) → (let l = c .before in Putting (numberBytes (l .before .args .n)) (l .before .args .out .now) (l .loop .out) (l .loop .left ∷ []) (l .loop .at))
-last c = let l = c .before in subst (λ (rest : List ℕ). Putting (numberBytes (l .before .args .n)) (l .before .args .out .now) (l .loop .out) rest (l .loop .at)) (bytes-last (l .loop .left) (c .loop-test .left)) (l .loop .inv)
+abbrev start-from-after-loop : tie.After-loop Inv-loop μ-loop → tie.Start Inv-loop μ-loop
+start-from-after-loop c = search
 
-inside : (c : tie.In-loop Inv-loop μ-loop) → c .before .loop .at + 1 ≤ length (c .before .loop .out)
+last : (c : tie.After-loop Inv-loop μ-loop) → (let l = c .before in
+    Putting (numberBytes (start-from-after-loop c .args .n)) (start-from-after-loop c .args .out .now) (l .loop .out)
+    (l .loop .left ∷ []) (l .loop .at))
+last c = let l = c .before in subst (λ (rest : List ℕ). Putting (numberBytes (start-from-after-loop c .args .n))
+    (start-from-after-loop c .args .out .now) (l .loop .out) rest (l .loop .at))
+    (bytes-last (l .loop .left) (c .loop-test .left)) (l .loop .inv)
+
+inside : (c : tie.In-loop Inv-loop μ-loop) → let l = c .before in l .loop .at + 1 ≤ length (l .loop .out)
 inside c =
     let l = c .before in
-    fits (numberBytes (l .before .args .n)) (l .before .args .out .now) (l .loop .out) (l .loop .at) ((128 + l .loop .left % 128) ∷ []) (numberBytes (l .loop .left / 128)) (next c) (l .before .pre)
+    fits (numberBytes (start-from-in-loop c .args .n)) (start-from-in-loop c .args .out .now) (l .loop .out)
+    (l .loop .at) ((128 + l .loop .left % 128) ∷ []) (numberBytes (l .loop .left / 128)) (next c)
+    (start-from-in-loop c .pre)
 
-inside-last : (c : tie.After-loop Inv-loop μ-loop) → c .before .loop .at + 1 ≤ length (c .before .loop .out)
+inside-last : (c : tie.After-loop Inv-loop μ-loop) → let l = c .before in l .loop .at + 1 ≤ length (l .loop .out)
 inside-last c =
     let l = c .before in
-    fits (numberBytes (l .before .args .n)) (l .before .args .out .now) (l .loop .out) (l .loop .at) (l .loop .left ∷ []) [] (last c) (l .before .pre)
+    fits (numberBytes (start-from-after-loop c .args .n)) (start-from-after-loop c .args .out .now) (l .loop .out)
+    (l .loop .at) (l .loop .left ∷ []) [] (last c) (start-from-after-loop c .pre)
 
-put-last : (c : tie.After-loop Inv-loop μ-loop) → (let l = c .before in Putting (numberBytes (l .before .args .n)) (l .before .args .out .now) (set (l .loop .out) (l .loop .at) (l .loop .left)) [] (l .loop .at + 1))
-put-last c = let l = c .before in puts (numberBytes (l .before .args .n)) (l .before .args .out .now) (l .loop .out) (l .loop .at) (l .loop .left) [] (last c) (l .before .pre)
+put-last : (c : tie.After-loop Inv-loop μ-loop) → (let l = c .before in
+    Putting (numberBytes (start-from-after-loop c .args .n)) (start-from-after-loop c .args .out .now)
+    (set (l .loop .out) (l .loop .at) (l .loop .left)) [] (l .loop .at + 1))
+put-last c = let l = c .before in puts (numberBytes (start-from-after-loop c .args .n))
+    (start-from-after-loop c .args .out .now) (l .loop .out) (l .loop .at) (l .loop .left) [] (last c)
+    (start-from-after-loop c .pre)
 
 loop-holds : tie.Need-loop-holds Inv-loop μ-loop
 loop-holds c = begins _ _
@@ -59,7 +79,8 @@ loop-less c = omega arith
 loop-again : tie.Need-loop-again Inv-loop μ-loop
 loop-again c =
     let l = c .before in
-    puts (numberBytes (l .before .args .n)) (l .before .args .out .now) (l .loop .out) (l .loop .at) (128 + l .loop .left % 128) (numberBytes (l .loop .left / 128)) (next c) (l .before .pre)
+    puts (numberBytes (start-from-in-loop c .args .n)) (start-from-in-loop c .args .out .now) (l .loop .out)
+    (l .loop .at) (128 + l .loop .left % 128) (numberBytes (l .loop .left / 128)) (next c) (start-from-in-loop c .pre)
 
 cast-out-2 : tie.Need-cast-out-2 Inv-loop μ-loop
 cast-out-2 c = omega arith
@@ -76,7 +97,8 @@ same-length c = put-last c .same
 returns : tie.Need-returns Inv-loop μ-loop
 returns c =
     let l = c .before in
-    ends (numberBytes (l .before .args .n)) (l .before .args .out .now) (set (l .loop .out) (l .loop .at) (l .loop .left)) (l .loop .at + 1) (put-last c)
+    ends (numberBytes (start-from-after-loop c .args .n)) (start-from-after-loop c .args .out .now)
+    (set (l .loop .out) (l .loop .at) (l .loop .left)) (l .loop .at + 1) (put-last c)
 
 pub put-number-spec : {M : Type 1} → statement M
 put-number-spec =

@@ -19,7 +19,9 @@ loop-holds : tie.Need-loop-holds Inv-loop μ-loop
 loop-holds c = refl
 
 add-size : tie.Need-add-size Inv-loop μ-loop
-add-size c = let l = c .before in omega (arith, twenty (l .before .args .n) (l .before .good .0 .1))
+add-size c =
+    let s : tie.Start Inv-loop μ-loop = search in
+    omega (arith, twenty (s .args .n) (s .good .0 .1))
 
 loop-less : tie.Need-loop-less Inv-loop μ-loop
 loop-less c = omega arith

@@ -13,27 +13,28 @@ use Rattle.listing.proofs.text.list_refusal.Statement.{statement}
 use Rattle.listing.proofs.text.list_refusal.Tie as tie
 
 add-if1 : tie.Need-add-if1
-add-if1 c = let s = c .before .before in omega (arith, twenty (s .args .place) (s .good .0 .1))
+add-if1 c = let s : tie.Start = search in omega (arith, twenty (s .args .place) (s .good .0 .1))
 
 returns : tie.Need-returns
 returns c =
-    let s = c .before .before .before in
+    let s : tie.Start = search in
     rw (no-room-for-line (s .args .place) (length (s .args .out .now)) (omega (arith, refusal-length (s .args .place)))) (refl, refl)
 
 -- there is room for the line
-room : (c : tie.Else1) → (let s = c .before .before .before in length (refusalOf (s .args .place)) ≤ length (s .args .out .now))
-room c = let s = c .before .before .before in omega (arith, refusal-length (s .args .place))
+room : (c : tie.Else1) → (let s : tie.Start = search in
+    length (refusalOf (s .args .place)) ≤ length (s .args .out .now))
+room c = let s : tie.Start = search in omega (arith, refusal-length (s .args .place))
 
 put-line-requires : tie.Need-put-line-requires
 unfolding refusalOf
-put-line-requires c κs = room (c .before .before)
+put-line-requires c κs = let else1 : tie.Else1 = search in room else1
 
 returns-2 : tie.Need-returns-2
 unfolding refusalOf
 returns-2 c =
-    let p = c .before .before in
-    let e = p .before .before .before in
-    let s = e .before .before .before in
+    let p : tie.After-put-line = search in
+    let e : tie.Else1 = search in
+    let s : tie.Start = search in
     rw (line-written (s .args .place) (length (s .args .out .now)) (room e)) (ap give (p .put-line .ensures .0), p .put-line .ensures .1)
 
 pub list-refusal-spec : {M : Type 1} → statement M

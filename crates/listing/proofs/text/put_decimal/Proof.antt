@@ -19,7 +19,7 @@ abbrev μ-loop : tie.MeasureT-loop
 μ-loop out₀ n size left₀ at₀ out left at = left
 
 abbrev start : tie.At-loop Inv-loop μ-loop → tie.Start Inv-loop μ-loop
-start l = l .before .before .before
+start l = search
 
 abbrev whole : tie.At-loop Inv-loop μ-loop → List ℕ
 whole l = decimalOf (start l .args .n)
@@ -46,7 +46,8 @@ some l =
     (omega (arith, l .loop .inv .ahead), omega (arith, start l .pre))
 
 loop-holds : tie.Need-loop-holds Inv-loop μ-loop
-loop-holds c = let s = c .before .before in rw (c .decimal-size .ensures) (begins (decimalOf (s .args .n)) (s .args .out .now) (s .pre))
+loop-holds c = let s : tie.Start Inv-loop μ-loop = search in
+    rw (c .decimal-size .ensures) (begins (decimalOf (s .args .n)) (s .args .out .now) (s .pre))
 
 sub-at : tie.Need-sub-at Inv-loop μ-loop
 sub-at c = omega (arith, some (c .before) .0)
@@ -58,7 +59,7 @@ cast-out : tie.Need-cast-out Inv-loop μ-loop
 cast-out c = omega arith
 
 slice-write-out : tie.Need-slice-write-out Inv-loop μ-loop
-slice-write-out c = omega (arith, some (c .before) .0, some (c .before) .1)
+slice-write-out c = let l = c .before in omega (arith, some l .0, some l .1)
 
 loop-less : tie.Need-loop-less Inv-loop μ-loop
 loop-less c = omega arith
@@ -75,7 +76,7 @@ cast-out-2 : tie.Need-cast-out-2 Inv-loop μ-loop
 cast-out-2 c = omega arith
 
 slice-write-out-2 : tie.Need-slice-write-out-2 Inv-loop μ-loop
-slice-write-out-2 c = omega (arith, some (c .before) .0, some (c .before) .1)
+slice-write-out-2 c = let l = c .before in omega (arith, some l .0, some l .1)
 
 same-length : tie.Need-same-length Inv-loop μ-loop
 same-length c = let l = c .before in same (whole l) (b l) (start l .pre) (set (l .loop .out) 0 (digitOf (l .loop .left))) 0 [] (put-first c)

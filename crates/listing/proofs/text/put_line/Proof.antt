@@ -30,7 +30,7 @@ long s = s .pre
 
 -- ---- behind the word
 abbrev start : tie.After-put-word → tie.Start
-start w = w .before .before .before .before
+start w = search
 
 abbrev worded : tie.After-put-word → List ℕ
 worded w = w .put-word .last .0
@@ -43,7 +43,7 @@ digits-fit w = let s = start w in fits (line s) (b s) (worded w) (w .put-word .r
 
 -- ---- behind the digits
 abbrev to-word : tie.After-put-decimal → tie.After-put-word
-to-word d = d .before .before .before .before
+to-word d = search
 
 abbrev place : tie.After-put-decimal → ℕ
 place d = to-word d .put-word .result + d .put-decimal .result
@@ -68,35 +68,39 @@ at-end : (d : tie.After-put-decimal) → (let s = start (to-word d) in Putting (
 at-end d = let s = start (to-word d) in puts (line s) (b s) (numbered d) (place d) 10 [] (at-newline d) (long s)
 
 put-word-requires : tie.Need-put-word-requires
-put-word-requires c κs = let s = c .before .before .before in first-fits (word s) (digits s ++ ascii "\n") (b s) (long s)
+put-word-requires c κs = let s : tie.Start = search in first-fits (word s) (digits s ++ ascii "\n") (b s) (long s)
 
 sub-put-decimal : tie.Need-sub-put-decimal
-sub-put-decimal c = omega (arith, digits-fit (c .before .before))
+sub-put-decimal c = let after-put-word : tie.After-put-word = search in omega (arith, digits-fit after-put-word)
 
 part-put-decimal-start : tie.Need-part-put-decimal-start
-part-put-decimal-start c = omega (arith, digits-fit (c .before .before))
+part-put-decimal-start c = let after-put-word : tie.After-put-word = search in omega (arith, digits-fit after-put-word)
 
 put-decimal-requires : tie.Need-put-decimal-requires
 put-decimal-requires c κs =
-    let w = c .before .before .before in
+    let w : tie.After-put-word = search in
     let s = start w in
     room (line s) (b s) (worded w) (w .put-word .result) (digits s) (ascii "\n") (at-digits w) (long s)
 
+abbrev after-put-decimal : tie.After-slice-known3 → tie.After-put-decimal
+after-put-decimal c = search
+
 add-end : tie.Need-add-end
-add-end c = let d = c .before .before in omega (arith, newline-fits d, at-newline d .same)
+add-end c = let d = after-put-decimal c in omega (arith, newline-fits d, at-newline d .same)
 
 slice-write-out : tie.Need-slice-write-out
-slice-write-out c = omega (arith, newline-fits (c .before .before))
+slice-write-out c = omega (arith, newline-fits (after-put-decimal c))
 
 add-result : tie.Need-add-result
-add-result c = let d = c .before .before in omega (arith, newline-fits d, at-newline d .same)
+add-result c = let d = after-put-decimal c in omega (arith, newline-fits d, at-newline d .same)
 
 same-length : tie.Need-same-length
-same-length c = at-end (c .before .before) .same
+same-length c = at-end (after-put-decimal c) .same
 
 returns : tie.Need-returns
 unfolding lineOf
-returns c = let d = c .before .before in let s = start (to-word d) in ends (line s) (b s) (set (numbered d) (place d) 10) (place d + 1) (at-end d)
+returns c = let d = after-put-decimal c in let s = start (to-word d) in
+    ends (line s) (b s) (set (numbered d) (place d) 10) (place d + 1) (at-end d)
 
 pub put-line-spec : {M : Type 1} → statement M
 put-line-spec =

@@ -20,35 +20,38 @@ long : (s : tie.Start) → length (front s ++ line s) ≤ length (s .args .out .
 unfolding rowOf
 long s = s .pre
 
-inside : (c : tie.After-put-decimal) → (let s = c .before .before .before in c .put-decimal .result + length (line s) ≤ length (c .put-decimal .last .0))
+inside : (c : tie.After-put-decimal) → (let s : tie.Start = search in
+    c .put-decimal .result + length (line s) ≤ length (c .put-decimal .last .0))
 inside c =
-    let s = c .before .before .before in
+    let s : tie.Start = search in
     fits (front s) (line s) (s .args .out .now) (long s) (c .put-decimal .last .0) (c .put-decimal .result) (c .put-decimal .ensures .0) (c .put-decimal .ensures .1)
 
 put-decimal-requires : tie.Need-put-decimal-requires
-put-decimal-requires c κs = let s = c .before .before in first-fits (front s) (line s) (s .args .out .now) (long s)
+put-decimal-requires c κs = let s : tie.Start = search in first-fits (front s) (line s) (s .args .out .now) (long s)
 
 sub-put-line : tie.Need-sub-put-line
-sub-put-line c = omega (arith, inside (c .before .before))
+sub-put-line c = let after-put-decimal : tie.After-put-decimal = search in omega (arith, inside after-put-decimal)
 
 part-put-line-start : tie.Need-part-put-line-start
-part-put-line-start c = omega (arith, inside (c .before .before))
+part-put-line-start c =
+    let after-put-decimal : tie.After-put-decimal = search in
+    omega (arith, inside after-put-decimal)
 
 put-line-requires : tie.Need-put-line-requires
 put-line-requires c κs =
-    let p = c .before .before .before .before in
-    let s = p .before .before .before in
+    let p : tie.After-put-decimal = search in
+    let s : tie.Start = search in
     room (front s) (line s) (s .args .out .now) (long s) (p .put-decimal .last .0) (p .put-decimal .result) (p .put-decimal .ensures .0) (p .put-decimal .ensures .1)
 
 add-result : tie.Need-add-result
-add-result c = let p = c .before .before .before .before .before .before .before in omega (arith, inside p)
+add-result c = let p : tie.After-put-decimal = search in omega (arith, inside p)
 
 returns : tie.Need-returns
 unfolding rowOf
 returns c =
-    let l = c .before .before in
-    let p = l .before .before .before .before .before in
-    let s = p .before .before .before in
+    let l : tie.After-put-line = search in
+    let p : tie.After-put-decimal = search in
+    let s : tie.Start = search in
     puts-rest (front s) (line s) (s .args .out .now) (long s) (p .put-decimal .last .0) (p .put-decimal .result) (p .put-decimal .ensures .0) (p .put-decimal .ensures .1)
     (l .put-line .last .0) (l .put-line .result) (l .put-line .ensures .0) (l .put-line .ensures .1)
 

@@ -21,7 +21,7 @@ abbrev μ-loop : tie.MeasureT-loop
 μ-loop out₀ bins at₀ k₀ out at k = length bins - k
 
 abbrev start : tie.At-loop Inv-loop μ-loop → tie.Start Inv-loop μ-loop
-start l = l .before .before .before
+start l = search
 
 abbrev xs : tie.At-loop Inv-loop μ-loop → List ℕ
 xs l = start l .args .bins .now
@@ -43,41 +43,42 @@ lent l = take (length (l .loop .out) - l .loop .at) (drop (l .loop .at) (l .loop
 next : (c : tie.In-loop Inv-loop μ-loop) → (let l = c .before in Putting (rowsOf 1 (xs l)) (b l) (l .loop .out) (row l ++ rest l) (l .loop .at))
 next c = let l = c .before in subst (λ (r : List ℕ). Putting (rowsOf 1 (xs l)) (b l) (l .loop .out) r (l .loop .at)) (rows-from (xs l) (l .loop .k) (c .loop-test .taken)) (l .loop .inv .1)
 
-inside : (c : tie.In-loop Inv-loop μ-loop) → c .before .loop .at + length (row (c .before)) ≤ length (c .before .loop .out)
+inside : (c : tie.In-loop Inv-loop μ-loop) → let l = c .before in l .loop .at + length (row l) ≤ length (l .loop .out)
 inside c = let l = c .before in fits (rowsOf 1 (xs l)) (b l) (l .loop .out) (l .loop .at) (row l) (rest l) (next c) (start l .pre)
 
 -- what the call is given is that row
-given : (w : tie.After-wide Inv-loop μ-loop) → (let l = w .before .before .before in rowOf (l .loop .k + 1) (w .wide .result) ≡ row l)
-given w = let l = w .before .before .before in let e = w .wide .ensures in rw (add-one (l .loop .k), e)
+given : (w : tie.After-wide Inv-loop μ-loop) → (let l : tie.At-loop Inv-loop μ-loop = search in
+    rowOf (l .loop .k + 1) (w .wide .result) ≡ row l)
+given w = let l : tie.At-loop Inv-loop μ-loop = search in let e = w .wide .ensures in rw (add-one (l .loop .k), e)
 
 loop-holds : tie.Need-loop-holds Inv-loop μ-loop
 loop-holds c = (omega arith, begins _ _)
 
 sub-put-row : tie.Need-sub-put-row Inv-loop μ-loop
-sub-put-row c = omega (arith, inside (c .before .before))
+sub-put-row c = let t : tie.In-loop Inv-loop μ-loop = search in omega (arith, inside t)
 
 part-put-row-start : tie.Need-part-put-row-start Inv-loop μ-loop
-part-put-row-start c = omega (arith, inside (c .before .before))
+part-put-row-start c = let t : tie.In-loop Inv-loop μ-loop = search in omega (arith, inside t)
 
 put-row-requires : tie.Need-put-row-requires Inv-loop μ-loop
 put-row-requires c κs =
     let w = c .before in
-    let t = w .before .before in
+    let t : tie.In-loop Inv-loop μ-loop = search in
     let l = t .before in
     rw (given w) (room (rowsOf 1 (xs l)) (b l) (l .loop .out) (l .loop .at) (row l) (rest l) (next t) (start l .pre))
 
 add-at : tie.Need-add-at Inv-loop μ-loop
 add-at c =
-    let p = c .before .before in
-    let w = p .before .before in
-    let t = w .before .before in
+    let p : tie.After-put-row Inv-loop μ-loop = search in
+    let w : tie.After-wide Inv-loop μ-loop = search in
+    let t : tie.In-loop Inv-loop μ-loop = search in
     omega (arith, inside t, p .put-row .ensures .0, ap length (given w), t .before .loop .inv .1 .same)
 
 loop-again : tie.Need-loop-again Inv-loop μ-loop
 loop-again c =
-    let p = c .before .before in
-    let w = p .before .before in
-    let t = w .before .before in
+    let p : tie.After-put-row Inv-loop μ-loop = search in
+    let w : tie.After-wide Inv-loop μ-loop = search in
+    let t : tie.In-loop Inv-loop μ-loop = search in
     let l = t .before in
     let k : p .put-row .result ≡ length (row l) = p .put-row .ensures .0 ∙ ap length (given w) in
     let e : p .put-row .last .0 ≡ over (row l) (lent l) = p .put-row .ensures .1 ∙ ap (λ (r : List ℕ). over r (lent l)) (given w) in

@@ -22,7 +22,7 @@ loop-holds : tie.Need-loop-holds Inv-loop μ-loop
 loop-holds c = (omega arith, begins _ _)
 
 slice-write-out : tie.Need-slice-write-out Inv-loop μ-loop
-slice-write-out c = let l = c .before .before in omega (arith, l .loop .inv .1 .same, l .before .pre)
+slice-write-out c = let l : tie.At-loop Inv-loop μ-loop = search in omega (arith, l .loop .inv .1 .same, l .before .pre)
 
 add-k : tie.Need-add-k Inv-loop μ-loop
 add-k c = omega arith
@@ -32,11 +32,13 @@ loop-less c = omega arith
 
 loop-again : tie.Need-loop-again Inv-loop μ-loop
 loop-again c =
-    let l = c .before .before in
-    let a = l .before .args in
+    let s : tie.Start Inv-loop μ-loop = search in
+    let l : tie.At-loop Inv-loop μ-loop = search in
+    let a = s .args in
     let k = l .loop .k in
     let p = subst (λ (rest : List ℕ). Putting (a .word .now) (a .out .now) (l .loop .out) rest k) (drop-cons (a .word .now) k 0 (c .before .loop-test .taken)) (l .loop .inv .1) in
-    let q = puts (a .word .now) (a .out .now) (l .loop .out) k (getD (a .word .now) k 0) (drop (suc k) (a .word .now)) p (l .before .pre) in
+    let q = puts (a .word .now) (a .out .now) (l .loop .out) k (getD (a .word .now) k 0) (drop (suc k) (a .word .now)) p
+    (s .pre) in
     (omega arith, rw (add-one k) (rw (add-one k) at q))
 
 same-length : tie.Need-same-length Inv-loop μ-loop

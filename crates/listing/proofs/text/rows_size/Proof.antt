@@ -19,26 +19,31 @@ abbrev μ-loop : tie.MeasureT-loop
 μ-loop bins size₀ k₀ size k = length bins - k
 
 abbrev loop : tie.After-row-size Inv-loop μ-loop → tie.At-loop Inv-loop μ-loop
-loop c = c .before .before .before .before
+loop c = search
 
 abbrev xs : tie.At-loop Inv-loop μ-loop → List ℕ
-xs l = l .before .before .args .bins .now
+xs l = let s : tie.Start Inv-loop μ-loop = search in s .args .bins .now
 
 -- the row at the loop's place
 row : (c : tie.After-row-size Inv-loop μ-loop) → (let l = loop c in let r = c .row-size .result in (r ≡ length (rowOf (suc (l .loop .k)) (getD (xs l) (l .loop .k) 0))) × (r ≤ 42))
 row c =
+    let after-shared-slice-known2 : tie.After-shared-slice-known2 Inv-loop μ-loop = search in
+    let s : tie.Start Inv-loop μ-loop = search in
     let l = loop c in
     let k = l .loop .k in
     let v = getD (xs l) k 0 in
     let e : c .row-size .result ≡ length (rowOf (suc k) v) = c .row-size .ensures ∙ ap (λ (n : ℕ). length (rowOf (k + 1) n)) (c .before .wide .ensures) ∙ ap (λ (n : ℕ). length (rowOf n v)) (add-one k) in
-    let f = row-few (suc k) v (omega (arith, l .loop .inv .0, l .before .before .pre)) (omega (arith, c .before .before .shared-slice-known2 .given k)) in
+    let f = row-few (suc k) v (omega (arith, l .loop .inv .0, s .pre))
+    (omega (arith, after-shared-slice-known2 .shared-slice-known2 .given k)) in
     (e, omega arith)
 
 loop-holds : tie.Need-loop-holds Inv-loop μ-loop
 loop-holds c = (omega arith, omega arith, omega arith)
 
 add-size : tie.Need-add-size Inv-loop μ-loop
-add-size c = let l = loop c in omega (arith, row c .1, l .loop .inv .0, l .loop .inv .1, l .before .before .pre)
+add-size c =
+    let s : tie.Start Inv-loop μ-loop = search in
+    let l = loop c in omega (arith, row c .1, l .loop .inv .0, l .loop .inv .1, s .pre)
 
 loop-again : tie.Need-loop-again Inv-loop μ-loop
 loop-again c =

@@ -10,7 +10,7 @@ use Rattle.models.proofs.costs.cost.Statement.{statement}
 use Rattle.models.proofs.costs.cost.Tie as tie
 
 abbrev start : tie.After-fit-refusal → tie.Start
-start c = c .before .before .before .before
+start c = search
 
 returns : tie.Need-returns
 returns c =
@@ -35,17 +35,17 @@ cast-decode : tie.Need-cast-decode
 cast-decode c = let all = passed c in omega (arith, all .peak-few)
 
 cast-cost-at : tie.Need-cast-cost-at
-cast-cost-at c = let all = passed (c .before .before .before) in omega (arith, all .end-few)
+cast-cost-at c = let else1 : tie.Else1 = search in let all = passed else1 in omega (arith, all .end-few)
 
 cost-at-requires : tie.Need-cost-at-requires
-cost-at-requires c κs = passed (c .before .before .before .before .before) .spectrum .end-some
+cost-at-requires c κs = let else1 : tie.Else1 = search in passed else1 .spectrum .end-some
 
 returns-2 : tie.Need-returns-2
 returns-2 c =
-    let priced = c .before .before in
-    let scaled = priced .before .before .before in
+    let priced : tie.After-cost-at = search in
+    let scaled : tie.After-used-scale = search in
     let decoded = scaled .before in
-    let left = decoded .before .before in
+    let left : tie.Else1 = search in
     let a = start (left .before) .args in
     let first = left .before .fit-refusal .ensures in
     let value = priced .cost-at .ensures .0 ∙ cost-unprepared (a .bins .now) _ (a .window-end) _ _ (passed left .end-few) in (

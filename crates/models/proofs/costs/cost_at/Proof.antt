@@ -21,32 +21,34 @@ returns c =
     (stopped-cost _ _ _ _ _ _ stop, stopped-table _ _ _ stop)
 
 -- where the parameters can be used
-usable : (c : tie.Else1) → paramsUsable (c .before .before .before .before .before .args .p) ≡ true
+usable : (c : tie.Else1) → let s : tie.Start = search in paramsUsable (s .args .p) ≡ true
 usable c = sym (c .before .params-usable .ensures) ∙ not-false _ (c .if1 .left)
 
 returns-2 : tie.Need-returns-2
 unfolding div ofBits
 returns-2 c =
+    let else1 : tie.Else1 = search in
     let lost = sym (c .before .mode-held .ensures) ∙ not-true _ (c .if2 .taken) in
-    let stop = mode-stops _ (usable (c .before .before)) lost in
+    let stop = mode-stops _ (usable else1) lost in
     (stopped-cost _ _ _ _ _ _ stop, stopped-table _ _ _ stop)
 
 -- where the table was written
 module _ (c : tie.After-fill-table) where
   abbrev start : tie.Start
-  start = c .before .before .before .before .before .before .before .before .before
+  start = search
 
   abbrev entries : List Float
   entries = let a = start .args in entriesIn (a .p .shelf) (a .p .mean) (a .top) (length (a .table .now))
 
   go : started (start .args .p) ≡ true
   go =
-      let held = c .before .before in
-      starts _ (usable (held .before .before)) (sym (held .before .mode-held .ensures) ∙ not-false _ (held .if2 .left))
+      let else1 : tie.Else1 = search in
+      let held : tie.Else2 = search in
+      starts _ (usable else1) (sym (held .before .mode-held .ensures) ∙ not-false _ (held .if2 .left))
 
 part-evaluate-end : tie.Need-part-evaluate-end
 part-evaluate-end c =
-    let filled = c .before .before .before in
+    let filled : tie.After-fill-table = search in
     let fill = filled .fill-table in
     let a = start filled .args in
     front-room (entries filled) (a .table .now) _ _ (fill .ensures .0) (fill .ensures .1)
@@ -54,7 +56,7 @@ part-evaluate-end c =
 
 returns-3 : tie.Need-returns-3
 returns-3 c =
-    let filled = c .before .before .before .before .before in
+    let filled : tie.After-fill-table = search in
     let fill = filled .fill-table in (
       started-cost _ _ _ _ _ _ _ _ (go filled) (c .evaluate .ensures)
           (front-is (entries filled) (start filled .args .table .now) _ _ (fill .ensures .0) (fill .ensures .1)),

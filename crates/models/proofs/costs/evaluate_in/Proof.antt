@@ -15,37 +15,40 @@ use Rattle.models.proofs.costs.evaluate_in.Tie as tie
 returns : tie.Need-returns
 unfolding div ofBits
 returns c =
+    let after-steady-of : tie.After-steady-of = search in
     let known = c .before in
-    let masses = known .before .before .before in
-    masses-stop _ _ _ _ _ _ _ _ (masses .before .before .steady-of .ensures) (masses .masses-at .ensures .0)
+    let masses : tie.After-masses-at = search in
+    masses-stop _ _ _ _ _ _ _ _ (after-steady-of .steady-of .ensures) (masses .masses-at .ensures .0)
     (sym (known .masses-usable .ensures) ∙ not-true _ (c .if1 .taken))
 
 likelihood-requires : tie.Need-likelihood-requires
-likelihood-requires c κs = c .before .before .before .before .before .masses-at .ensures .1
+likelihood-requires c κs = let after-masses-at : tie.After-masses-at = search in after-masses-at .masses-at .ensures .1
 
 -- where the masses can be used and the log-likelihood is known
 module _ (c : tie.After-is-finite) where
   abbrev masses : tie.After-masses-at
-  masses = c .before .before .before .before .before .before .before
+  masses = search
 
   abbrev start : tie.Start
-  start = masses .before .before .before .before .before .before .before
+  start = search
 
   usable : massesUsable (masses .masses-at .result) ≡ true
   usable =
-      let left = c .before .before .before in
+      let left : tie.Else1 = search in
       sym (left .before .masses-usable .ensures) ∙ not-false _ (left .if1 .left)
 
   stopped : likelihoodUsable (c .before .likelihood .result) ≡ false → let a = start .args in
       inf false ≡ evaluatedAt (a .bins .now) (a .scale) (a .top) (a .p) (a .ready .now) (a .table .now)
   stopped u =
-      likelihood-stops _ _ _ _ _ _ _ _ (masses .before .before .steady-of .ensures) (masses .masses-at .ensures .0) _
+      let after-steady-of : tie.After-steady-of = search in
+      likelihood-stops _ _ _ _ _ _ _ _ (after-steady-of .steady-of .ensures) (masses .masses-at .ensures .0) _
       (c .before .likelihood .ensures) usable u
 
 returns-2 : tie.Need-returns-2
 returns-2 c =
-    let known = c .before .before in
-    evaluates _ _ _ _ _ _ _ _ (masses known .before .before .steady-of .ensures) (masses known .masses-at .ensures .0) _
+    let after-steady-of : tie.After-steady-of = search in
+    let known : tie.After-is-finite = search in
+    evaluates _ _ _ _ _ _ _ _ (after-steady-of .steady-of .ensures) (masses known .masses-at .ensures .0) _
     (known .before .likelihood .ensures) (usable known)
     (at-most-zero _ (sym (known .is-finite .ensures) ∙ c .before .if2 .taken) (c .if3 .taken))
 

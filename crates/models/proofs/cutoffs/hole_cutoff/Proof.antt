@@ -28,15 +28,17 @@ returns c =
 returns-2 : tie.Need-returns-2
 unfolding holeCutoffOf
 returns-2 c =
-    let a = c .before .before .args in
+    let s : tie.Start = search in
+    let a = s .args in
     both (a .fit) (a .budget) (refuse 5) (simp (le-ltb _ _ (c .before .if1 .left), eq-eqb _ _ (c .if2 .taken)))
 
 returns-3 : tie.Need-returns-3
 unfolding holeCutoffOf
 returns-3 c =
+    let s : tie.Start = search in
     let known = c .before in
     let some = known .before in
-    let a = some .before .before .args in
+    let a = s .args in
     both (a .fit) (a .budget) (give none)
     (simp
     (le-ltb _ _ (some .before .if1 .left), ne-eqb _ _ (some .if2 .left), sym (known .walk-starts .ensures) ∙ not-true _ (c .if3 .taken)))
@@ -47,12 +49,12 @@ enum-told c = search needs
 -- where the walk came back with something
 module _ (c : tie.After-hole-walk) where
   abbrev start : tie.Start
-  start = c .before .before .before .before .before
+  start = search
 
   came : give (partSays (c .hole-walk .result)) ≡ holeCutoffOf (start .args .fit) (start .args .budget)
   unfolding holeCutoffOf
   came =
-      let known = c .before .before in
+      let known : tie.After-walk-starts = search in
       let some = known .before in
       simp
       (le-ltb _ _ (some .before .if1 .left), ne-eqb _ _ (some .if2 .left), sym (known .walk-starts .ensures) ∙ not-false _ (c .before .if3 .left))
@@ -65,10 +67,12 @@ module _ (c : tie.After-hole-walk) where
       (ap (λ (q : CutoffPart). give (partSays q)) (sym e) ∙ came)
 
 returns-4 : tie.Need-returns-4
-returns-4 c = part (c .before .before) _ (c .enum-told .given .1)
+returns-4 c = let after-hole-walk : tie.After-hole-walk = search in part after-hole-walk _ (c .enum-told .given .1)
 
 returns-5 : tie.Need-returns-5
-returns-5 c = let found = c .before in part (found .before .before) _ (found .found .given .1)
+returns-5 c =
+    let after-hole-walk : tie.After-hole-walk = search in
+    let found = c .before in part after-hole-walk _ (found .found .given .1)
 
 pub hole-cutoff-spec : {M : Type 1} → statement M
 hole-cutoff-spec =

@@ -28,15 +28,17 @@ returns c =
 returns-2 : tie.Need-returns-2
 unfolding holeCutoffSureOf
 returns-2 c =
-    let a = c .before .before .args in
+    let s : tie.Start = search in
+    let a = s .args in
     both (a .fit) (a .budget) (refuse 5) (simp (le-ltb _ _ (c .before .if1 .left), eq-eqb _ _ (c .if2 .taken)))
 
 returns-3 : tie.Need-returns-3
 unfolding holeCutoffSureOf
 returns-3 c =
+    let s : tie.Start = search in
     let known = c .before in
     let some = known .before in
-    let a = some .before .before .args in
+    let a = s .args in
     both (a .fit) (a .budget) (give noWalk)
     (simp
     (le-ltb _ _ (some .before .if1 .left), ne-eqb _ _ (some .if2 .left), sym (known .walk-starts .ensures) ∙ not-true _ (c .if3 .taken)))
@@ -44,14 +46,14 @@ returns-3 c =
 -- where the walk started
 module _ (c : tie.After-is-sure) where
   abbrev start : tie.Start
-  start = c .before .before .before .before .before .before
+  start = search
 
   came : give (sureness (c .is-sure .result) (partSays (c .before .hole-walk .result)))
       ≡ holeCutoffSureOf (start .args .fit) (start .args .budget)
   unfolding holeCutoffSureOf
   came =
       let walked = c .before in
-      let known = walked .before .before in
+      let known : tie.After-walk-starts = search in
       let some = known .before in
       simp
       (le-ltb _ _ (some .before .if1 .left), ne-eqb _ _ (some .if2 .left), sym (known .walk-starts .ensures) ∙ not-false _ (walked .before .if3 .left))
@@ -62,8 +64,9 @@ module _ (c : tie.After-is-sure) where
       → let reply = give (sureness b (partSays (c .before .hole-walk .result))) in
       (reply ≡ holeCutoffSureOf (start .args .fit) (start .args .budget)) × DemandedSure (start .args .fit) (start .args .budget) reply
   part b e =
-      both (start .args .fit) (start .args .budget) (give (sureness b (partSays (c .before .hole-walk .result))))
-      (ap (λ (b : Bool). give (sureness b (partSays (c .before .hole-walk .result)))) (sym e) ∙ came)
+      let after-hole-walk = c .before in
+      both (start .args .fit) (start .args .budget) (give (sureness b (partSays (after-hole-walk .hole-walk .result))))
+      (ap (λ (b : Bool). give (sureness b (partSays (after-hole-walk .hole-walk .result)))) (sym e) ∙ came)
 
 returns-4 : tie.Need-returns-4
 returns-4 c = part (c .before) _ (c .if4 .taken)

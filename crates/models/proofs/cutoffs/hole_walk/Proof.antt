@@ -13,8 +13,8 @@ use Rattle.models.proofs.cutoffs.hole_walk.Tie as tie
 returns : tie.Need-returns
 unfolding holeWalkOf
 returns c =
-    let top = c .before .before in
-    let single = top .before .before in
+    let top : tie.After-ceiling = search in
+    let single : tie.After-single-copy-of = search in
     let a = single .before .args in
     let share = allowedOf (a .fit) (a .budget) in
     c .walk .ensures

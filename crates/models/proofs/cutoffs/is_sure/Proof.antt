@@ -18,10 +18,11 @@ returns c = rw (sym (c .before .is-finite .ensures) ∙ not-true _ (c .if1 .take
 returns-2 : tie.Need-returns-2
 unfolding sureOf
 returns-2 c =
+    let s : tie.Start = search in
     let top = c .before in
-    let single = top .before .before in
+    let single : tie.After-single-copy-of = search in
     let finite = single .before in
-    let a = finite .before .before .before .args in
+    let a = s .args in
     rw (sym (finite .before .is-finite .ensures) ∙ not-false _ (finite .if1 .left))
     (c .all-probable .ensures
     ∙ ap (λ (p : ℕ → Float). allProbable p (suc (top .ceiling .result)))

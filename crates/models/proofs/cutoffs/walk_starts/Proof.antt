@@ -19,22 +19,35 @@ returns-2 c =
 returns-3 : tie.Need-returns-3
 unfolding walkStarts
 returns-3 c =
-    let finite = c .before .before in
-    rw (finite .before .before .if1 .left, sym (finite .before .is-finite .ensures) ∙ not-false _ (finite .if2 .left), c .if3 .taken)
+    let else1 : tie.Else1 = search in
+    let finite : tie.Else2 = search in
+    rw (else1 .if1 .left, sym (finite .before .is-finite .ensures) ∙ not-false _ (finite .if2 .left), c .if3 .taken)
 
 returns-4 : tie.Need-returns-4
 unfolding walkStarts
 returns-4 c =
-    let large = c .before .before in
-    let finite = large .before .before in
-    rw (finite .before .before .if1 .left, sym (finite .before .is-finite .ensures) ∙ not-false _ (finite .if2 .left), large .if3 .left, lt-ltb _ _ (c .if4 .taken))
+    let else1 : tie.Else1 = search in
+    let large : tie.Else3 = search in
+    let finite : tie.Else2 = search in
+    rw (
+      else1 .if1 .left,
+      sym (finite .before .is-finite .ensures) ∙ not-false _ (finite .if2 .left),
+      large .if3 .left,
+      lt-ltb _ _ (c .if4 .taken),
+    )
 
 returns-5 : tie.Need-returns-5
 unfolding walkStarts
 returns-5 c =
-    let large = c .before .before in
-    let finite = large .before .before in
-    rw (finite .before .before .if1 .left, sym (finite .before .is-finite .ensures) ∙ not-false _ (finite .if2 .left), large .if3 .left, le-ltb _ _ (c .if4 .left))
+    let else1 : tie.Else1 = search in
+    let large : tie.Else3 = search in
+    let finite : tie.Else2 = search in
+    rw (
+      else1 .if1 .left,
+      sym (finite .before .is-finite .ensures) ∙ not-false _ (finite .if2 .left),
+      large .if3 .left,
+      le-ltb _ _ (c .if4 .left),
+    )
 
 pub walk-starts-spec : {M : Type 1} → statement M
 walk-starts-spec = tie.close (tie.spec returns (λ c κs. search needs) returns-2 returns-3 returns-4 returns-5)

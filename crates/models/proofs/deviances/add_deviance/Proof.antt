@@ -22,7 +22,7 @@ add-count : tie.Need-add-count
 add-count c = omega arith
 
 ready-at-requires : tie.Need-ready-at-requires
-ready-at-requires c κs = c .before .before .pre .0
+ready-at-requires c κs = let s : tie.Start = search in s .pre .0
 
 add-ln : tie.Need-add-ln
 add-ln c = omega arith
@@ -36,14 +36,15 @@ add-t14 c = omega arith
 returns-2 : tie.Need-returns-2
 unfolding seenTerm
 returns-2 c =
+    let else1 : tie.Else1 = search in
     let term = c .before in
     let expected = term .before in
-    let heights = expected .before .before in
-    let gamma = heights .before .before in
-    let next = gamma .before .before in
+    let heights : tie.After-heights-from = search in
+    let gamma : tie.After-lgamma-with = search in
+    let next : tie.After-survival-with = search in
     let log = next .before in
-    let here = log .before .before in
-    let start = here .before .before .before in
+    let here : tie.After-ready-at = search in
+    let start : tie.Start = search in
     let a = start .args in
     let few : a .i + 1 ≤ 65535 = omega (arith, start .pre .1) in
     let ready = here .ready-at .ensures in
@@ -54,7 +55,7 @@ returns-2 c =
     ∙ heights-from-is (a .i + 1) few _ _ (a .t) (ap (λ (r : Ready). r .survival) ready) survives _
     (gamma .lgamma-with .ensures ∙ with-log _ _ (log .ln .ensures)) in
     let wanted = expected .expected-of .ensures ∙ ap (λ (h : Heights). expectedOf h (a .scale)) same in (
-      simp (ne-eqb _ _ (here .before .before .if1 .left))
+      simp (ne-eqb _ _ (else1 .if1 .left))
           (ap (λ (x : Float). a .reached .total ⊕ x) (term .deviance-term .ensures ∙ ap (devianceTerm (ofCount (a .n))) wanted)),
       rw (log .ln .ensures, survives),
     )

@@ -47,7 +47,7 @@ loop-holds c =
     )
 
 add-deviance-requires : tie.Need-add-deviance-requires Inv-loop μ-loop
-add-deviance-requires c κs = (c .before .before .loop .inv .0, omega arith)
+add-deviance-requires c κs = let l : tie.At-loop Inv-loop μ-loop = search in (l .loop .inv .0, omega arith)
 
 add-i : tie.Need-add-i Inv-loop μ-loop
 add-i c = omega arith
@@ -57,10 +57,11 @@ loop-less c = omega arith
 
 loop-again : tie.Need-loop-again Inv-loop μ-loop
 loop-again c =
-    let at = c .before .before .before in
-    let terms = at .before .before in
+    let s : tie.Start Inv-loop μ-loop = search in
+    let at : tie.At-loop Inv-loop μ-loop = search in
+    let terms : tie.After-height-terms Inv-loop μ-loop = search in
     let turn = at .loop in
-    let scale = terms .before .before .args .scale in (
+    let scale = s .args .scale in (
       c .add-deviance .ensures .1,
       goes-on _ _ _ _ (turn .inv .1) _ (omega arith)
           (c .add-deviance .ensures .0
@@ -71,9 +72,10 @@ loop-again c =
 returns : tie.Need-returns Inv-loop μ-loop
 unfolding overObserved
 returns c =
+    let after-height-terms : tie.After-height-terms Inv-loop μ-loop = search in
     let at = c .before in
     ends _ _ _ _ (at .loop .inv .1) (omega arith)
-    ∙ rw (at .before .before .height-terms .ensures) (from-terms _ _ _ _)
+    ∙ rw (after-height-terms .height-terms .ensures) (from-terms _ _ _ _)
 
 pub conditional-deviance-spec : {M : Type 1} → statement M
 conditional-deviance-spec =

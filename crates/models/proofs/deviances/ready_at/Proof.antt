@@ -7,7 +7,7 @@ use Rattle.models.proofs.deviances.ready_at.Tie as tie
 
 returns : tie.Need-returns
 returns c =
-    let start = c .before .before in
+    let start : tie.Start = search in
     start .pre ∙ ap (readyOf (start .args .p)) (c .if1 .taken)
 
 returns-2 : tie.Need-returns-2

@@ -4,7 +4,7 @@ use Rattle.models.proofs.deviances.ready_of.Statement.{statement}
 use Rattle.models.proofs.deviances.ready_of.Tie as tie
 
 returns : tie.Need-returns
-returns c = rw (c .log-survival-from-two .ensures, c .before .before .ln .ensures)
+returns c = let after-ln : tie.After-ln = search in rw (c .log-survival-from-two .ensures, after-ln .ln .ensures)
 
 pub ready-of-spec : {M : Type 1} → statement M
 ready-of-spec =

@@ -13,11 +13,13 @@ returns c = rw (c .enum-told .given .1)
 
 returns-2 : tie.Need-returns-2
 unfolding factorOf
-returns-2 c = rw (c .before .before .shape .given .1, c .if1 .taken)
+returns-2 c = let after-shape : tie.After-shape = search in rw (after-shape .shape .given .1, c .if1 .taken)
 
 returns-3 : tie.Need-returns-3
 unfolding factorOf
-returns-3 c = rw (c .before .before .before .shape .given .1, c .before .if1 .left) (rw (c .expm1 .ensures))
+returns-3 c =
+    let after-shape : tie.After-shape = search in
+    rw (after-shape .shape .given .1, c .before .if1 .left) (rw (c .expm1 .ensures))
 
 pub factor-spec : {M : Type 1} → statement M
 factor-spec = tie.close (tie.spec (λ c. search needs) enum-told returns returns-2 (λ c κs. search needs) returns-3)

@@ -6,7 +6,9 @@ use Rattle.models.proofs.fit.component_total_ratio.Tie as tie
 
 returns : tie.Need-returns
 unfolding totalRatioOf
-returns c = rw (c .exp .ensures, c .before .ln .ensures, c .before .before .lse3 .ensures)
+returns c =
+    let after-lse3 : tie.After-lse3 = search in
+    rw (c .exp .ensures, c .before .ln .ensures, after-lse3 .lse3 .ensures)
 
 pub component-total-ratio-spec : {M : Type 1} → statement M
 component-total-ratio-spec =

@@ -31,28 +31,32 @@ abbrev μ-loop : tie.MeasureT-loop
 
 -- the turn of a comparison, and the call's start
 abbrev at : tie.After-single-height Inv-loop μ-loop → tie.At-loop Inv-loop μ-loop
-at c = c .before .before .before .before .before .before .before .before
+at c = search
 
 abbrev start : tie.After-single-height Inv-loop μ-loop → tie.Start Inv-loop μ-loop
-start c = at c .before .before .before
+start c = search
 
 few : (c : tie.After-single-height Inv-loop μ-loop) → at c .loop .count ≤ 65535
-few c = omega (arith, c .before .before .before .before .before .before .before .loop-test .taken, start c .fits)
+few c = let t : tie.In-loop Inv-loop μ-loop = search in omega (arith, t .loop-test .taken, start c .fits)
 
 survives : (c : tie.After-single-height Inv-loop μ-loop)
-    → c .before .before .before .before .survival-with .result
+    → let after-survival-with : tie.After-survival-with Inv-loop μ-loop = search in
+    after-survival-with .survival-with .result
     ≡ survivalOf (start c .args .t .«error_params») (ofCount (at c .loop .count + 1))
 survives c =
-    let next = c .before .before .before .before in
+    let next : tie.After-survival-with Inv-loop μ-loop = search in
     next-survival (at c .loop .count) (few c) _ _ _ (next .survival-with .ensures) (next .before .ln .ensures)
 
 tested : (c : tie.After-single-height Inv-loop μ-loop) (b : Bool)
-    → lt (c .before .before .error-height-from .result) (c .single-height .result) ≡ b
+    → let after-error-height-from : tie.After-error-height-from Inv-loop μ-loop = search in
+    lt (after-error-height-from .error-height-from .result) (c .single-height .result) ≡ b
     → outgrows (heights-in (start c .args .t)) (at c .loop .count) ≡ b
 tested c b h =
+    let after-error-height-from : tie.After-error-height-from Inv-loop μ-loop = search in
     let t = start c .args .t in
     let turn = at c .loop in
-    let error = c .before .before .error-height-from .ensures ∙ error-from-is (turn .count) (few c) _ _ t (turn .inv .0) (survives c) in
+    let error = after-error-height-from .error-height-from .ensures ∙ error-from-is (turn .count) (few c) _ _ t
+    (turn .inv .0) (survives c) in
     outgrows-is t (turn .count) _ _ b error (c .single-height .ensures) h
 
 loop-holds : tie.Need-loop-holds Inv-loop μ-loop
@@ -60,7 +64,7 @@ loop-holds c = (first-survival _ _ (c .log-survival-from-two .ensures), crossing
 
 returns : tie.Need-returns Inv-loop μ-loop
 returns c =
-    let compared = c .before .before in
+    let compared : tie.After-single-height Inv-loop μ-loop = search in
     let turn = at compared .loop in
     sym
     (turn .inv .1

@@ -14,13 +14,13 @@ use Rattle.models.proofs.height_cutoffs.crossover.Tie as tie
 
 -- where the search came back with something
 abbrev start : tie.After-crossing → tie.Start
-start c = c .before .before .before .before .before .before .before
+start c = search
 
 came : (c : tie.After-crossing) → give (partSays (c .crossing .result)) ≡ crossoverOf (start c .args .fit)
 unfolding crossoverOf
 came c =
-    let terms = c .before .before in
-    let known = terms .before .before in
+    let terms : tie.After-height-terms = search in
+    let known : tie.After-crossover-starts = search in
     let some = known .before in
     let a = start c .args in
     simp (le-ltb _ _ (some .before .if1 .left), ne-eqb _ _ (some .if2 .left), sym (known .crossover-starts .ensures) ∙ not-false _ (terms .before .if3 .left))
@@ -40,19 +40,22 @@ returns-2 c = simp (le-ltb _ _ (c .before .if1 .left), eq-eqb _ _ (c .if2 .taken
 returns-3 : tie.Need-returns-3
 unfolding crossoverOf
 returns-3 c =
-    let some = c .before .before in
+    let some : tie.Else2 = search in
     simp (le-ltb _ _ (some .before .if1 .left), ne-eqb _ _ (some .if2 .left), sym (c .before .crossover-starts .ensures) ∙ not-true _ (c .if3 .taken))
 
 enum-told : tie.Need-enum-told
 enum-told c = search needs
 
 returns-4 : tie.Need-returns-4
-returns-4 c = ap (λ p. give (partSays p)) (sym (c .enum-told .given .1)) ∙ came (c .before .before)
+returns-4 c =
+    let after-crossing : tie.After-crossing = search in
+    ap (λ p. give (partSays p)) (sym (c .enum-told .given .1)) ∙ came after-crossing
 
 returns-5 : tie.Need-returns-5
 returns-5 c =
+    let after-crossing : tie.After-crossing = search in
     let found = c .before in
-    ap (λ p. give (partSays p)) (sym (found .found .given .1)) ∙ came (found .before .before)
+    ap (λ p. give (partSays p)) (sym (found .found .given .1)) ∙ came after-crossing
 
 pub crossover-spec : {M : Type 1} → statement M
 crossover-spec =

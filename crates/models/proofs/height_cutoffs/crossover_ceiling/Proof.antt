@@ -17,10 +17,11 @@ higher : (n m end : ℕ) → n ≡ m → end ≤ n → end ≡ min m end
 higher n m end e h = omega arith
 
 rounded : (c : tie.After-to-u64)
-    → c .to-u64 .result ≡ toUnsigned 64 (maxOf (roundOf (c .before .before .before .args .mean)) two)
+    → let s : tie.Start = search in c .to-u64 .result ≡ toUnsigned 64 (maxOf (roundOf (s .args .mean)) two)
 rounded c =
+    let after-round : tie.After-round = search in
     c .to-u64 .ensures
-    ∙ ap (toUnsigned 64) (c .before .max .ensures ∙ ap (λ (x : Float). maxOf x two) (c .before .before .round .ensures))
+    ∙ ap (toUnsigned 64) (c .before .max .ensures ∙ ap (λ (x : Float). maxOf x two) (after-round .round .ensures))
 
 returns : tie.Need-returns
 returns c = lower _ _ _ (rounded (c .before)) (c .if1 .taken)

@@ -13,21 +13,21 @@ returns c = rw (sym (c .before .is-finite .ensures) ∙ not-true _ (c .if1 .take
 returns-2 : tie.Need-returns-2
 unfolding crossoverStarts
 returns-2 c =
-    let finite = c .before .before in
+    let finite : tie.Else1 = search in
     rw (sym (finite .before .is-finite .ensures) ∙ not-false _ (finite .if1 .left), c .if2 .taken)
 
 returns-3 : tie.Need-returns-3
 unfolding crossoverStarts
 returns-3 c =
-    let large = c .before .before in
-    let finite = large .before .before in
+    let large : tie.Else2 = search in
+    let finite : tie.Else1 = search in
     rw (sym (finite .before .is-finite .ensures) ∙ not-false _ (finite .if1 .left), large .if2 .left, lt-ltb _ _ (c .if3 .taken))
 
 returns-4 : tie.Need-returns-4
 unfolding crossoverStarts
 returns-4 c =
-    let large = c .before .before in
-    let finite = large .before .before in
+    let large : tie.Else2 = search in
+    let finite : tie.Else1 = search in
     rw (sym (finite .before .is-finite .ensures) ∙ not-false _ (finite .if1 .left), large .if2 .left, le-ltb _ _ (c .if3 .left))
 
 pub crossover-starts-spec : {M : Type 1} → statement M

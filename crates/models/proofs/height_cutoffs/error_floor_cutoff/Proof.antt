@@ -19,13 +19,14 @@ returns-2 c = simp (le-ltb _ _ (c .before .if1 .left), eq-eqb _ _ (c .if2 .taken
 returns-3 : tie.Need-returns-3
 unfolding errorFloorOf
 returns-3 c =
-    let reference = c .before .before in
+    let s : tie.Start = search in
+    let reference : tie.After-single-height = search in
     let place = reference .before in
     let mode = place .before in
     let terms = mode .before in
     let some = terms .before in
     let last =
-    floor-of-terms (some .before .before .args .fit) _ (terms .height-terms .ensures) _ _ _ _ _ (mode .primary-mode .ensures)
+    floor-of-terms (s .args .fit) _ (terms .height-terms .ensures) _ _ _ _ _ (mode .primary-mode .ensures)
     (place .from-u64 .ensures) (reference .single-height .ensures) (c .before .last-bad .ensures) in
     simp (le-ltb _ _ (some .before .if1 .left), ne-eqb _ _ (some .if2 .left)) (ap give (c .floor-behind .ensures ∙ ap floorBehindOf last))
 

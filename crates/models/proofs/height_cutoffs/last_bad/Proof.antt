@@ -40,10 +40,10 @@ loop-less c = omega arith
 loop-again : tie.Need-loop-again Inv-loop μ-loop
 loop-again c =
     let error = c .before in
-    let next = error .before .before in
-    let test = next .before .before .before in
+    let next : tie.After-survival-with Inv-loop μ-loop = search in
+    let test : tie.In-loop Inv-loop μ-loop = search in
     let turn = test .before .loop in
-    let start = test .before .before .before .before in
+    let start : tie.Start Inv-loop μ-loop = search in
     let a = start .args in
     let few : turn .i + 1 ≤ 65535 = omega (arith, test .loop-test .taken, start .fits) in
     let survives = next-survival (turn .i + 1) few _ _ _ (next .survival-with .ensures) (next .before .ln .ensures) in (

@@ -45,7 +45,7 @@ abbrev μ-loop : tie.MeasureT-loop
 loop-holds : tie.Need-loop-holds Inv-loop μ-loop
 unfolding heightRows
 loop-holds c =
-    let start = c .before .before .before .before in
+    let start : tie.Start Inv-loop μ-loop = search in
     record {
       upto = omega arith;
       params = refl;
@@ -100,12 +100,12 @@ loop-less c = omega arith
 
 loop-again : tie.Need-loop-again Inv-loop μ-loop
 loop-again c =
-    let gamma = c .before .before in
-    let next = gamma .before .before in
+    let gamma : tie.After-lgamma-with Inv-loop μ-loop = search in
+    let next : tie.After-survival-with Inv-loop μ-loop = search in
     let after = next .before in
-    let test = after .before .before in
+    let test : tie.In-loop Inv-loop μ-loop = search in
     let turn = test .before .loop in
-    let start = test .before .before .before .before .before .before in
+    let start : tie.Start Inv-loop μ-loop = search in
     let so = turn .inv in
     let few : turn .i + 1 ≤ 65535 = omega (arith, test .loop-test .taken, start .fits) in
     let survival = next-survival (turn .i + 1) few _ _ _ (next .survival-with .ensures) (so .logged) in
@@ -125,8 +125,9 @@ loop-again c =
 
 returns : tie.Need-returns Inv-loop μ-loop
 returns c =
+    let s : tie.Start Inv-loop μ-loop = search in
     let at = c .before in
-    let a = at .before .before .before .before .before .args in
+    let a = s .args in
     let so = at .loop .inv in
     let all : at .loop .i ≡ a .last = omega arith in
     so .rows ∙ ap (λ (k : ℕ). over (heightRows (heights-in (a .t)) k) (a .out .now)) all

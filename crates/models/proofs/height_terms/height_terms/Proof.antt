@@ -7,8 +7,8 @@ use Rattle.models.proofs.height_terms.height_terms.Tie as tie
 returns : tie.Need-returns
 unfolding heightTermsOf
 returns c =
-    let lobe = c .before .before .before in
-    let single = lobe .before .before in
+    let lobe : tie.After-lobe-of = search in
+    let single : tie.After-single-copy-of = search in
     rw (lobe .lobe-of .ensures, single .single-copy-of .ensures, single .before .ln-tail .ensures)
 
 pub height-terms-spec : {M : Type 1} → statement M

@@ -7,7 +7,7 @@ use Rattle.models.proofs.height_terms.heights_of.Tie as tie
 returns : tie.Need-returns
 unfolding heightsOf errorHeightOf singleHeightOf repeatHeightOf
 returns c =
-    let survivals = c .before .before in
+    let survivals : tie.After-log-survival-from-two2 = search in
     rw (c .heights-from .ensures, c .before .lgamma .ensures)
     (rw (survivals .log-survival-from-two2 .ensures, survivals .before .log-survival-from-two .ensures))
 

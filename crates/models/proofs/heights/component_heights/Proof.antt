@@ -13,7 +13,7 @@ returns c = simp (lt-ltb _ _ (c .if1 .taken))
 
 returns-2 : tie.Need-returns-2
 unfolding componentHeightsOf
-returns-2 c = simp (le-ltb _ _ (c .before .before .if1 .left)) (ap give (c .heights-at .ensures))
+returns-2 c = let else1 : tie.Else1 = search in simp (le-ltb _ _ (else1 .if1 .left)) (ap give (c .heights-at .ensures))
 
 pub component-heights-spec : {M : Type 1} → statement M
 component-heights-spec =

@@ -44,11 +44,13 @@ returns-2 c =
 returns-3 : tie.Need-returns-3
 unfolding heightsToOf
 returns-3 c =
-    let write = c .before .before in
-    let terms = write .before .before in
-    let h = le-ltb _ _ (terms .before .before .if1 .left) in
+    let else1 : tie.Else1 = search in
+    let s : tie.Start = search in
+    let write : tie.After-write-heights = search in
+    let terms : tie.After-height-terms = search in
+    let h = le-ltb _ _ (else1 .if1 .left) in
     let k = le-ltb _ _ (terms .before .if2 .left) in
-    let a = terms .before .before .before .before .args in
+    let a = s .args in
     let same = rows-of (a .fit) _ (terms .height-terms .ensures) (a .last) in (
       simp (h, k) (ap give (sym (rows-length (λ (n : ℕ). heightsAt (a .fit) (ofCount n)) (a .last)))),
       simp (h, k) (write .write-heights .ensures ∙ ap (λ (l : List Float). over l (a .out .now)) same),

@@ -13,33 +13,33 @@ use Rattle.models.proofs.likelihoods.add_point.Tie as tie
 
 returns : tie.Need-returns
 unfolding seenTerm
-returns c = (simp (eq-eqb _ _ (c .if1 .taken)), c .before .before .before .before .pre .1 .1)
+returns c = let s : tie.Start = search in (simp (eq-eqb _ _ (c .if1 .taken)), s .pre .1 .1)
 
 ahead-at-requires : tie.Need-ahead-at-requires
-ahead-at-requires c κs = c .before .before .before .before .before .pre .1 .1
+ahead-at-requires c κs = let s : tie.Start = search in s .pre .1 .1
 
 ahead-after-requires : tie.Need-ahead-after-requires
-ahead-after-requires c κs = c .before .before .before .before .before .before .pre .0
+ahead-after-requires c κs = let s : tie.Start = search in s .pre .0
 
 add-count : tie.Need-add-count
 add-count c =
-    let start = c .before .before .before .before .before .before .before in
+    let start : tie.Start = search in
     omega (arith, start .pre .0)
 
 point-requires : tie.Need-point-requires
 point-requires c κs =
-    let start = c .before .before .before .before .before .before .before .before in
+    let start : tie.Start = search in
     (omega arith, kept-fewer (start .pre .1 .0) _ (omega arith))
 
 returns-2 : tie.Need-returns-2
 unfolding seenTerm
 returns-2 c =
-    let pointed = c .before .before in
+    let pointed : tie.After-point = search in
     let gamma = pointed .before in
     let after = gamma .before in
     let at = after .before in
-    let left = at .before .before in
-    let start = left .before .before .before .before in
+    let left : tie.Else1 = search in
+    let start : tie.Start = search in
     let a = start .args in
     let few = start .fits .i in
     let here = at .ahead-at .ensures in

@@ -7,7 +7,7 @@ use Rattle.models.proofs.likelihoods.ahead_at.Tie as tie
 
 returns : tie.Need-returns
 returns c =
-    let start = c .before .before .before in
+    let start : tie.Start = search in
     start .pre ∙ ap (aheadOf (start .args .error) (start .args .ready .now)) (c .if1 .taken)
 
 returns-2 : tie.Need-returns-2

@@ -4,7 +4,9 @@ use Rattle.models.proofs.likelihoods.ahead_of.Statement.{statement}
 use Rattle.models.proofs.likelihoods.ahead_of.Tie as tie
 
 returns : tie.Need-returns
-returns c = rw (c .survival-with .ensures, c .before .ln-next .ensures, c .before .before .ln-at .ensures)
+returns c =
+    let after-ln-at : tie.After-ln-at = search in
+    rw (c .survival-with .ensures, c .before .ln-next .ensures, after-ln-at .ln-at .ensures)
 
 pub ahead-of-spec : {M : Type 1} → statement M
 ahead-of-spec = tie.close (tie.spec (λ c κs. search needs) (λ c κs. search needs) (λ c κs. search needs) returns)

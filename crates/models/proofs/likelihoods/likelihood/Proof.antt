@@ -27,8 +27,8 @@ loop-holds c = (standing _ _ (c .ahead-of .ensures), begins _ _ _ _ _ (omega ari
 
 add-point-requires : tie.Need-add-point-requires Inv-loop μ-loop
 add-point-requires c κs =
-    let turn = c .before .before in
-    let start = turn .before .before .before .before .before .before .before in
+    let turn : tie.At-loop Inv-loop μ-loop = search in
+    let start : tie.Start Inv-loop μ-loop = search in
     (omega (arith, start .fits .top), (kept-fewer (start .pre) _ (omega arith), turn .loop .inv .0))
 
 add-i : tie.Need-add-i Inv-loop μ-loop
@@ -39,7 +39,8 @@ loop-less c = omega arith
 
 loop-again : tie.Need-loop-again Inv-loop μ-loop
 loop-again c =
-    let inv = c .before .before .before .loop .inv in
+    let l : tie.At-loop Inv-loop μ-loop = search in
+    let inv = l .loop .inv in
     let added = c .add-point .ensures in
     (added .1, goes-on _ _ _ _ (inv .1) _ (omega arith) (rw (sym (c .before .recovered-at .ensures)) (added .0)))
 

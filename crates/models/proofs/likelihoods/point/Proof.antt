@@ -10,11 +10,11 @@ use Rattle.models.proofs.likelihoods.point.Tie as tie
 returns : tie.Need-returns
 unfolding pointFrom
 returns c =
-    let mixed = c .before .before .before .before .before .before .before in
+    let mixed : tie.After-mix-at = search in
     let tail = mixed .before in
     let second = tail .before in
     let lobe = second .before in
-    let start = lobe .before .before .before .before in
+    let start : tie.Start = search in
     let a = start .args in
     let few = start .pre .0 in
     let held = start .pre .1 in

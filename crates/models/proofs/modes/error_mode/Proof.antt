@@ -27,7 +27,7 @@ returns-3 c =
 returns-4 : tie.Need-returns-4
 unfolding errorModeOf
 returns-4 c =
-    let best = c .before .before in
+    let best : tie.After-highest = search in
     let some = best .before in
     let flag = ap (λ (b : Standing). b .nan) (best .highest .ensures) in
     simp (le-ltb _ _ (some .before .if1 .left), ne-eqb _ _ (some .if2 .left), sym flag ∙ c .before .if3 .left)

@@ -8,13 +8,13 @@ use Rattle.models.proofs.modes.higher.Tie as tie
 returns : tie.Need-returns
 unfolding higherWith
 returns c =
-    let flag = c .before .before in
+    let flag : tie.After-with-nan = search in
     rw (flag .with-nan .ensures, sym (c .before .later-wins .ensures) ∙ c .if1 .taken)
 
 returns-2 : tie.Need-returns-2
 unfolding higherWith
 returns-2 c =
-    let flag = c .before .before in
+    let flag : tie.After-with-nan = search in
     rw (flag .with-nan .ensures, sym (c .before .later-wins .ensures) ∙ c .if1 .left)
 
 pub higher-spec : {M : Type 1} → statement M

@@ -38,9 +38,10 @@ loop-less c = omega arith
 loop-again : tie.Need-loop-again Inv-loop μ-loop
 unfolding higherOf
 loop-again c =
+    let l : tie.At-loop Inv-loop μ-loop = search in
     let survival = c .before in
     let log = survival .before in
-    let turn = log .before .before .before .loop in
+    let turn = l .loop in
     let inv = turn .inv in
     let few : turn .count ≤ 65535 = omega arith in
     let next = next-survival (turn .count) few _ _ _ (survival .survival-with .ensures) (log .ln .ensures) in (

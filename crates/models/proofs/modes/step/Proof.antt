@@ -27,7 +27,7 @@ returns c =
 
 returns-2 : tie.Need-returns-2
 returns-2 c =
-    let start = c .before .before .before .before .before in
+    let start : tie.Start = search in
     c .higher .ensures
     ∙ ap (λ (x : Float). higherWith x (start .args .count) (start .args .best)) (c .before .log-probability-between .ensures)
 

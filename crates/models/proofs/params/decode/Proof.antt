@@ -9,10 +9,10 @@ use Rattle.models.proofs.params.decode.Tie as tie
 
 -- the place after the list's base is known
 abbrev based : tie.After-error-params-at → tie.After-parameter-count
-based c = c .before .before .before .before .before .before .before .before .before .before .before
+based c = search
 
 base-few : (c : tie.After-error-params-at) → based c .parameter-count .result ≤ 7
-base-few c = omega (arith, based c .parameter-count .ensures, count-few (based c .before .before .args .error))
+base-few c = let s : tie.Start = search in omega (arith, based c .parameter-count .ensures, count-few (s .args .error))
 
 add-at : tie.Need-add-at
 add-at c = record { fits = omega (arith, base-few c) }
@@ -21,7 +21,9 @@ add-at-2 : tie.Need-add-at-2
 add-at-2 c = record { fits = omega (arith, base-few (c .before)) }
 
 add-at-3 : tie.Need-add-at-3
-add-at-3 c = record { fits = omega (arith, base-few (c .before .before)) }
+add-at-3 c =
+    let after-error-params-at : tie.After-error-params-at = search in
+    record { fits = omega (arith, base-few after-error-params-at) }
 
 returns : tie.Need-returns
 unfolding paramsOf

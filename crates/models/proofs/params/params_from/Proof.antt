@@ -18,15 +18,15 @@ returns-2 c = simp (le-ltb _ _ (c .before .if1 .left), lt-ltb _ _ (c .if2 .taken
 returns-3 : tie.Need-returns-3
 unfolding paramsAnswerOf
 returns-3 c =
-    let tests = c .before .before in
+    let tests : tie.Else2 = search in
     let few = le-ltb _ _ (tests .if2 .left) in
     simp (le-ltb _ _ (tests .before .if1 .left), few, sym (c .before .list-length .ensures), ne-eqb _ _ (c .if3 .taken))
 
 returns-4 : tie.Need-returns-4
 unfolding paramsAnswerOf
 returns-4 c =
-    let last = c .before .before in
-    let tests = last .before .before in
+    let last : tie.Else3 = search in
+    let tests : tie.Else2 = search in
     let few = le-ltb _ _ (tests .if2 .left) in
     let listed = sym (last .before .list-length .ensures) in
     simp (le-ltb _ _ (tests .before .if1 .left), few, listed, eq-eqb _ _ (last .if3 .left))

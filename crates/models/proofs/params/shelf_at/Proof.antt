@@ -8,8 +8,8 @@ use Rattle.models.proofs.params.shelf_at.Tie as tie
 returns : tie.Need-returns
 unfolding shelfAt round ofBits
 returns c =
-    let third = c .before .before in
-    let second = third .before .before in
+    let third : tie.After-sigmoid3 = search in
+    let second : tie.After-sigmoid2 = search in
     let made = second .before in
     rw (c .from-retained .ensures, third .sigmoid3 .ensures, second .sigmoid2 .ensures)
     (rw (made .shelf-concentration-bounds .ensures, made .before .sigmoid .ensures))

@@ -19,31 +19,35 @@ kept n end held e = (ap counted (sym e), ap (λ (r : Reply (List Float)). laid r
 
 returns : tie.Need-returns
 returns c =
-    let a = c .before .before .args in
+    let s : tie.Start = search in
+    let a = s .args in
     kept 2 (a .window-end) (a .out .now) (prepare-many (a .window-end) (length (a .out .now)) (c .if1 .taken))
 
 returns-2 : tie.Need-returns-2
 returns-2 c =
+    let s : tie.Start = search in
     let few = c .before in
-    let a = few .before .before .args in
+    let a = s .args in
     kept 5 (a .window-end) (a .out .now)
     (prepare-none (a .window-end) (length (a .out .now)) (few .if1 .left) (c .if2 .taken))
 
 returns-3 : tie.Need-returns-3
 returns-3 c =
+    let s : tie.Start = search in
     let some = c .before in
     let few = some .before in
-    let a = few .before .before .args in
+    let a = s .args in
     kept 10 (a .window-end) (a .out .now)
     (prepare-short (a .window-end) (length (a .out .now)) (few .if1 .left) (some .if2 .left) (c .if3 .taken))
 
 returns-4 : tie.Need-returns-4
 returns-4 c =
-    let done = c .before .before in
-    let room = done .before .before in
+    let s : tie.Start = search in
+    let done : tie.After-write-rows = search in
+    let room : tie.Else3 = search in
     let some = room .before in
     let few = some .before in
-    let a = few .before .before .args in
+    let a = s .args in
     let e = prepare-given (a .window-end) (length (a .out .now)) (few .if1 .left) (some .if2 .left) (room .if3 .left) in (
       ap give (sym (rows-length (a .window-end + 2))) ∙ ap counted (sym e),
       done .write-rows .ensures ∙ ap (λ (r : Reply (List Float)). laid r (a .out .now)) (sym e),

@@ -37,7 +37,8 @@ loop-less c = omega arith
 
 loop-again : tie.Need-loop-again Inv-loop μ-loop
 loop-again c =
-    let inv = c .before .before .before .before .loop .inv in (
+    let l : tie.At-loop Inv-loop μ-loop = search in
+    let inv = l .loop .inv in (
       omega arith,
       simp length-set (inv .1),
       inv .2,
@@ -46,9 +47,11 @@ loop-again c =
 
 returns : tie.Need-returns Inv-loop μ-loop
 returns c =
-    let inv = c .before .loop .inv in
-    let a = c .before .before .before .args in
-    let done : c .before .loop .n ≡ a .rows = omega arith in
+    let l = c .before in
+    let s : tie.Start Inv-loop μ-loop = search in
+    let inv = l .loop .inv in
+    let a = s .args in
+    let done : l .loop .n ≡ a .rows = omega arith in
     inv .3 ∙ ap (λ (k : ℕ). over (readyRows k) (a .out .now)) done
 
 pub write-rows-spec : {M : Type 1} → statement M

@@ -11,8 +11,9 @@ use Rattle.models.proofs.recovery.rounded_quotient.Tie as tie
 returns : tie.Need-returns
 unfolding roundedQuotientOf
 returns c =
-    let a = c .before .args in
-    let few = c .before .fits .n in
+    let s = c .before in
+    let a = s .args in
+    let few = s .fits .n in
     let whole = count-over-one (a .divisor) (a .n) (c .if1 .taken) (omega (arith, few)) in
     sym (ap (toUnsigned 32) whole ∙ count-back 32 (a .n) (omega (arith, few)) (omega (arith, few)))
 

@@ -7,11 +7,15 @@ use Rattle.models.proofs.recovery.used_scale.Tie as tie
 
 returns : tie.Need-returns
 unfolding usedScaleOf
-returns c = rw (sym (c .before .before .is-finite .ensures) ∙ c .before .if1 .taken, c .if2 .taken)
+returns c =
+    let after-is-finite : tie.After-is-finite = search in
+    rw (sym (after-is-finite .is-finite .ensures) ∙ c .before .if1 .taken, c .if2 .taken)
 
 returns-2 : tie.Need-returns-2
 unfolding usedScaleOf
-returns-2 c = rw (sym (c .before .before .is-finite .ensures) ∙ c .before .if1 .taken, c .if2 .left)
+returns-2 c =
+    let after-is-finite : tie.After-is-finite = search in
+    rw (sym (after-is-finite .is-finite .ensures) ∙ c .before .if1 .taken, c .if2 .left)
 
 returns-3 : tie.Need-returns-3
 unfolding usedScaleOf

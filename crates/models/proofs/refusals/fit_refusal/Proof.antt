@@ -61,12 +61,12 @@ module _ (s : tie.Start) where
 
 -- ---- 1
 abbrev start-low : tie.Else2 → tie.Start
-start-low c = c .before .before .before
+start-low c = search
 
 returns : tie.Need-returns
 unfolding fitTests
 returns c =
-    let s = c .before .before in
+    let s : tie.Start = search in
     let which : Some (λ (n : ℕ). n < 2) (lows s) =
     ⊎-elim (λ t. inl (t .taken)) (λ t. inr (inl (ltb-true _ _ (t .1 .taken)))) (c .if1 .came) in
     stops (low s) (inOrder (high s ∷ after-high s)) 1 (below-two-found (lows s) which) (omega arith)
@@ -89,43 +89,49 @@ returns-2 c =
     past-low (c .before) 2 (stops (high s) (inOrder (after-high s)) 2 (above-most-found (highs s) which) (omega arith))
 
 abbrev start-high : tie.Else5 → tie.Start
-start-high c = start-low (c .before .before .before)
+start-high c = search
 
 past-high : (c : tie.Else5) → Number (start-high c) (after-high (start-high c))
 past-high c n h =
+    let else3 : tie.Else3 = search in
+    let else2 : tie.Else2 = search in
     let s = start-high c in
     let none = above-most-clear (highs s)
-    (c .before .before .if3 .left, (ltb-false _ _ (c .before .if4 .left), (ltb-false _ _ (c .if5 .left), tt))) in
-    past-low (c .before .before .before) n (goes-on (high s) (inOrder (after-high s)) refl none n h)
+    (else3 .if3 .left, (ltb-false _ _ (c .before .if4 .left), (ltb-false _ _ (c .if5 .left), tt))) in
+    past-low else2 n (goes-on (high s) (inOrder (after-high s)) refl none n h)
 
 -- ---- 4, 5 and 6
 returns-3 : tie.Need-returns-3
 returns-3 c =
-    let s = start-high (c .before .before) in
+    let else5 : tie.Else5 = search in
+    let s : tie.Start = search in
     let first = c .before .window-refusal .ensures in
-    past-high (c .before .before) _
+    past-high else5 _
     (stops (spectrum s) (inOrder (after-spectrum s)) _ first (omega (arith, c .if6 .taken)))
 
 abbrev start-spectrum : tie.Else6 → tie.Start
-start-spectrum c = start-high (c .before .before)
+start-spectrum c = search
 
 past-spectrum : (c : tie.Else6) → Number (start-spectrum c) (after-spectrum (start-spectrum c))
 past-spectrum c n h =
+    let else5 : tie.Else5 = search in
     let s = start-spectrum c in
     let none = sym (c .if6 .left) ∙ c .before .window-refusal .ensures in
-    past-high (c .before .before) n
+    past-high else5 n
     (goes-on (spectrum s) (inOrder (after-spectrum s)) (unfold spectrumTests in refl) none n h)
 
 -- ---- 7
 returns-4 : tie.Need-returns-4
 returns-4 c =
+    let else6 : tie.Else6 = search in
     let wrong = ap (eqb _) (sym (c .before .list-length .ensures)) ∙ ne-eqb _ _ (c .if7 .taken) in
-    past-spectrum (c .before .before) 7 (simp (ap not wrong))
+    past-spectrum else6 7 (simp (ap not wrong))
 
-past-list : (c : tie.Else7) → Number (start-spectrum (c .before .before)) (table (start-spectrum (c .before .before)))
+past-list : (c : tie.Else7) → let s : tie.Start = search in Number s (table s)
 past-list c n h =
+    let else6 : tie.Else6 = search in
     let right = eq-eqb _ _ (c .if7 .left ∙ c .before .list-length .ensures) in
-    past-spectrum (c .before .before) n (simp (ap not right) h)
+    past-spectrum else6 n (simp (ap not right) h)
 
 -- ---- 10
 returns-5 : tie.Need-returns-5

@@ -19,7 +19,7 @@ enum-told : tie.Need-enum-told
 enum-told c = search needs
 
 returns : tie.Need-returns
-returns c = rw (c .enum-told .given .1) (rw (le-ltb (c .before .before .args .room) 0 (omega arith)))
+returns c = let s : tie.Start = search in rw (c .enum-told .given .1) (rw (le-ltb (s .args .room) 0 (omega arith)))
 
 returns-2 : tie.Need-returns-2
 returns-2 c = rw (c .before .enum-told2 .given .1) (rw (full _ _ (c .if1 .taken)))

@@ -20,8 +20,9 @@ returns-2 c =
 returns-3 : tie.Need-returns-3
 unfolding binsTests spectrumTests
 returns-3 c =
+    let else1 : tie.Else1 = search in
     let left = c .before in
-    simp (le-ltb _ _ (left .before .before .if1 .left), le-ltb _ _ (left .before .if2 .left), left .if3 .left)
+    simp (le-ltb _ _ (else1 .if1 .left), le-ltb _ _ (left .before .if2 .left), left .if3 .left)
     (c .window-refusal .ensures)
 
 pub spectrum-refusal-spec : {M : Type 1} → statement M

@@ -12,7 +12,8 @@ returns-2 c = simp (le-ltb _ _ (c .before .if1 .left), eq-eqb _ _ (c .if2 .taken
 
 returns-3 : tie.Need-returns-3
 returns-3 c =
-    simp (le-ltb _ _ (c .before .before .if1 .left), ne-eqb _ _ (c .before .if2 .left)) (c .short-refusal .ensures)
+    let else1 : tie.Else1 = search in
+    simp (le-ltb _ _ (else1 .if1 .left), ne-eqb _ _ (c .before .if2 .left)) (c .short-refusal .ensures)
 
 pub table-refusal-spec : {M : Type 1} → statement M
 table-refusal-spec = tie.close (tie.spec returns returns-2 (λ c κs. search needs) returns-3)

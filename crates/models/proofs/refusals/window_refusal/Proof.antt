@@ -15,7 +15,7 @@ returns : tie.Need-returns
 unfolding spectrumTests
 returns c = simp (sym (c .before .all-zero .ensures) ∙ c .if1 .taken)
 
-some-bin : (c : tie.Else1) → allZeroOf (c .before .before .before .args .bins .now) ≡ false
+some-bin : (c : tie.Else1) → let s : tie.Start = search in allZeroOf (s .args .bins .now) ≡ false
 some-bin c = sym (c .before .all-zero .ensures) ∙ c .if1 .left
 
 returns-2 : tie.Need-returns-2
@@ -26,7 +26,7 @@ returns-2 c =
     (c .if2 .came)
 
 abbrev start : tie.After-none-recovered → tie.Start
-start c = c .before .before .before .before .before .before .before
+start c = search
 
 recovered-is : (c : tie.After-none-recovered) → let a = start c .args in
     c .none-recovered .result ≡ noneRecoveredOf (a .bins .now) (usedScaleOf (a .scale)) (a .window-end)
@@ -38,16 +38,18 @@ recovered-is c =
 returns-3 : tie.Need-returns-3
 unfolding spectrumTests
 returns-3 c =
-    let inside = c .before .before .before in
+    let else1 : tie.Else1 = search in
+    let inside : tie.Else3 = search in
     let none = sym (recovered-is (c .before)) ∙ c .if4 .taken in
-    simp (some-bin (inside .before .before), ne-eqb _ _ (inside .before .if2 .left), inside .if3 .left, none)
+    simp (some-bin else1, ne-eqb _ _ (inside .before .if2 .left), inside .if3 .left, none)
 
 returns-4 : tie.Need-returns-4
 unfolding spectrumTests
 returns-4 c =
-    let inside = c .before .before .before in
+    let else1 : tie.Else1 = search in
+    let inside : tie.Else3 = search in
     let some = sym (recovered-is (c .before)) ∙ c .if4 .left in
-    simp (some-bin (inside .before .before), ne-eqb _ _ (inside .before .if2 .left), inside .if3 .left, some)
+    simp (some-bin else1, ne-eqb _ _ (inside .before .if2 .left), inside .if3 .left, some)
 
 pub window-refusal-spec : {M : Type 1} → statement M
 window-refusal-spec =

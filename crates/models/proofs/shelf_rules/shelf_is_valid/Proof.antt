@@ -33,7 +33,7 @@ abbrev seven : Shelf → Bool
 seven s = six s && le (minRetained ⊖ slack) (retainedOf s)
 
 abbrev of-two : tie.Joined1 → Shelf
-of-two c = c .before .before .args .s
+of-two c = let s : tie.Start = search in s .args .s
 
 is-two : (c : tie.Joined1) → c .if1 .if2 ≡ two (of-two c)
 is-two c =
@@ -85,7 +85,8 @@ is-seven c =
 returns : tie.Need-returns
 unfolding shelfIsValidOf round ofBits
 returns c =
-    went-on (is-seven (c .before .before)) (c .before .if7 .taken)
+    let joined6 : tie.Joined6 = search in
+    went-on (is-seven joined6) (c .before .if7 .taken)
     (ap (λ (x : Float). le x (maxConcentration ⊕ slack)) (c .concentration .ensures)) refl
 
 returns-2 : tie.Need-returns-2

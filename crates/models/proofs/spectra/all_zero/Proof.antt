@@ -35,7 +35,9 @@ loop-less : tie.Need-loop-less Inv-loop μ-loop
 loop-less c = omega arith
 
 loop-again : tie.Need-loop-again Inv-loop μ-loop
-loop-again c = all-more _ _ (c .before .before .before .loop .inv) (omega arith) (eq-eqb _ _ (c .if1 .left))
+loop-again c =
+    let l : tie.At-loop Inv-loop μ-loop = search in
+    all-more _ _ (l .loop .inv) (omega arith) (eq-eqb _ _ (c .if1 .left))
 
 returns-2 : tie.Need-returns-2 Inv-loop μ-loop
 returns-2 c = all-holds _ _ (c .before .loop .inv) (omega arith)

@@ -31,7 +31,7 @@ loop-less : tie.Need-loop-less Inv-loop μ-loop
 loop-less c = omega arith
 
 loop-again : tie.Need-loop-again Inv-loop μ-loop
-loop-again c = goes-on _ _ _ _ (c .before .before .before .loop .inv) _ (omega arith) refl
+loop-again c = let l : tie.At-loop Inv-loop μ-loop = search in goes-on _ _ _ _ (l .loop .inv) _ (omega arith) refl
 
 returns : tie.Need-returns Inv-loop μ-loop
 unfolding fullTotalOf

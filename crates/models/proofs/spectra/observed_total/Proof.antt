@@ -28,7 +28,10 @@ loop-less : tie.Need-loop-less Inv-loop μ-loop
 loop-less c = omega arith
 
 loop-again : tie.Need-loop-again Inv-loop μ-loop
-loop-again c = goes-on _ _ _ _ (c .before .before .before .loop .inv) _ (omega arith) (c .add-seen .ensures ∙ ap (λ (n : ℕ). seenTerm n (c .before .before .before .loop .total) (ofCount n)) (c .before .recovered-at .ensures))
+loop-again c =
+    let l : tie.At-loop Inv-loop μ-loop = search in
+    goes-on _ _ _ _ (l .loop .inv) _ (omega arith) (c .add-seen .ensures
+    ∙ ap (λ (n : ℕ). seenTerm n (l .loop .total) (ofCount n)) (c .before .recovered-at .ensures))
 
 returns : tie.Need-returns Inv-loop μ-loop
 unfolding overObserved

@@ -5,7 +5,7 @@ use Rattle.models.proofs.steady.steady_of.Tie as tie
 
 returns : tie.Need-returns
 returns c =
-    let lobes = c .before .before .before .before in
+    let lobes : tie.After-lobes-of = search in
     rw (c .shelf-logs .ensures, c .before .ln-tail .ensures, lobes .lobes-of .ensures)
 
 pub steady-of-spec : {M : Type 1} → statement M

@@ -16,13 +16,14 @@ returns c = (rw (c .enum-told .given .1), rw (c .enum-told .given .1) (sym (over
 
 -- where the table's writer has answered
 abbrev start : tie.After-shelf-log-table → tie.Start
-start c = c .before .before .before .before .before .before
+start c = search
 
 returns-2 : tie.Need-returns-2
 returns-2 c =
-    let call = c .before .before .before .before .before in
+    let after-shelf : tie.After-shelf = search in
+    let call : tie.After-shelf-log-table = search in
     let a = start call .args in
-    let told = call .before .before .before .shelf .given .1 in
+    let told = after-shelf .shelf .given .1 in
     let said = call .shelf-log-table .ensures in (
       filled-items (a .mean) (a .top) (a .table .now) (a .shelf) _ told _ _ (said .0) (c .before .written .given .1),
       filled-table (a .mean) (a .top) (a .table .now) (a .shelf) _ told _ (said .1),
@@ -30,9 +31,10 @@ returns-2 c =
 
 returns-3 : tie.Need-returns-3
 returns-3 c =
-    let call = c .before .before .before .before in
+    let after-shelf : tie.After-shelf = search in
+    let call : tie.After-shelf-log-table = search in
     let a = start call .args in
-    let told = call .before .before .before .shelf .given .1 in
+    let told = after-shelf .shelf .given .1 in
     let said = call .shelf-log-table .ensures in (
       filled-none (a .mean) (a .top) (a .table .now) (a .shelf) _ told _ _ (said .0) (c .enum-told2 .given .1),
       filled-table (a .mean) (a .top) (a .table .now) (a .shelf) _ told _ (said .1),

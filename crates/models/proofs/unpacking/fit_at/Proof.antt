@@ -12,14 +12,14 @@ use Rattle.models.proofs.unpacking.fit_at.Tie as tie
 -- where the table was written
 module _ (c : tie.After-fill-table) where
   abbrev start : tie.Start
-  start = c .before .before .before .before
+  start = search
 
   abbrev entries : List Float
   entries = let a = start .args in entriesIn (a .p .shelf) (a .p .mean) (a .window .end) (length (a .table .now))
 
 part-masses-of-end : tie.Need-part-masses-of-end
 part-masses-of-end c =
-    let filled = c .before .before .before in
+    let filled : tie.After-fill-table = search in
     let fill = filled .fill-table in
     let a = start filled .args in
     front-room (entries filled) (a .table .now) _ _ (fill .ensures .0) (fill .ensures .1)
@@ -28,7 +28,7 @@ part-masses-of-end c =
 returns : tie.Need-returns
 returns c =
     let measured = c .before in
-    let filled = measured .before .before .before .before .before in
+    let filled : tie.After-fill-table = search in
     let fill = filled .fill-table in
     let a = start filled .args in (
       fit-is (a .bins .now) (a .window) (a .error) (a .genome) (a .p) (a .cost) (a .iterations) _ (entries filled) _ _

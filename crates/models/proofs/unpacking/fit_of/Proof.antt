@@ -6,20 +6,16 @@ use borrow.Author.Needs.{needs}
 use Rattle.models.proofs.unpacking.fit_of.Statement.{statement}
 use Rattle.models.proofs.unpacking.fit_of.Tie as tie
 
--- the place after the first total, from that after the length
-abbrev first-total : tie.After-list-length → tie.After-log-total
-first-total c = c .before .before .before .before .before .before .before .before .before
-
 int-to-float-t27 : tie.Need-int-to-float-t27
 int-to-float-t27 c =
-    let start = first-total (c .before) .before .before .before .before .before in
+    let start : tie.Start = search in
     length-held (start .args .error) (start .args .genome) _ (c .before .list-length .ensures)
 
 returns : tie.Need-returns
 unfolding fitOf fitWith round ofBits
 returns c =
-    let logged = c .before .before in
-    let counted = logged .before .before in
+    let logged : tie.After-ln2 = search in
+    let counted : tie.After-list-length = search in
     let exp6 = counted .before in
     let exp5 = exp6 .before in
     let exp4 = exp5 .before in

@@ -9,11 +9,11 @@ use Rattle.models.proofs.unpacking.unpack.Statement.{statement}
 use Rattle.models.proofs.unpacking.unpack.Tie as tie
 
 abbrev start : tie.After-fit-refusal → tie.Start
-start c = c .before .before .before .before
+start c = search
 
 returns : tie.Need-returns
 returns c =
-    let refusal = c .before .before in
+    let refusal : tie.After-fit-refusal = search in
     let a = start refusal .args in
     let first = refusal .fit-refusal .ensures in
     let some : 0 < refusal .fit-refusal .result = omega (arith, c .before .if1 .taken) in (
@@ -38,12 +38,14 @@ cast-unpack-at : tie.Need-cast-unpack-at
 cast-unpack-at c = let all = passed (c .before) in omega (arith, all .peak-few)
 
 unpack-at-requires : tie.Need-unpack-at-requires
-unpack-at-requires c κs = rw (c .before .window-of .ensures) (passed (c .before .before) .spectrum .end-some)
+unpack-at-requires c κs =
+    let else1 : tie.Else1 = search in
+    rw (c .before .window-of .ensures) (passed else1 .spectrum .end-some)
 
 returns-2 : tie.Need-returns-2
 returns-2 c =
-    let fitted = c .before .before in
-    let window = fitted .before .before in
+    let fitted : tie.After-unpack-at = search in
+    let window : tie.After-window-of = search in
     let left = window .before in
     let a = start (left .before) .args in
     let first = left .before .fit-refusal .ensures in (

@@ -8,8 +8,9 @@ use Rattle.models.proofs.unpacking.unpack_at.Tie as tie
 returns : tie.Need-returns
 unfolding unpackAt
 returns c =
-    let fitted = c .before .before in
-    let decoded = fitted .before .before .decode .ensures in
+    let after-decode : tie.After-decode = search in
+    let fitted : tie.After-fit-at = search in
+    let decoded = after-decode .decode .ensures in
     (fitted .fit-at .ensures .0 ∙ rw decoded, fitted .fit-at .ensures .1 ∙ rw decoded)
 
 pub unpack-at-spec : {M : Type 1} → statement M

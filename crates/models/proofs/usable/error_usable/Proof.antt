@@ -23,7 +23,7 @@ abbrev four : ErrorParams → Bool
 four p = three p && lt (p .«singleton_probability») one
 
 abbrev of-two : tie.Joined1 → ErrorParams
-of-two c = c .before .before .args .p
+of-two c = let s : tie.Start = search in s .args .p
 
 is-two : (c : tie.Joined1) → c .if1 .if2 ≡ two (of-two c)
 is-two c =
@@ -48,7 +48,9 @@ is-four c =
 
 returns : tie.Need-returns
 unfolding errorUsable
-returns c = went-on (is-four (c .before .before)) (c .before .if4 .taken) (c .shape-usable .ensures) refl
+returns c =
+    let joined3 : tie.Joined3 = search in
+    went-on (is-four joined3) (c .before .if4 .taken) (c .shape-usable .ensures) refl
 
 returns-2 : tie.Need-returns-2
 unfolding errorUsable

@@ -26,7 +26,7 @@ abbrev five : Params → Bool
 five p = four p && errorUsable (p .«error_params»)
 
 abbrev of-two : tie.Joined1 → Params
-of-two c = c .before .before .args .p
+of-two c = let s : tie.Start = search in s .args .p
 
 is-two : (c : tie.Joined1) → c .if1 .if2 ≡ two (of-two c)
 is-two c =
@@ -59,7 +59,9 @@ is-five c =
 
 returns : tie.Need-returns
 unfolding paramsUsable
-returns c = went-on (is-five (c .before .before)) (c .before .if5 .taken) (c .shelf-usable .ensures) refl
+returns c =
+    let joined4 : tie.Joined4 = search in
+    went-on (is-five joined4) (c .before .if5 .taken) (c .shelf-usable .ensures) refl
 
 returns-2 : tie.Need-returns-2
 unfolding paramsUsable

@@ -29,7 +29,7 @@ loop-holds c = (omega arith, all-begins (probabilityOf (c .args .single)))
 
 returns : tie.Need-returns Inv-loop μ-loop
 returns c =
-    let l = c .before .before .before in
+    let l : tie.At-loop Inv-loop μ-loop = search in
     let a = l .before .args in
     sym (all-stops (probabilityOf (a .single)) (l .loop .count) (suc (a .ceiling)) (omega arith)
     (one-side (a .single) (l .loop .count) _ (c .before .probability .ensures) ∙ not-true _ (c .if1 .taken)))
@@ -42,7 +42,7 @@ loop-less c = omega arith
 
 loop-again : tie.Need-loop-again Inv-loop μ-loop
 loop-again c =
-    let l = c .before .before .before in
+    let l : tie.At-loop Inv-loop μ-loop = search in
     let a = l .before .args in (
       omega arith,
       all-goes (probabilityOf (a .single)) (l .loop .count) (l .loop .inv .1)
@@ -51,7 +51,7 @@ loop-again c =
 
 returns-2 : tie.Need-returns-2 Inv-loop μ-loop
 returns-2 c =
-    let l = c .before .before in
+    let l : tie.At-loop Inv-loop μ-loop = search in
     let a = l .before .args in
     let p = probabilityOf (a .single) in
     let reached : l .loop .count ≡ a .ceiling = omega arith in

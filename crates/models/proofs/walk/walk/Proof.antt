@@ -28,20 +28,23 @@ loop-holds c =
     ∙ ap (walkFrom (probabilityOf (a .single)) (a .allowed) (a .ceiling - 1) 1) (sym (c .probability .ensures))
 
 -- the sum through the count, as the code has it and as the walk has it
-tested : (c : tie.After-probability2 Inv-loop μ-loop) (b : Bool) → let l = c .before .before in
-    let a = l .before .before .args in
+tested : (c : tie.After-probability2 Inv-loop μ-loop) (b : Bool) → let s : tie.Start Inv-loop μ-loop = search in
+    let l : tie.At-loop Inv-loop μ-loop = search in
+    let a = s .args in
     lt (a .allowed) (l .loop .cdf ⊕ c .probability2 .result) ≡ b
     → lt (a .allowed) (l .loop .cdf ⊕ probabilityOf (a .single) (l .loop .count)) ≡ b
 tested c b t =
-    let l = c .before .before in
-    let a = l .before .before .args in
+    let s : tie.Start Inv-loop μ-loop = search in
+    let l : tie.At-loop Inv-loop μ-loop = search in
+    let a = s .args in
     ap (λ (x : Float). lt (a .allowed) (l .loop .cdf ⊕ x)) (sym (c .probability2 .ensures)) ∙ t
 
 returns : tie.Need-returns Inv-loop μ-loop
 returns c =
-    let sum = c .before .before in
-    let l = sum .before .before in
-    let a = l .before .before .args in
+    let s : tie.Start Inv-loop μ-loop = search in
+    let sum : tie.After-probability2 Inv-loop μ-loop = search in
+    let l : tie.At-loop Inv-loop μ-loop = search in
+    let a = s .args in
     sym (l .loop .inv
     ∙ walk-hits (probabilityOf (a .single)) (a .allowed) (a .ceiling) (l .loop .count) (l .loop .cdf) (omega arith)
     (tested sum _ (c .before .if1 .taken)) ∙ ap some (sym (c .at-least-two .ensures)))
@@ -54,9 +57,10 @@ loop-less c = omega arith
 
 loop-again : tie.Need-loop-again Inv-loop μ-loop
 loop-again c =
+    let s : tie.Start Inv-loop μ-loop = search in
     let sum = c .before in
-    let l = sum .before .before in
-    let a = l .before .before .args in
+    let l : tie.At-loop Inv-loop μ-loop = search in
+    let a = s .args in
     let p = probabilityOf (a .single) in
     let k = l .loop .count in
     l .loop .inv
@@ -66,8 +70,9 @@ loop-again c =
 
 returns-2 : tie.Need-returns-2 Inv-loop μ-loop
 returns-2 c =
+    let s : tie.Start Inv-loop μ-loop = search in
     let l = c .before in
-    let a = l .before .before .args in
+    let a = s .args in
     sym (l .loop .inv
     ∙ walk-ends (probabilityOf (a .single)) (a .allowed) (a .ceiling) (l .loop .count) (l .loop .cdf) (omega arith))
 

@@ -12,10 +12,10 @@ use Rattle.models.proofs.window_masses.masses_at.Tie as tie
 returns : tie.Need-returns
 unfolding massesAt
 returns c =
-    let lobes = c .before .before .before in
-    let made = lobes .before .before .before in
+    let lobes : tie.After-lobe-masses = search in
+    let made : tie.After-window-end = search in
     let error = made .before in
-    let start = error .before .before .before .before .before in
+    let start : tie.Start = search in
     let end = ap (λ (a : EndAnswer). a .end .count) (made .window-end .ensures)
     ∙ window-end-is (start .args .top) (start .pre) (omega (arith, start .fits .top)) in (
       rw (c .mix-mass .ensures, lobes .lobe-masses .ensures .0, error .window-mass-with .ensures, error .before .ln-at .ensures)

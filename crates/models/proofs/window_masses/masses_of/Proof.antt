@@ -9,8 +9,8 @@ use Rattle.models.proofs.window_masses.masses_of.Tie as tie
 returns : tie.Need-returns
 returns c =
     let at = c .before in
-    let steady = at .before .before .before in
-    let start = steady .before .before in
+    let steady : tie.After-steady-of = search in
+    let start : tie.Start = search in
     let a = start .args in
     at .masses-at .ensures .0
     ∙ plain-masses (a .p) _ (a .table .now) (a .top) (omega (arith, start .fits .top)) (steady .steady-of .ensures)

@@ -9,7 +9,8 @@ use Rattle.models.proofs.window_masses.masses_usable.Statement.{stateme
 use Rattle.models.proofs.window_masses.masses_usable.Tie as tie
 
 two : (c : tie.Joined1)
-    → let m = c .before .before .args .m in c .if1 .if2 ≡ (massUsable (m .error) && massUsable (m .single))
+    → let s : tie.Start = search in let m = s .args .m in c .if1 .if2
+    ≡ (massUsable (m .error) && massUsable (m .single))
 two c =
     let one = c .before .mass-usable .ensures in
     ⊎-elim (λ w. went-on one (w .0 .taken) (w .1 .ensures) (w .2)) (λ w. stopped _ one (w .0 .left) (w .1))
@@ -17,7 +18,9 @@ two c =
 
 returns : tie.Need-returns
 unfolding massesUsable
-returns c = went-on (two (c .before .before)) (c .before .if2 .taken) (c .mass-usable3 .ensures) refl
+returns c =
+    let joined1 : tie.Joined1 = search in
+    went-on (two joined1) (c .before .if2 .taken) (c .mass-usable3 .ensures) refl
 
 returns-2 : tie.Need-returns-2
 unfolding massesUsable

@@ -35,7 +35,7 @@ abbrev μ-loop : tie.MeasureT-loop
 μ-loop bins problem w runs starts simplexes₀ iterations₀ stopped₀ ready table₀ d size i₀ simplexes iterations stopped table i = runs - i
 
 abbrev start : tie.At-loop Inv-loop μ-loop → tie.Start Inv-loop μ-loop
-start l = l .before .before .before .before .before .before .before .before
+start l = search
 
 module _ (l : tie.At-loop Inv-loop μ-loop) where
   abbrev price : ℕ → List Float → Float
@@ -65,19 +65,22 @@ module _ (l : tie.At-loop Inv-loop μ-loop) where
   in-slice h = lies-in size (start l .args .runs) rowsOf (start l .args .simplexes .now) _ (l .loop .i) (l .loop .inv .2) room h
 
 sub-d : tie.Need-sub-d Inv-loop μ-loop
-sub-d c = omega (arith, c .before .before .before .before .before .before .before .pre .0)
+sub-d c = let s : tie.Start Inv-loop μ-loop = search in omega (arith, s .pre .0)
 
 mul-size : tie.Need-mul-size Inv-loop μ-loop
-mul-size c = let s = c .before .before .before .before .before .before .before in omega (arith, few-numbers (s .args .w) (s .pre .1))
+mul-size c = let s : tie.Start Inv-loop μ-loop = search in omega (arith, few-numbers (s .args .w) (s .pre .1))
 
 loop-holds : tie.Need-loop-holds Inv-loop μ-loop
 loop-holds c = (refl, refl, begins _ _ _ _, each.begins _ _ _, each.begins _ _ _)
 
+abbrev start-from-in-loop : tie.In-loop Inv-loop μ-loop → tie.Start Inv-loop μ-loop
+start-from-in-loop c = search
+
 mul-begin : tie.Need-mul-begin Inv-loop μ-loop
-mul-begin c = omega (arith, in-starts (c .before) (c .loop-test .taken), start (c .before) .good .1 .1 .1 .1 .0)
+mul-begin c = omega (arith, in-starts (c .before) (c .loop-test .taken), start-from-in-loop c .good .1 .1 .1 .1 .0)
 
 add-end : tie.Need-add-end Inv-loop μ-loop
-add-end c = omega (arith, in-starts (c .before) (c .loop-test .taken), start (c .before) .good .1 .1 .1 .1 .0)
+add-end c = omega (arith, in-starts (c .before) (c .loop-test .taken), start-from-in-loop c .good .1 .1 .1 .1 .0)
 
 mul-from : tie.Need-mul-from Inv-loop μ-loop
 mul-from c = omega (arith, in-slice (c .before) (c .loop-test .taken))
@@ -86,7 +89,12 @@ add-to : tie.Need-add-to Inv-loop μ-loop
 add-to c = omega (arith, in-slice (c .before) (c .loop-test .taken))
 
 mul-first-simplex : tie.Need-mul-first-simplex Inv-loop μ-loop
-mul-first-simplex c = omega (arith, in-starts (c .before) (c .loop-test .taken), start (c .before) .good .1 .1 .1 .1 .0)
+mul-first-simplex c = omega (
+  arith,
+  in-starts (c .before) (c .loop-test .taken),
+  start-from-in-loop
+      c .good .1 .1 .1 .1 .0,
+)
 
 sub-first-simplex : tie.Need-sub-first-simplex Inv-loop μ-loop
 sub-first-simplex c = omega arith
@@ -99,8 +107,9 @@ part-first-simplex-end c = omega (arith, in-starts (c .before) (c .loop-test .ta
 
 mul-first-simplex-2 : tie.Need-mul-first-simplex-2 Inv-loop μ-loop
 mul-first-simplex-2 c =
+    let l : tie.At-loop Inv-loop μ-loop = search in
     let t = c .before in
-    omega (arith, in-slice (t .before) (t .loop-test .taken), t .before .loop .inv .2 .long, start (t .before) .good .1 .1 .1 .1 .1 .0)
+    omega (arith, in-slice l (t .loop-test .taken), l .loop .inv .2 .long, start (t .before) .good .1 .1 .1 .1 .1 .0)
 
 sub-first-simplex-2 : tie.Need-sub-first-simplex-2 Inv-loop μ-loop
 sub-first-simplex-2 c = omega arith
@@ -142,18 +151,21 @@ module _ (t : tie.In-loop Inv-loop μ-loop) where
 
 first-simplex-requires : tie.Need-first-simplex-requires Inv-loop μ-loop
 first-simplex-requires c κs =
-    let t = c .before .before .before in
+    let t : tie.In-loop Inv-loop μ-loop = search in
     let s = start (t .before) in
     (lent-long t, omega (arith, start-long t, s .pre .0), s .pre .1)
 
 mul-iterations : tie.Need-mul-iterations Inv-loop μ-loop
-mul-iterations c = omega (arith, start (c .before .before .before .before .before .before .before .before .before) .pre .2)
+mul-iterations c = let s : tie.Start Inv-loop μ-loop = search in omega (arith, s .pre .2)
+
+abbrev at-loop : tie.After-slice-known6 Inv-loop μ-loop → tie.At-loop Inv-loop μ-loop
+at-loop c = search
 
 slice-write-iterations : tie.Need-slice-write-iterations Inv-loop μ-loop
-slice-write-iterations c = let l = c .before .before .before .before .before .before .before .before .before in omega (arith, l .loop .inv .3 .long, start l .pre .5)
+slice-write-iterations c = let l = at-loop c in omega (arith, l .loop .inv .3 .long, start l .pre .5)
 
 slice-write-stopped : tie.Need-slice-write-stopped Inv-loop μ-loop
-slice-write-stopped c = let l = c .before .before .before .before .before .before .before .before .before in omega (arith, l .loop .inv .4 .long, start l .pre .6)
+slice-write-stopped c = let l = at-loop c in omega (arith, l .loop .inv .4 .long, start l .pre .6)
 
 add-i : tie.Need-add-i Inv-loop μ-loop
 add-i c = omega arith
@@ -163,9 +175,9 @@ loop-less c = omega arith
 
 loop-again : tie.Need-loop-again Inv-loop μ-loop
 loop-again c =
-    let r = c .before .before .before .before in
-    let t = r .before .before .before .before in
-    let l = t .before in
+    let r : tie.After-first-simplex Inv-loop μ-loop = search in
+    let t : tie.In-loop Inv-loop μ-loop = search in
+    let l = at-loop c in
     let s = start l in
     let a = s .args in
     let i = l .loop .i in

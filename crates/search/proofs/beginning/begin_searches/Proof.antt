@@ -27,7 +27,7 @@ use Rattle.search.proofs.beginning.begin_searches.Tie as tie
 -- ---- the numbers of a start
 module _ (w : tie.After-width) where
   abbrev start : tie.Start
-  start = w .before .before .before .before .before .before .before .before
+  start = search
 
   long-is : w .width .result - 1 ≡ sizeOf (start .args .problem)
   long-is = omega (arith, w .width .ensures)
@@ -48,10 +48,12 @@ rem-wrong c = long-some c
 refused-is : (r : tie.After-search-refusal) → let a = start (r .before) .args in
     r .search-refusal .result ≡ firstTest (a .bins .now) (a .problem) (a .starts .now) (lent (r .before))
 refused-is r =
+    let after-width = r .before in
     let a = start (r .before) .args in
     let n = length (a .starts .now) in
     r .search-refusal .ensures
-    ∙ ap (λ (d : ℕ). firstOf (searchTests (a .bins .now) (a .problem) (n / d) (not (eqb (n % d) 0)) (lent (r .before)))) (long-is (r .before))
+    ∙ ap (λ (d : ℕ). firstOf (searchTests (a .bins .now) (a .problem) (n / d) (not (eqb (n % d) 0)) (lent after-width)))
+    (long-is after-width)
 
 -- what the slices come to by the answer x
 module _ (s : tie.Start) where
@@ -85,7 +87,7 @@ returns c =
 -- ---- what is known once nothing is refused
 module _ (q : tie.After-prepare-window) where
   abbrev r : tie.After-search-refusal
-  r = q .before .before .before
+  r = search
 
   abbrev w : tie.After-width
   w = r .before
@@ -94,7 +96,9 @@ module _ (q : tie.After-prepare-window) where
   s = start w
 
   none : let a = s .args in 0 ≡ firstTest (a .bins .now) (a .problem) (a .starts .now) (lent w)
-  none = let z : 0 ≡ r .search-refusal .result = omega (arith, q .before .before .if1 .left) in z ∙ refused-is r
+  none =
+      let else1 : tie.Else1 = search in
+      let z : 0 ≡ r .search-refusal .result = omega (arith, else1 .if1 .left) in z ∙ refused-is r
 
   let-through : let a = s .args in
       SearchPassed (a .bins .now) (a .problem) (runsIn (a .problem) (a .starts .now)) (ragged (a .problem) (a .starts .now)) (lent w)
@@ -118,7 +122,7 @@ module _ (q : tie.After-prepare-window) where
 
 begin-all-requires : tie.Need-begin-all-requires
 begin-all-requires c κs =
-    let q = c .before .before .before .before .before .before .before in
+    let q : tie.After-prepare-window = search in
     let t = let-through q in
     let a = s q .args in
     let n = length (a .starts .now) in
@@ -137,8 +141,8 @@ begin-all-requires c κs =
 
 returns-2 : tie.Need-returns-2
 returns-2 c =
-    let k = c .before .before .before .before .before .before .before .before in
-    let q = k .before .before .before .before .before .before .before .before in
+    let k : tie.After-begin-all = search in
+    let q : tie.After-prepare-window = search in
     let a = s q .args in
     let X = a .starts .now in
     let n = length X in

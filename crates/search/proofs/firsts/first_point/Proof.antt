@@ -8,14 +8,16 @@ use Rattle.search.proofs.firsts.first_point.Tie as tie
 
 returns : tie.Need-returns
 returns c =
-    let k = c .before .before .before in
-    let a = k .before .before .before .before .args in
+    let s : tie.Start = search in
+    let k : tie.After-copy = search in
+    let a = s .args in
     k .copy .ensures ∙ first-same (a .start .now) (a .i) (omega arith)
 
 returns-2 : tie.Need-returns-2
 returns-2 c =
-    let k = c .before .before .before .before in
-    let a = k .before .before .before .before .args in
+    let s : tie.Start = search in
+    let k : tie.After-copy = search in
+    let a = s .args in
     rw (k .copy .ensures) (first-other (a .start .now) (a .i) (omega arith))
 
 pub first-point-spec : {M : Type 1} → statement M

@@ -26,16 +26,16 @@ abbrev μ-loop : tie.MeasureT-loop
 μ-loop bins problem w start point₀ rows₀ ready table₀ i₀ point rows table i = w - i
 
 abbrev begun : tie.At-loop Inv-loop μ-loop → tie.Start Inv-loop μ-loop
-begun l = l .before .before .before .before .before .before .before
+begun l = search
 
 abbrev turn : tie.After-first-point Inv-loop μ-loop → tie.In-loop Inv-loop μ-loop
-turn p = p .before .before
+turn p = search
 
 abbrev priced : tie.After-put-arg2 Inv-loop μ-loop → tie.After-price Inv-loop μ-loop
-priced k = k .before .before .before .before
+priced k = search
 
 abbrev pointed : tie.After-price Inv-loop μ-loop → tie.After-first-point Inv-loop μ-loop
-pointed q = q .before .before .before .before .before
+pointed q = search
 
 abbrev price : tie.Start Inv-loop μ-loop → List Float → Float
 price s = let a = s .args in readyPriceOf (a .bins .now) (a .problem) (a .ready .now) (length (a .table .now))
@@ -45,7 +45,7 @@ rows s = let a = s .args in rowsIn (a .w) (a .w) (a .rows .now)
 
 loop-holds : tie.Need-loop-holds Inv-loop μ-loop
 loop-holds c =
-    let s = c .before .before .before .before .before .before in
+    let s : tie.Start Inv-loop μ-loop = search in
     (refl, refl, refl, refl, begins (firstAt (price s) (s .args .start .now)) [] (rows s))
 
 first-point-requires : tie.Need-first-point-requires Inv-loop μ-loop
@@ -78,7 +78,7 @@ loop-less : tie.Need-loop-less Inv-loop μ-loop
 loop-less c = omega arith
 
 -- one more row is written
-more : (k : tie.After-put Inv-loop μ-loop) → let l = turn (pointed (priced (k .before))) .before in
+more : (k : tie.After-put Inv-loop μ-loop) → let l : tie.At-loop Inv-loop μ-loop = search in
     let s = begun l in
     let a = s .args in
     Passed (firstAt (price s) (a .start .now)) [] (rows s) (rowsIn (a .w) (a .w) (k .put .last .0)) (l .loop .i + 1)
@@ -100,7 +100,7 @@ more k =
 
 loop-again : tie.Need-loop-again Inv-loop μ-loop
 loop-again c =
-    let k = c .before .before in
+    let k : tie.After-put Inv-loop μ-loop = search in
     let q = priced (k .before) in
     let p = pointed q in
     let l = turn p .before in (

@@ -30,8 +30,8 @@ sub-i c = omega arith
 
 sink-requires : tie.Need-sink-requires Inv-loop μ-loop
 sink-requires c κs =
-    let at = c .before .before in
-    let s = at .before .before in
+    let at : tie.At-loop Inv-loop μ-loop = search in
+    let s : tie.Start Inv-loop μ-loop = search in
     (at .loop .inv .1 ∙ s .pre .0, s .pre .1, omega arith)
 
 loop-less : tie.Need-loop-less Inv-loop μ-loop
@@ -40,9 +40,10 @@ loop-less c = omega arith
 loop-again : tie.Need-loop-again Inv-loop μ-loop
 unfolding sunk
 loop-again c =
-    let call = c .before .before in
-    let at = call .before .before .before in
-    let a = at .before .before .args in
+    let s : tie.Start Inv-loop μ-loop = search in
+    let call : tie.After-sink Inv-loop μ-loop = search in
+    let at : tie.At-loop Inv-loop μ-loop = search in
+    let a = s .args in
     let vs = rowsIn (a .w) (a .w) (a .rows .now) in
     let j = at .loop .i - 1 in
     let e : at .loop .i ≡ j + 1 = omega arith in (
@@ -58,8 +59,9 @@ same-length c = c .before .loop .inv .1
 
 returns : tie.Need-returns Inv-loop μ-loop
 returns c =
+    let s : tie.Start Inv-loop μ-loop = search in
     let at = c .before in
-    let a = at .before .before .args in
+    let a = s .args in
     let vs = rowsIn (a .w) (a .w) (a .rows .now) in
     let e : at .loop .i ≡ 0 = omega arith in
     at .loop .inv .2 ∙ ap (orderedFrom vs) e ∙ all-ordered vs

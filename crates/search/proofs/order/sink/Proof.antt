@@ -27,48 +27,54 @@ loop-holds c = (c .before .pre .2, refl, refl)
 add-loop : tie.Need-add-loop Inv-loop μ-loop
 add-loop c = omega arith
 
+abbrev start : tie.In-loop Inv-loop μ-loop → tie.Start Inv-loop μ-loop
+start c = search
+
 mul-this : tie.Need-mul-this Inv-loop μ-loop
 mul-this c =
-    let w = c .before .before .before .args .w in
+    let w = start c .args .w in
     omega (arith, row-fits (c .before .loop .k) w w (omega arith))
 
 add-next : tie.Need-add-next Inv-loop μ-loop
 add-next c =
-    let w = c .before .before .before .args .w in
+    let w = start c .args .w in
     omega (arith, row-fits (c .before .loop .k) w w (omega arith))
 
 mul-if1 : tie.Need-mul-if1 Inv-loop μ-loop
 mul-if1 c =
-    let w = c .before .before .before .args .w in
+    let w = start c .args .w in
     omega (arith, row-fits (c .before .loop .k) w w (omega arith))
 
 slice-read-if1 : tie.Need-slice-read-if1 Inv-loop μ-loop
 slice-read-if1 c =
-    let at = c .before .before in
-    let w = at .before .before .args .w in
+    let s : tie.Start Inv-loop μ-loop = search in
+    let at : tie.At-loop Inv-loop μ-loop = search in
+    let w = s .args .w in
     omega (arith, row-fits (at .loop .k + 1) w w (omega arith))
 
 mul-if1-2 : tie.Need-mul-if1-2 Inv-loop μ-loop
 mul-if1-2 c =
-    let at = c .before .before in
-    let w = at .before .before .args .w in
+    let s : tie.Start Inv-loop μ-loop = search in
+    let at : tie.At-loop Inv-loop μ-loop = search in
+    let w = s .args .w in
     omega (arith, row-fits (at .loop .k + 1) w w (omega arith))
 
 slice-read-if1-2 : tie.Need-slice-read-if1-2 Inv-loop μ-loop
 slice-read-if1-2 c =
-    let at = c .before .before .before in
-    let w = at .before .before .args .w in
+    let s : tie.Start Inv-loop μ-loop = search in
+    let at : tie.At-loop Inv-loop μ-loop = search in
+    let w = s .args .w in
     omega (arith, row-fits (at .loop .k + 1) w w (omega arith))
 
 same-length : tie.Need-same-length Inv-loop μ-loop
-same-length c = c .before .before .before .before .loop .inv .1
+same-length c = let l : tie.At-loop Inv-loop μ-loop = search in l .loop .inv .1
 
 returns : tie.Need-returns Inv-loop μ-loop
 unfolding sunk
 returns c =
-    let turn = c .before .before .before in
+    let turn : tie.In-loop Inv-loop μ-loop = search in
     let at = turn .before in
-    let s = at .before .before in
+    let s : tie.Start Inv-loop μ-loop = search in
     let w = s .args .w in
     let h = turn .loop-test .taken in
     sym
@@ -84,11 +90,11 @@ loop-less c = omega arith
 
 loop-again : tie.Need-loop-again Inv-loop μ-loop
 loop-again c =
-    let call = c .before .before in
-    let left = call .before .before in
-    let turn = left .before .before .before in
+    let call : tie.After-swap-next Inv-loop μ-loop = search in
+    let left : tie.Else1 Inv-loop μ-loop = search in
+    let turn : tie.In-loop Inv-loop μ-loop = search in
     let at = turn .before in
-    let s = at .before .before in
+    let s : tie.Start Inv-loop μ-loop = search in
     let w = s .args .w in
     let k = at .loop .k in
     let h = turn .loop-test .taken in (
@@ -106,8 +112,9 @@ same-length-2 c = c .before .loop .inv .1
 returns-2 : tie.Need-returns-2 Inv-loop μ-loop
 unfolding sunk
 returns-2 c =
+    let s : tie.Start Inv-loop μ-loop = search in
     let at = c .before in
-    let w = at .before .before .args .w in
+    let w = s .args .w in
     sym
     (at .loop .inv .2
     ∙ sunk-last (rowsIn w w (at .loop .rows)) (at .loop .k) (rw rows-length (at .loop .inv .0))

@@ -24,7 +24,7 @@ abbrev μ-loop : tie.MeasureT-loop
 μ-loop rows w point₀ n i₀ point i = n - i
 
 abbrev start : tie.At-loop Inv-loop μ-loop → tie.Start Inv-loop μ-loop
-start l = l .before .before .before .before .before .before .before .before
+start l = search
 
 -- the first row lies in the slice
 first-in : (s : tie.Start Inv-loop μ-loop) → s .args .w ≤ length (s .args .rows .now)
@@ -45,11 +45,11 @@ part-copy-start : tie.Need-part-copy-start Inv-loop μ-loop
 part-copy-start c = omega arith
 
 part-copy-end : tie.Need-part-copy-end Inv-loop μ-loop
-part-copy-end c = first-in (c .before .before .before)
+part-copy-end c = let s : tie.Start Inv-loop μ-loop = search in first-in s
 
 copy-requires : tie.Need-copy-requires Inv-loop μ-loop
 copy-requires c κs =
-    let s = c .before .before .before .before in
+    let s : tie.Start Inv-loop μ-loop = search in
     let a = s .args in
     let e : length (a .point .now) ≡ a .w - 1 = omega arith in
     e ∙ sym (mid-len 1 (a .w) (a .rows .now) (first-in s))
@@ -59,8 +59,8 @@ sub-n c = omega arith
 
 loop-holds : tie.Need-loop-holds Inv-loop μ-loop
 loop-holds c =
-    let k = c .before .before in
-    let s = k .before .before .before .before .before in
+    let k : tie.After-copy Inv-loop μ-loop = search in
+    let s : tie.Start Inv-loop μ-loop = search in
     let a = s .args in (
       ap (λ (n : ℕ). n + 1) (k .copy .kept .0) ∙ s .pre .1,
       begins _ _ _ _ _ (omega arith) (k .copy .ensures ∙ first-lent (a .w) (a .rows .now) (s .pre .0) (omega arith)),
@@ -76,7 +76,7 @@ add-to : tie.Need-add-to Inv-loop μ-loop
 add-to c = omega (arith, inside c, start (c .before) .pre)
 
 mul-move-point : tie.Need-mul-move-point Inv-loop μ-loop
-mul-move-point c = omega (arith, inside (c .before), start (c .before .before) .pre)
+mul-move-point c = let s : tie.Start Inv-loop μ-loop = search in omega (arith, inside (c .before), s .pre)
 
 sub-move-point : tie.Need-sub-move-point Inv-loop μ-loop
 sub-move-point c = omega arith
@@ -85,11 +85,11 @@ part-move-point-start : tie.Need-part-move-point-start Inv-loop μ-loop
 part-move-point-start c = omega arith
 
 part-move-point-end : tie.Need-part-move-point-end Inv-loop μ-loop
-part-move-point-end c = omega (arith, inside (c .before), start (c .before .before) .pre)
+part-move-point-end c = let s : tie.Start Inv-loop μ-loop = search in omega (arith, inside (c .before), s .pre)
 
 move-point-requires : tie.Need-move-point-requires Inv-loop μ-loop
 move-point-requires c κs =
-    let t = c .before .before in
+    let t : tie.In-loop Inv-loop μ-loop = search in
     let l = t .before in
     let s = start l in
     let a = s .args in
@@ -107,8 +107,8 @@ loop-less c = omega arith
 
 loop-again : tie.Need-loop-again Inv-loop μ-loop
 loop-again c =
-    let m = c .before .before in
-    let t = m .before .before .before in
+    let m : tie.After-move-point Inv-loop μ-loop = search in
+    let t : tie.In-loop Inv-loop μ-loop = search in
     let l = t .before in
     let s = start l in
     let a = s .args in (
@@ -120,7 +120,7 @@ loop-again c =
 
 int-to-float-divide : tie.Need-int-to-float-divide Inv-loop μ-loop
 int-to-float-divide c =
-    let l = c .before .before .before in
+    let l : tie.At-loop Inv-loop μ-loop = search in
     let s = start l in
     let a = s .args in
     let h : a .w * a .w < 2 ^ 64 = omega (arith, s .pre .0) in
@@ -129,16 +129,16 @@ int-to-float-divide c =
 
 same-length : tie.Need-same-length Inv-loop μ-loop
 same-length c =
-    let d = c .before .before in
-    let l = d .before .before .before .before in
+    let d : tie.After-divide Inv-loop μ-loop = search in
+    let l : tie.At-loop Inv-loop μ-loop = search in
     let s = start l in
     let e : length (l .loop .point) ≡ length (s .args .point .now) = omega (arith, l .loop .inv .0, s .pre .1) in
     d .divide .kept .0 ∙ e
 
 returns : tie.Need-returns Inv-loop μ-loop
 returns c =
-    let d = c .before .before in
-    let r = d .before .before .before in
+    let d : tie.After-divide Inv-loop μ-loop = search in
+    let r : tie.After-loop Inv-loop μ-loop = search in
     let l = r .before in
     let s = start l in
     let a = s .args in

@@ -31,13 +31,15 @@ loop-less : tie.Need-loop-less Inv-loop μ-loop
 loop-less c = omega arith
 
 loop-again : tie.Need-loop-again Inv-loop μ-loop
-loop-again c = goes-on _ _ _ (c .before .before .loop .inv) _ (omega arith) refl
+loop-again c = let l : tie.At-loop Inv-loop μ-loop = search in goes-on _ _ _ (l .loop .inv) _ (omega arith) refl
 
 same-length : tie.Need-same-length Inv-loop μ-loop
 same-length c = c .before .loop .inv .long
 
 returns : tie.Need-returns Inv-loop μ-loop
-returns c = ends _ _ _ (c .before .loop .inv) _ (omega arith) (sym (c .before .before .pre)) (λ (i : ℕ) (h : i < _). refl)
+returns c =
+    let s : tie.Start Inv-loop μ-loop = search in
+    ends _ _ _ (c .before .loop .inv) _ (omega arith) (sym (s .pre)) (λ (i : ℕ) (h : i < _). refl)
 
 pub copy-spec : {M : Type 1} → statement M
 copy-spec =

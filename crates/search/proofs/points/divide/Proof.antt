@@ -32,14 +32,15 @@ loop-less : tie.Need-loop-less Inv-loop μ-loop
 loop-less c = omega arith
 
 loop-again : tie.Need-loop-again Inv-loop μ-loop
-loop-again c = goes-on _ _ _ (c .before .before .loop .inv) _ (omega arith) refl
+loop-again c = let l : tie.At-loop Inv-loop μ-loop = search in goes-on _ _ _ (l .loop .inv) _ (omega arith) refl
 
 same-length : tie.Need-same-length Inv-loop μ-loop
 same-length c = c .before .loop .inv .long
 
 returns : tie.Need-returns Inv-loop μ-loop
 returns c =
-    let a = c .before .before .args in
+    let s : tie.Start Inv-loop μ-loop = search in
+    let a = s .args in
     ends _ _ _ (c .before .loop .inv) _ (omega arith) (length-map (a .point .now) _) (λ (i : ℕ) (h : i < length (a .point .now)). map-at (λ (x : Float). x ⊘ a .by) nan (a .point .now) i h)
 
 pub divide-spec : {M : Type 1} → statement M

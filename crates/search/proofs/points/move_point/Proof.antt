@@ -35,14 +35,16 @@ loop-less : tie.Need-loop-less Inv-loop μ-loop
 loop-less c = omega arith
 
 loop-again : tie.Need-loop-again Inv-loop μ-loop
-loop-again c = goes-on _ _ _ (c .before .before .before .before .loop .inv) _ (omega arith) (c .moved-by .ensures)
+loop-again c =
+    let l : tie.At-loop Inv-loop μ-loop = search in
+    goes-on _ _ _ (l .loop .inv) _ (omega arith) (c .moved-by .ensures)
 
 same-length : tie.Need-same-length Inv-loop μ-loop
 same-length c = c .before .loop .inv .long
 
 returns : tie.Need-returns Inv-loop μ-loop
 returns c =
-    let s = c .before .before .before .before in
+    let s : tie.Start Inv-loop μ-loop = search in
     let a = s .args in
     let xs = a .point .now in
     let ys = a .other .now in

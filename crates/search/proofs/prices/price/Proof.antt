@@ -10,8 +10,10 @@ use Rattle.search.proofs.prices.price.Tie as tie
 returns : tie.Need-returns
 unfolding readyPriceOf
 returns c =
-    let k = c .before .before .before .cost-prepared in
-    let a = c .before .before .before .before .before .before .before .before .before .args in
+    let after-cost-prepared : tie.After-cost-prepared = search in
+    let s : tie.Start = search in
+    let k = after-cost-prepared .cost-prepared in
+    let a = s .args in
     let p = a .problem in (
       c .price-said .ensures ∙ ap priceSaid (k .ensures .0),
       ap (drop (standsFrom p)) (k .ensures .1)

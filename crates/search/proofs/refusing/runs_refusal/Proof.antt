@@ -21,7 +21,8 @@ mul-if1 c = omega (arith, few c)
 
 mul-if1-2 : tie.Need-mul-if1-2
 mul-if1-2 c =
-    omega (arith, runs-few (c .before .args .runs) (c .width .result * c .width .result) (c .before .pre) (few c))
+    let s = c .before in
+    omega (arith, runs-few (s .args .runs) (c .width .result * c .width .result) (s .pre) (few c))
 
 test-is : (c : tie.After-width) (b : Bool) → let a = c .before .args in
     ltb (a .lent .simplexes) (a .runs * (c .width .result * c .width .result)) ≡ b
@@ -32,27 +33,29 @@ test-is c b e =
 
 returns : tie.Need-returns
 unfolding shortRuns
-returns c = rw (test-is (c .before .before) true (lt-ltb _ _ (c .if1 .taken)))
+returns c = let after-width : tie.After-width = search in rw (test-is after-width true (lt-ltb _ _ (c .if1 .taken)))
 
-long : (c : tie.Else1) → let a = c .before .before .before .args in
+long : (c : tie.Else1) → let s : tie.Start = search in let a = s .args in
     ltb (a .lent .simplexes) (a .runs * (widthOf (a .problem) * widthOf (a .problem))) ≡ false
-long c = test-is (c .before .before) false (le-ltb _ _ (c .if1 .left))
+long c = let after-width : tie.After-width = search in test-is after-width false (le-ltb _ _ (c .if1 .left))
 
 returns-2 : tie.Need-returns-2
 unfolding shortRuns
-returns-2 c = rw (long (c .before .before), lt-ltb _ _ (c .if2 .taken))
+returns-2 c = let else1 : tie.Else1 = search in rw (long else1, lt-ltb _ _ (c .if2 .taken))
 
 returns-3 : tie.Need-returns-3
 unfolding shortRuns
 returns-3 c =
-    let e = c .before .before in
-    rw (long (e .before .before), le-ltb _ _ (e .if2 .left), lt-ltb _ _ (c .if3 .taken))
+    let else1 : tie.Else1 = search in
+    let e : tie.Else2 = search in
+    rw (long else1, le-ltb _ _ (e .if2 .left), lt-ltb _ _ (c .if3 .taken))
 
 returns-4 : tie.Need-returns-4
 unfolding shortRuns
 returns-4 c =
-    let e = c .before .before in
-    rw (long (e .before .before), le-ltb _ _ (e .if2 .left), le-ltb _ _ (c .if3 .left))
+    let else1 : tie.Else1 = search in
+    let e : tie.Else2 = search in
+    rw (long else1, le-ltb _ _ (e .if2 .left), le-ltb _ _ (c .if3 .left))
 
 pub runs-refusal-spec : {M : Type 1} → statement M
 runs-refusal-spec = tie.close (tie.spec (λ c κs. search needs) mul-if1 mul-if1-2 returns returns-2 returns-3 returns-4)

@@ -65,12 +65,12 @@ module _ (s : tie.Start) where
 
 -- ---- 1
 abbrev start-low : tie.Else2 → tie.Start
-start-low c = c .before .before .before .before
+start-low c = search
 
 returns : tie.Need-returns
 unfolding searchTests
 returns c =
-    let s = c .before .before .before in
+    let s : tie.Start = search in
     let which : Some (λ (n : ℕ). n < 2) (lows s) =
     ⊎-elim (λ t. inl (t .taken)) (λ t. inr (inl (ltb-true _ _ (t .1 .taken)))) (c .if1 .came) in
     stops (belowTwo (lows s)) (inOrder (aboveMost (highs s) ∷ after-high s)) 1 (below-two-found (lows s) which)
@@ -97,7 +97,7 @@ returns-2 c =
     (stops (aboveMost (highs s)) (inOrder (after-high s)) 2 (above-most-found (highs s) which) (omega arith))
 
 abbrev low : tie.Else6 → tie.Else2
-low c = c .before .before .before .before .before .before
+low c = search
 
 abbrev start-high : tie.Else6 → tie.Start
 start-high c = start-low (low c)
@@ -106,8 +106,8 @@ past-high : (c : tie.Else6) → Number (start-high c) (after-high (start-high c)
 past-high c n h =
     let s = start-high c in
     let e5 = c .before in
-    let e4 = e5 .before .before in
-    let e3 = e4 .before .before in
+    let e4 : tie.Else4 = search in
+    let e3 : tie.Else3 = search in
     let none = above-most-clear (highs s)
     (e3 .if3 .left, (ltb-false _ _ (e4 .if4 .left), (ltb-false _ _ (e5 .if5 .left), (ltb-false _ _ (c .if6 .left), tt)))) in
     past-low (low c) n (goes-on (aboveMost (highs s)) (inOrder (after-high s)) refl none n h)
@@ -116,8 +116,8 @@ past-high c n h =
 -- behind 1 and 2 it says the number of these
 spectrum-says : (c : tie.After-spectrum-refusal) → c .spectrum-refusal .result ≡ firstOf (spectrum (start-high (c .before)))
 spectrum-says c =
-    let e5 = c .before .before in
-    let e3 = e5 .before .before .before .before in
+    let e5 : tie.Else5 = search in
+    let e3 : tie.Else3 = search in
     let a = start-high (c .before) .args in
     spectrum-number (a .bins .now) (a .problem .scale) (a .problem .«window_end»)
     (ltb-false _ _ (low (c .before) .if2 .left)) (e3 .if3 .left) (ltb-false _ _ (e5 .if5 .left)) _
@@ -125,19 +125,21 @@ spectrum-says c =
 
 returns-3 : tie.Need-returns-3
 returns-3 c =
-    let s = start-high (c .before .before) in
+    let else6 : tie.Else6 = search in
+    let s : tie.Start = search in
     let first = spectrum-says (c .before) in
-    past-high (c .before .before) _
+    past-high else6 _
     (stops (spectrum s) (inOrder (after-spectrum s)) _ first (omega (arith, c .if7 .taken)))
 
 abbrev start-spectrum : tie.Else7 → tie.Start
-start-spectrum c = start-high (c .before .before)
+start-spectrum c = search
 
 past-spectrum : (c : tie.Else7) → Number (start-spectrum c) (after-spectrum (start-spectrum c))
 past-spectrum c n h =
+    let else6 : tie.Else6 = search in
     let s = start-spectrum c in
     let none = sym (c .if7 .left) ∙ spectrum-says (c .before) in
-    past-high (c .before .before) n
+    past-high else6 n
     (goes-on (spectrum s) (inOrder (after-spectrum s)) (unfold spectrumTests in refl) none n h)
 
 -- ---- 7
@@ -153,7 +155,7 @@ returns-4 c =
     past-spectrum (c .before) 7
     (stops (wrongStarts (s .args .wrong)) (inOrder (after-wrong s)) 7 (starts-wrong _ (c .if8 .taken)) (omega arith))
 
-past-wrong : (c : tie.Else8) → Number (start-spectrum (c .before)) (after-wrong (start-spectrum (c .before)))
+past-wrong : (c : tie.Else8) → let s : tie.Start = search in Number s (after-wrong s)
 past-wrong c n h =
     let s = start-spectrum (c .before) in
     past-spectrum (c .before) n
@@ -161,13 +163,13 @@ past-wrong c n h =
 
 -- ---- 10
 abbrev start-table : tie.Else9 → tie.Start
-start-table c = start-spectrum (c .before .before .before)
+start-table c = search
 
 -- behind 2 and 5 it says the number of this
-table-says : (c : tie.After-table-refusal) → c .table-refusal .result ≡ firstOf (table (start-spectrum (c .before .before)))
+table-says : (c : tie.After-table-refusal) → let s : tie.Start = search in c .table-refusal .result ≡ firstOf (table s)
 table-says c =
-    let e7 = c .before .before in
-    let e5 = e7 .before .before .before in
+    let e7 : tie.Else7 = search in
+    let e5 : tie.Else5 = search in
     let a = start-spectrum e7 .args in
     let p = a .problem in
     let inside = spectrum-passed (a .bins .now) (p .scale) (p .«window_end»)
@@ -177,20 +179,22 @@ table-says c =
 
 returns-5 : tie.Need-returns-5
 returns-5 c =
-    let s = start-spectrum (c .before .before .before) in
+    let else8 : tie.Else8 = search in
+    let s : tie.Start = search in
     let first = table-says (c .before) in
-    past-wrong (c .before .before) _
+    past-wrong else8 _
     (stops (table s) (inOrder (after-table s)) _ first (omega (arith, c .if9 .taken)))
 
 past-table : (c : tie.Else9) → Number (start-table c) (after-table (start-table c))
 past-table c n h =
+    let else8 : tie.Else8 = search in
     let s = start-table c in
     let none = sym (c .if9 .left) ∙ table-says (c .before) in
-    past-wrong (c .before .before) n (goes-on (table s) (inOrder (after-table s)) refl none n h)
+    past-wrong else8 n (goes-on (table s) (inOrder (after-table s)) refl none n h)
 
 -- the window end is within the limits
 abbrev high : tie.Else9 → tie.Else6
-high c = c .before .before .before .before .before
+high c = search
 
 end-few : (c : tie.Else9) → start-table c .args .problem .«window_end» ≤ most
 end-few c = ltb-false _ _ (high c .before .if5 .left)
@@ -202,16 +206,17 @@ mul-if10 : tie.Need-mul-if10
 mul-if10 c = omega (arith, end-few (c .before))
 
 returns-6 : tie.Need-returns-6
-returns-6 c = past-table (c .before .before .before) 10 (rw (lt-ltb _ _ (c .if10 .taken)))
+returns-6 c = let else9 : tie.Else9 = search in past-table else9 10 (rw (lt-ltb _ _ (c .if10 .taken)))
 
 runs-refusal-requires : tie.Need-runs-refusal-requires
-runs-refusal-requires c κs = ltb-false _ _ (high (c .before .before .before) .if6 .left)
+runs-refusal-requires c κs = let else6 : tie.Else6 = search in ltb-false _ _ (else6 .if6 .left)
 
 returns-7 : tie.Need-returns-7
 unfolding shortRuns
 returns-7 c =
+    let else9 : tie.Else9 = search in
     let e = c .before in
-    past-table (e .before .before .before) _ (rw (le-ltb _ _ (e .if10 .left)) (c .runs-refusal .ensures))
+    past-table else9 _ (rw (le-ltb _ _ (e .if10 .left)) (c .runs-refusal .ensures))
 
 pub search-refusal-spec : {M : Type 1} → statement M
 search-refusal-spec =

@@ -12,10 +12,10 @@ use Rattle.search.proofs.reporting.find.Statement.{statement}
 use Rattle.search.proofs.reporting.find.Tie as tie
 
 least-row-requires : tie.Need-least-row-requires
-least-row-requires c κs = (c .before .pre .0, c .before .pre .1)
+least-row-requires c κs = let s = c .before in (s .pre .0, s .pre .1)
 
 abbrev start : tie.After-least-row → tie.Start
-start c = c .before .before
+start c = search
 
 -- the row lies in the slice, which is short
 inside : (c : tie.After-least-row) → let w = start c .args .w in c .least-row .result * w + w ≤ w * w
@@ -39,15 +39,15 @@ shared-slice-read-cost : tie.Need-shared-slice-read-cost
 shared-slice-read-cost c = omega (arith, inside (c .before), start (c .before) .pre)
 
 add-t9 : tie.Need-add-t9
-add-t9 c = let r = c .before .before in omega (arith, inside r, few (start r), start r .pre)
+add-t9 c = let r : tie.After-least-row = search in omega (arith, inside r, few (start r), start r .pre)
 
 add-t13 : tie.Need-add-t13
-add-t13 c = let r = c .before .before in omega (arith, inside r, few (start r), start r .pre)
+add-t13 c = let r : tie.After-least-row = search in omega (arith, inside r, few (start r), start r .pre)
 
 returns : tie.Need-returns
 returns c =
     let h = c .before in
-    let r = h .before .before in
+    let r : tie.After-least-row = search in
     let s = start r in
     let a = s .args in
     found-is (a .w) (a .cap) (a .rows .now) (s .pre .0) (s .pre .1) (a .from) (a .iterations) (a .stopped)

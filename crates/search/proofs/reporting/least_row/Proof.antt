@@ -21,13 +21,17 @@ loop-holds : tie.Need-loop-holds Inv-loop μ-loop
 loop-holds c = (begins _ _ _ _ _ (omega arith) refl, omega arith)
 
 -- ---- both rows lie in the slice
-at-hand : (c : tie.In-loop Inv-loop μ-loop) → let w = c .before .before .args .w in
+at-hand : (c : tie.In-loop Inv-loop μ-loop) → let s : tie.Start Inv-loop μ-loop = search in let w = s .args .w in
     c .before .loop .i * w + w ≤ w * w
-at-hand c = let w = c .before .before .args .w in row-fits (c .before .loop .i) w w (omega arith)
+at-hand c =
+    let s : tie.Start Inv-loop μ-loop = search in
+    let w = s .args .w in row-fits (c .before .loop .i) w w (omega arith)
 
-so-far : (c : tie.In-loop Inv-loop μ-loop) → let w = c .before .before .args .w in
+so-far : (c : tie.In-loop Inv-loop μ-loop) → let s : tie.Start Inv-loop μ-loop = search in let w = s .args .w in
     c .before .loop .least * w + w ≤ w * w
-so-far c = let w = c .before .before .args .w in row-fits (c .before .loop .least) w w (omega arith)
+so-far c =
+    let s : tie.Start Inv-loop μ-loop = search in
+    let w = s .args .w in row-fits (c .before .loop .least) w w (omega arith)
 
 mul-if1 : tie.Need-mul-if1 Inv-loop μ-loop
 mul-if1 c = omega (arith, at-hand c)
@@ -45,7 +49,7 @@ mul-if1-4 : tie.Need-mul-if1-4 Inv-loop μ-loop
 mul-if1-4 c = omega (arith, so-far (c .before))
 
 shared-slice-read-if1-2 : tie.Need-shared-slice-read-if1-2 Inv-loop μ-loop
-shared-slice-read-if1-2 c = omega (arith, so-far (c .before .before))
+shared-slice-read-if1-2 c = let t : tie.In-loop Inv-loop μ-loop = search in omega (arith, so-far t)
 
 add-i : tie.Need-add-i Inv-loop μ-loop
 add-i c = omega arith
@@ -55,7 +59,7 @@ loop-less c = omega arith
 
 loop-again : tie.Need-loop-again Inv-loop μ-loop
 loop-again c =
-    let at = c .before .before .before .before in
+    let at : tie.At-loop Inv-loop μ-loop = search in
     let s = at .before in
     let choice = chosen (s .args .w) (s .args .rows .now) (s .pre .0) (at .loop .i) (at .loop .least) (omega arith) (at .loop .inv .1) in
     ⊎-elim

@@ -38,7 +38,7 @@ returns c =
     (above-most-found (s .args .runs ∷ []) (inl (c .if1 .taken)))
     (omega arith)
 
-past-many : (c : tie.Else1) → Number (c .before) (wide (c .before) ∷ ones (c .before))
+past-many : (c : tie.Else1) → let s = c .before in Number s (wide s ∷ ones s)
 unfolding reportTests
 past-many c =
     let s = c .before in
@@ -54,17 +54,18 @@ mul-if2 c = omega (arith, few (c .before))
 
 mul-if2-2 : tie.Need-mul-if2-2
 mul-if2-2 c =
-    let a = c .before .args in
-    omega (arith, runs-few (a .runs) (a .w * a .w) (c .if1 .left) (few (c .before)))
+    let s = c .before in
+    let a = s .args in
+    omega (arith, runs-few (a .runs) (a .w * a .w) (c .if1 .left) (few s))
 
 returns-2 : tie.Need-returns-2
-returns-2 c = past-many (c .before .before) 10 (rw (lt-ltb _ _ (c .if2 .taken)))
+returns-2 c = let else1 : tie.Else1 = search in past-many else1 10 (rw (lt-ltb _ _ (c .if2 .taken)))
 
 abbrev start : tie.Else2 → tie.Start
-start c = c .before .before .before
+start c = search
 
 past-wide : (c : tie.Else2) → Number (start c) (ones (start c))
-past-wide c n h = past-many (c .before .before) n (rw (le-ltb _ _ (c .if2 .left)) h)
+past-wide c n h = let else1 : tie.Else1 = search in past-many else1 n (rw (le-ltb _ _ (c .if2 .left)) h)
 
 -- ---- 10 of the others
 found : (c : tie.Else2) → Some (λ (room : ℕ). room < start c .args .runs) (rooms (start c .args .lent))
@@ -75,17 +76,16 @@ found c which =
 
 returns-3 : tie.Need-returns-3
 returns-3 c =
-    found (c .before .before)
+    let else2 : tie.Else2 = search in
+    found else2
     (⊎-elim (λ t. inl (t .taken))
     (⊎-elim (λ t. inr (inl (ltb-true _ _ (t .2 .taken)))) (λ t. inr (inr (inl (ltb-true _ _ (t .4 .taken))))))
     (c .if3 .came))
 
-abbrev wide-past : tie.Else5 → tie.Else2
-wide-past c = c .before .before .before .before .before .before
-
 returns-4 : tie.Need-returns-4
 returns-4 c =
-    found (wide-past (c .before .before))
+    let else2 : tie.Else2 = search in
+    found else2
     (⊎-elim (λ t. inr (inr (inr (inl (t .taken)))))
     (⊎-elim (λ t. inr (inr (inr (inr (inl (ltb-true _ _ (t .2 .taken)))))))
     (⊎-elim (λ t. inr (inr (inr (inr (inr (inl (ltb-true _ _ (t .4 .taken))))))))
@@ -94,13 +94,13 @@ returns-4 c =
 
 returns-5 : tie.Need-returns-5
 returns-5 c =
-    let e8 = c .before .before in
-    let e7 = e8 .before .before in
-    let e6 = e7 .before .before in
-    let e5 = e6 .before .before in
-    let e4 = e5 .before .before in
-    let e3 = e4 .before .before in
-    let e2 = e3 .before .before in
+    let e8 : tie.Else8 = search in
+    let e7 : tie.Else7 = search in
+    let e6 : tie.Else6 = search in
+    let e5 : tie.Else5 = search in
+    let e4 : tie.Else4 = search in
+    let e3 : tie.Else3 = search in
+    let e2 : tie.Else2 = search in
     let a = start e2 .args in
     let each : Each (λ (room : ℕ). a .runs ≤ room) (rooms (a .lent)) = (
       e3 .if3 .left,

@@ -15,7 +15,7 @@ use Rattle.search.proofs.reporting.report_searches.Statement.{statement
 use Rattle.search.proofs.reporting.report_searches.Tie as tie
 
 abbrev start : tie.After-list-length → tie.Start
-start c = c .before .before .before .before .before .before .before .before .before
+start c = search
 
 -- ---- a row of a simplex
 wide : (c : tie.After-list-length) → c .list-length .result + 1 ≡ listLengthOf (start c .args .error) (start c .args .genome) + 1
@@ -65,7 +65,7 @@ returns c =
     )
 
 -- ---- an answer
-passed : (c : tie.Else1) → let w = c .before .before in
+passed : (c : tie.Else1) → let w : tie.After-list-length = search in
     ReportPassed (w .list-length .result + 1) (start w .args .runs) (columns (start w))
 passed c =
     let r = c .before in
@@ -74,10 +74,11 @@ passed c =
 
 write-found-requires : tie.Need-write-found-requires
 write-found-requires c κs =
-    let e = c .before .before .before .before .before .before in
+    let after-list-length : tie.After-list-length = search in
+    let e : tie.Else1 = search in
     let p = passed e in
     let each = p .each-room in (
-      (omega arith, few (e .before .before), p .runs-few),
+      (omega arith, few after-list-length, p .runs-few),
       (
         (p .simplexes-room, each .0, each .1 .0),
         (
@@ -91,12 +92,12 @@ write-found-requires c κs =
     )
 
 abbrev written : tie.After-slice-known10 → tie.After-write-found
-written c = c .before .before .before .before .before .before .before .before .before .before
+written c = search
 
 returns-2 : tie.Need-returns-2
 returns-2 c =
     let f = written c in
-    let k = f .before .before .before .before .before .before in
+    let k : tie.After-iteration-cap = search in
     let t = k .before in
     let r = t .before in
     let w = r .before in

@@ -38,7 +38,7 @@ abbrev μ-loop : tie.MeasureT-loop
     runs - i
 
 abbrev first : tie.After-slice-known5 Inv-loop μ-loop → tie.Start Inv-loop μ-loop
-first c = c .before .before .before .before .before .before .before .before
+first c = search
 
 abbrev start : tie.At-loop Inv-loop μ-loop → tie.Start Inv-loop μ-loop
 start l = first (l .before)
@@ -46,16 +46,19 @@ start l = first (l .before)
 few : (s : tie.Start Inv-loop μ-loop) → s .args .w * s .args .w ≤ 144
 few s = mul-le-mul (s .pre .0 .1) (s .pre .0 .1)
 
+abbrev start-from-in-loop : tie.In-loop Inv-loop μ-loop → tie.Start Inv-loop μ-loop
+start-from-in-loop c = search
+
 -- ---- the simplex of a turn lies in the slice
-below : (t : tie.In-loop Inv-loop μ-loop) → t .before .loop .i < start (t .before) .args .runs
+below : (t : tie.In-loop Inv-loop μ-loop) → t .before .loop .i < start-from-in-loop t .args .runs
 below t = omega arith
 
 inside : (t : tie.In-loop Inv-loop μ-loop) → let l = t .before in let a = start l .args in
     l .loop .i * (a .w * a .w) + a .w * a .w ≤ a .runs * (a .w * a .w)
 inside t = let l = t .before in let a = start l .args in row-fits (l .loop .i) (a .runs) (a .w * a .w) (below t)
 
-all-few : (t : tie.In-loop Inv-loop μ-loop) → let a = start (t .before) .args in a .runs * (a .w * a .w) ≤ most * 144
-all-few t = let s = start (t .before) in runs-few (s .args .runs) (s .args .w * s .args .w) (s .pre .0 .2) (few s)
+all-few : (t : tie.In-loop Inv-loop μ-loop) → let a = start-from-in-loop t .args in a .runs * (a .w * a .w) ≤ most * 144
+all-few t = let s = start-from-in-loop t in runs-few (s .args .runs) (s .args .w * s .args .w) (s .pre .0 .2) (few s)
 
 mul-square : tie.Need-mul-square Inv-loop μ-loop
 mul-square c = omega (arith, few (first c))
@@ -82,20 +85,22 @@ part-find-start : tie.Need-part-find-start Inv-loop μ-loop
 part-find-start c = omega arith
 
 part-find-end : tie.Need-part-find-end Inv-loop μ-loop
-part-find-end c = omega (arith, inside c, start (c .before) .pre)
+part-find-end c = omega (arith, inside c, start-from-in-loop c .pre)
 
 mul-find-2 : tie.Need-mul-find-2 Inv-loop μ-loop
-mul-find-2 c = let s = start (c .before .before) in omega (arith, below (c .before), s .pre)
+mul-find-2 c = let s : tie.Start Inv-loop μ-loop = search in omega (arith, below (c .before), s .pre)
 
 shared-slice-read-find : tie.Need-shared-slice-read-find Inv-loop μ-loop
-shared-slice-read-find c = let t = c .before .before in omega (arith, below t, start (t .before) .pre)
+shared-slice-read-find c = let t : tie.In-loop Inv-loop μ-loop = search in
+    omega (arith, below t, start (t .before) .pre)
 
 shared-slice-read-is-set : tie.Need-shared-slice-read-is-set Inv-loop μ-loop
-shared-slice-read-is-set c = let t = c .before .before .before in omega (arith, below t, start (t .before) .pre)
+shared-slice-read-is-set c = let t : tie.In-loop Inv-loop μ-loop = search in
+    omega (arith, below t, start (t .before) .pre)
 
 find-requires : tie.Need-find-requires Inv-loop μ-loop
 find-requires c κs =
-    let t = c .before .before .before .before in
+    let t : tie.In-loop Inv-loop μ-loop = search in
     let i = t .before .loop .i in
     let s = start (t .before) in
     let a = s .args in
@@ -108,7 +113,7 @@ find-requires c κs =
     )
 
 abbrev turn : tie.After-find Inv-loop μ-loop → tie.In-loop Inv-loop μ-loop
-turn c = c .before .before .before .before .before
+turn c = search
 
 found : (c : tie.After-find Inv-loop μ-loop) → let l = turn c .before in let a = start l .args in
     c .find .result ≡ foundAt (a .w) (a .cap) (a .runs) (a .simplexes .now) (a .iterations .now) (a .stopped .now) (l .loop .i)
@@ -122,43 +127,76 @@ found c =
     c .find .ensures
     ∙ (λ j. foundOf (a .w) (a .cap) (rowsIn (a .w) (a .w) (rows j)) (i * square) (getD (a .iterations .now) i 0) (stopped j))
 
+abbrev turn-from-after-byte-of : tie.After-byte-of Inv-loop μ-loop → tie.In-loop Inv-loop μ-loop
+turn-from-after-byte-of c = search
+
+abbrev start-from-after-byte-of : tie.After-byte-of Inv-loop μ-loop → tie.Start Inv-loop μ-loop
+start-from-after-byte-of c = search
+
+abbrev at-loop : tie.After-byte-of Inv-loop μ-loop → tie.At-loop Inv-loop μ-loop
+at-loop c = search
+
 slice-write-converged : tie.Need-slice-write-converged Inv-loop μ-loop
-slice-write-converged c = let t = turn (c .before) in omega (arith, below t, start (t .before) .pre, t .before .loop .inv .1 .long)
+slice-write-converged c = let t = turn-from-after-byte-of c in
+    omega (arith, below t, start-from-after-byte-of c .pre, at-loop c .loop .inv .1 .long)
 
 mul-costs : tie.Need-mul-costs Inv-loop μ-loop
-mul-costs c = let t = turn (c .before) in omega (arith, below t, start (t .before) .pre)
+mul-costs c = let t = turn-from-after-byte-of c in omega (arith, below t, start-from-after-byte-of c .pre)
 
 slice-write-costs : tie.Need-slice-write-costs Inv-loop μ-loop
-slice-write-costs c = let t = turn (c .before) in omega (arith, below t, start (t .before) .pre, t .before .loop .inv .2 .long)
+slice-write-costs c = let t = turn-from-after-byte-of c in omega (
+  arith,
+  below t,
+  start-from-after-byte-of c .pre,
+  at-loop c .loop .inv .2 .long,
+)
 
 mul-places : tie.Need-mul-places Inv-loop μ-loop
-mul-places c = let t = turn (c .before) in omega (arith, below t, start (t .before) .pre)
+mul-places c = let t = turn-from-after-byte-of c in omega (arith, below t, start-from-after-byte-of c .pre)
 
 slice-write-places : tie.Need-slice-write-places Inv-loop μ-loop
-slice-write-places c = let t = turn (c .before) in omega (arith, below t, start (t .before) .pre, t .before .loop .inv .3 .long)
+slice-write-places c = let t = turn-from-after-byte-of c in omega (
+  arith,
+  below t,
+  start-from-after-byte-of c .pre,
+  at-loop c .loop .inv .3 .long,
+)
 
 mul-lengths : tie.Need-mul-lengths Inv-loop μ-loop
-mul-lengths c = let t = turn (c .before) in omega (arith, below t, start (t .before) .pre)
+mul-lengths c = let t = turn-from-after-byte-of c in omega (arith, below t, start-from-after-byte-of c .pre)
 
 slice-write-lengths : tie.Need-slice-write-lengths Inv-loop μ-loop
-slice-write-lengths c = let t = turn (c .before) in omega (arith, below t, start (t .before) .pre, t .before .loop .inv .4 .long)
+slice-write-lengths c = let t = turn-from-after-byte-of c in
+    omega (arith, below t, start-from-after-byte-of c .pre, at-loop c .loop .inv .4 .long)
+
+abbrev turn-from-after-byte-of2 : tie.After-byte-of2 Inv-loop μ-loop → tie.In-loop Inv-loop μ-loop
+turn-from-after-byte-of2 c = search
+
+abbrev start-from-after-byte-of2 : tie.After-byte-of2 Inv-loop μ-loop → tie.Start Inv-loop μ-loop
+start-from-after-byte-of2 c = search
 
 slice-write-caps : tie.Need-slice-write-caps Inv-loop μ-loop
-slice-write-caps c = let t = turn (c .before .before) in omega (arith, below t, start (t .before) .pre, t .before .loop .inv .5 .long)
+slice-write-caps c = let t = turn-from-after-byte-of2 c in omega (
+  arith,
+  below t,
+  start-from-after-byte-of2 c .pre,
+  t .before .loop .inv .5 .long,
+)
 
 add-i : tie.Need-add-i Inv-loop μ-loop
-add-i c = let t = turn (c .before .before) in omega (arith, below t, start (t .before) .pre)
+add-i c = let t = turn-from-after-byte-of2 c in omega (arith, below t, start-from-after-byte-of2 c .pre)
 
 loop-less : tie.Need-loop-less Inv-loop μ-loop
-loop-less c = omega (arith, below (turn (c .before .before)))
+loop-less c = omega (arith, below (turn-from-after-byte-of2 c))
 
 loop-again : tie.Need-loop-again Inv-loop μ-loop
 loop-again c =
-    let t = turn (c .before .before) in
+    let after-find : tie.After-find Inv-loop μ-loop = search in
+    let t = turn-from-after-byte-of2 c in
     let inv = t .before .loop .inv in
     let h = below t in
-    let s = start (t .before) in
-    let e = found (c .before .before) in (
+    let s = start-from-after-byte-of2 c in
+    let e = found after-find in (
       omega (arith, h),
       goes-on _ _ _ (inv .1) _ (omega (arith, h, s .pre .1 .1 .0)) (c .before .byte-of .ensures ∙ ap (λ (f : Found). byteOf (f .converged)) e),
       goes-on _ _ _ (inv .2) _ (omega (arith, h, s .pre .1 .1 .1)) (ap (λ (f : Found). f .cost) e),

@@ -12,34 +12,37 @@ use Rattle.search.proofs.rows.put.Tie as tie
 inside : (s : tie.Start) → s .args .i * s .args .w + s .args .w ≤ length (s .args .rows .now)
 inside s = omega (arith, row-fits (s .args .i) (s .args .w) (s .args .w) (s .pre .1))
 
+abbrev start : tie.After-shared-slice-known → tie.Start
+start c = search
+
 mul-at : tie.Need-mul-at
-mul-at c = omega (arith, inside (c .before .before))
+mul-at c = omega (arith, inside (start c))
 
 add-from : tie.Need-add-from
-add-from c = omega (arith, inside (c .before .before))
+add-from c = omega (arith, inside (start c))
 
 add-to : tie.Need-add-to
-add-to c = omega (arith, inside (c .before .before))
+add-to c = omega (arith, inside (start c))
 
 mul-rows : tie.Need-mul-rows
-mul-rows c = omega (arith, inside (c .before .before))
+mul-rows c = omega (arith, inside (start c))
 
 slice-write-rows : tie.Need-slice-write-rows
-slice-write-rows c = omega (arith, inside (c .before .before))
+slice-write-rows c = omega (arith, inside (start c))
 
 mul-copy : tie.Need-mul-copy
-mul-copy c = omega (arith, inside (c .before .before))
+mul-copy c = omega (arith, inside (start c))
 
 part-copy-end : tie.Need-part-copy-end
-part-copy-end c = simp length-set (omega (arith, inside (c .before .before)))
+part-copy-end c = simp length-set (omega (arith, inside (start c)))
 
 same-length : tie.Need-same-length
 same-length c = c .before .rows .given .1 ∙ simp length-set
 
 returns : tie.Need-returns
 returns c =
-    let k = c .before .before in
-    let s = k .before .before .before .before in
+    let k : tie.After-copy = search in
+    let s : tie.Start = search in
     let a = s .args in
     rw (k .copy .ensures) (row-written (a .w) (a .w) (a .rows .now) (a .i) (omega arith) (a .cost) (a .point .now) (s .pre .1) (s .pre .2))
 

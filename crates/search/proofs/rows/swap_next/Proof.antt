@@ -28,10 +28,10 @@ next-long : (s : tie.Start) → length (next s) ≡ s .args .w
 next-long s = row-length (s .args .w) (s .args .w) (s .args .rows .now) (s .args .i + 1) (s .pre .2) (omega arith)
 
 abbrev start : tie.After-copy → tie.Start
-start k = k .before .before .before .before .before
+start k = search
 
 abbrev start-2 : tie.After-copy2 → tie.Start
-start-2 k = k .before .before .before .before .before .before .before .before .before .before
+start-2 k = search
 
 first-is : (k : tie.After-copy) → k .copy .last .0 ≡ this (start k)
 first-is k =
@@ -61,55 +61,60 @@ add-to : tie.Need-add-to
 add-to c = omega (arith, inside (c .before))
 
 mul-copy : tie.Need-mul-copy
-mul-copy c = omega (arith, inside (c .before .before))
+mul-copy c = let s : tie.Start = search in omega (arith, inside s)
 
 part-copy-end : tie.Need-part-copy-end
-part-copy-end c = omega (arith, inside (c .before .before .before))
+part-copy-end c = let s : tie.Start = search in omega (arith, inside s)
 
 mul-copy-2 : tie.Need-mul-copy-2
-mul-copy-2 c = omega (arith, inside (c .before .before .before .before .before .before .before))
+mul-copy-2 c = let s : tie.Start = search in omega (arith, inside s)
 
 part-copy-end-2 : tie.Need-part-copy-end-2
-part-copy-end-2 c = omega (arith, inside (c .before .before .before .before .before .before .before .before))
+part-copy-end-2 c = let s : tie.Start = search in omega (arith, inside s)
 
 mul-copy-3 : tie.Need-mul-copy-3
-mul-copy-3 c = omega (arith, inside (c .before .before .before .before .before .before .before .before .before .before .before))
+mul-copy-3 c = let s : tie.Start = search in omega (arith, inside s)
 
 part-copy-end-3 : tie.Need-part-copy-end-3
-part-copy-end-3 c = omega (arith, inside (c .before .before .before .before .before .before .before .before .before .before .before))
+part-copy-end-3 c = let s : tie.Start = search in omega (arith, inside s)
 
 part-copy-end-4 : tie.Need-part-copy-end-4
-part-copy-end-4 c = simp length-append (omega (arith, second-long (c .before .before .before)))
+part-copy-end-4 c =
+    let after-copy2 : tie.After-copy2 = search in
+    simp length-append (omega (arith, second-long after-copy2))
 
 mul-copy-4 : tie.Need-mul-copy-4
-mul-copy-4 c = omega (arith, inside (c .before .before .before .before .before .before .before .before .before .before .before .before .before .before .before .before .before))
+mul-copy-4 c = let s : tie.Start = search in omega (arith, inside s)
 
 part-copy-end-5 : tie.Need-part-copy-end-5
-part-copy-end-5 c = rw (c .before .rows3 .given .1) (inside (c .before .before .before .before .before .before .before .before .before .before .before .before .before .before .before .before .before))
+part-copy-end-5 c = let s : tie.Start = search in rw (c .before .rows3 .given .1) (inside s)
 
 part-copy-end-6 : tie.Need-part-copy-end-6
-part-copy-end-6 c = simp length-append (omega (arith, first-long (c .before .before .before .before .before .before .before .before .before .before .before .before .before .before)))
+part-copy-end-6 c =
+    let after-copy : tie.After-copy = search in
+    simp length-append (omega (arith, first-long after-copy))
 
 copy-requires-4 : tie.Need-copy-requires-4
 copy-requires-4 c κs =
-    let k = c .before .before .before .before .before .before .before .before .before .before .before .before .before .before .before in
+    let after-rows3 : tie.After-rows3 = search in
+    let k : tie.After-copy = search in
     let s = start k in
     let a = s .args in
-    let inner = c .before .before .before .before .rows3 .given .1 in
+    let inner = after-rows3 .rows3 .given .1 in
     let e : a .i * a .w + a .w + a .w - (a .i * a .w + a .w) ≡ a .w = omega arith in
     mid-len (a .i * a .w + a .w) (a .i * a .w + a .w + a .w) _ (rw inner (inside s))
     ∙ e
     ∙ sym (ap length (front-is (a .w) (k .copy .last .0) _ (first-long k)) ∙ first-long k)
 
 same-length : tie.Need-same-length
-same-length c = c .before .rows4 .given .1 ∙ c .before .before .before .before .before .before .before .rows3 .given .1
+same-length c = let after-rows3 : tie.After-rows3 = search in c .before .rows4 .given .1 ∙ after-rows3 .rows3 .given .1
 
 returns : tie.Need-returns
 returns c =
-    let k4 = c .before .before in
-    let k3 = k4 .before .before .before .before .before .before in
-    let k2 = k3 .before .before .before .before .before in
-    let k1 = k2 .before .before .before .before .before in
+    let k4 : tie.After-copy4 = search in
+    let k3 : tie.After-copy3 = search in
+    let k2 : tie.After-copy2 = search in
+    let k1 : tie.After-copy = search in
     let s = start k1 in
     let a = s .args in
     rows-swapped (a .w) (a .w) (a .rows .now) (a .i) (omega arith) (s .pre .2) _ _

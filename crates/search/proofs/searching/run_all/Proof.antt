@@ -38,7 +38,7 @@ abbrev μ-loop : tie.MeasureT-loop
 μ-loop bins problem w cap runs limit simplexes₀ iterations₀ stopped₀ ready table₀ size i₀ simplexes iterations stopped table i = runs - i
 
 abbrev start : tie.At-loop Inv-loop μ-loop → tie.Start Inv-loop μ-loop
-start l = l .before .before .before .before .before .before .before
+start l = search
 
 module _ (l : tie.At-loop Inv-loop μ-loop) where
   abbrev price : ℕ → List Float → Float
@@ -64,7 +64,7 @@ module _ (l : tie.At-loop Inv-loop μ-loop) where
   in-slice h = lies-in size (start l .args .runs) rowsOf (start l .args .simplexes .now) _ (l .loop .i) (l .loop .inv .2) room h
 
 mul-size : tie.Need-mul-size Inv-loop μ-loop
-mul-size c = let s = c .before .before .before .before .before .before in omega (arith, few-numbers (s .args .w) (s .pre .1))
+mul-size c = let s : tie.Start Inv-loop μ-loop = search in omega (arith, few-numbers (s .args .w) (s .pre .1))
 
 loop-holds : tie.Need-loop-holds Inv-loop μ-loop
 loop-holds c = (refl, refl, begins _ _ _ _, each.begins _ _ _, each.begins _ _ _)
@@ -79,15 +79,17 @@ mul-t19 : tie.Need-mul-t19 Inv-loop μ-loop
 mul-t19 c = omega (arith, start (c .before) .pre .3)
 
 slice-read-t21 : tie.Need-slice-read-t21 Inv-loop μ-loop
-slice-read-t21 c = let l = c .before .before in omega (arith, l .loop .inv .3 .long, start l .pre .5)
+slice-read-t21 c = let l : tie.At-loop Inv-loop μ-loop = search in omega (arith, l .loop .inv .3 .long, start l .pre .5)
 
 slice-read-is-set : tie.Need-slice-read-is-set Inv-loop μ-loop
-slice-read-is-set c = let l = c .before .before .before in omega (arith, l .loop .inv .4 .long, start l .pre .6)
+slice-read-is-set c = let l : tie.At-loop Inv-loop μ-loop = search in
+    omega (arith, l .loop .inv .4 .long, start l .pre .6)
 
 mul-run : tie.Need-mul-run Inv-loop μ-loop
 mul-run c =
-    let t = c .before .before .before in
-    omega (arith, in-slice (t .before) (t .loop-test .taken), t .before .loop .inv .2 .long, start (t .before) .good .1 .1 .1 .1 .1 .1 .0)
+    let l : tie.At-loop Inv-loop μ-loop = search in
+    let t : tie.In-loop Inv-loop μ-loop = search in
+    omega (arith, in-slice l (t .loop-test .taken), l .loop .inv .2 .long, start (t .before) .good .1 .1 .1 .1 .1 .1 .0)
 
 sub-run : tie.Need-sub-run Inv-loop μ-loop
 sub-run c = omega arith
@@ -96,7 +98,8 @@ part-run-start : tie.Need-part-run-start Inv-loop μ-loop
 part-run-start c = omega arith
 
 part-run-end : tie.Need-part-run-end Inv-loop μ-loop
-part-run-end c = let t = c .before .before .before in omega (arith, in-slice (t .before) (t .loop-test .taken))
+part-run-end c = let t : tie.In-loop Inv-loop μ-loop = search in
+    omega (arith, in-slice (t .before) (t .loop-test .taken))
 
 -- what the call is lent
 module _ (t : tie.In-loop Inv-loop μ-loop) where
@@ -118,18 +121,20 @@ module _ (t : tie.In-loop Inv-loop μ-loop) where
 
 run-requires : tie.Need-run-requires Inv-loop μ-loop
 run-requires c κs =
-    let t = c .before .before .before .before .before in
+    let t : tie.In-loop Inv-loop μ-loop = search in
     let s = start (t .before) in
     (found-long t, s .pre .0, s .pre .1, s .pre .2)
 
 mul-iterations : tie.Need-mul-iterations Inv-loop μ-loop
-mul-iterations c = omega (arith, start (c .before .before .before .before .before .before .before .before .before .before .before) .pre .3)
+mul-iterations c = let s : tie.Start Inv-loop μ-loop = search in omega (arith, s .pre .3)
 
 slice-write-iterations : tie.Need-slice-write-iterations Inv-loop μ-loop
-slice-write-iterations c = let l = c .before .before .before .before .before .before .before .before .before .before .before in omega (arith, l .loop .inv .3 .long, start l .pre .5)
+slice-write-iterations c = let l : tie.At-loop Inv-loop μ-loop = search in
+    omega (arith, l .loop .inv .3 .long, start l .pre .5)
 
 slice-write-stopped : tie.Need-slice-write-stopped Inv-loop μ-loop
-slice-write-stopped c = let l = c .before .before .before .before .before .before .before .before .before .before .before .before in omega (arith, l .loop .inv .4 .long, start l .pre .6)
+slice-write-stopped c = let l : tie.At-loop Inv-loop μ-loop = search in
+    omega (arith, l .loop .inv .4 .long, start l .pre .6)
 
 add-i : tie.Need-add-i Inv-loop μ-loop
 add-i c = omega arith
@@ -139,9 +144,10 @@ loop-less c = omega arith
 
 loop-again : tie.Need-loop-again Inv-loop μ-loop
 loop-again c =
-    let r = c .before .before .before .before .before in
-    let q = r .before .before .before .is-set in
-    let t = r .before .before .before .before .before .before in
+    let after-is-set : tie.After-is-set Inv-loop μ-loop = search in
+    let r : tie.After-run Inv-loop μ-loop = search in
+    let q = after-is-set .is-set in
+    let t : tie.In-loop Inv-loop μ-loop = search in
     let l = t .before in
     let s = start l in
     let a = s .args in

@@ -20,7 +20,7 @@ use Rattle.search.proofs.searching.run_searches.Statement.{statement}
 use Rattle.search.proofs.searching.run_searches.Tie as tie
 
 abbrev start : tie.After-search-refusal → tie.Start
-start r = r .before .before .before .before .before .before .before
+start r = search
 
 -- what the slices come to by the answer x
 module _ (s : tie.Start) where
@@ -66,13 +66,13 @@ returns c =
 -- what is known once nothing is refused
 module _ (w : tie.After-width) where
   abbrev r : tie.After-search-refusal
-  r = w .before .before .before .before .before .before .before
+  r = search
 
   abbrev s : tie.Start
   s = start r
 
   none : 0 ≡ r .search-refusal .result
-  none = omega (arith, w .before .before .before .before .before .before .if1 .left)
+  none = let else1 : tie.Else1 = search in omega (arith, else1 .if1 .left)
 
   let-through : let a = s .args in
       SearchPassed (a .bins .now) (a .problem) (a .runs) false
@@ -90,14 +90,16 @@ module _ (w : tie.After-width) where
       readyPriceOf (a .bins .now) (a .problem) (w .before .before .before .before .prepare-window .last .1 .0) (length (a .table .now))
       ≡ priceOf (a .bins .now) (a .problem) (length (a .table .now))
   price-is =
+      let after-prepare-window : tie.After-prepare-window = search in
       let a = s .args in
       let t = let-through in
-      ap (λ (x : List Float). readyPriceOf (a .bins .now) (a .problem) x (length (a .table .now))) (w .before .before .before .before .prepare-window .ensures .1)
+      ap (λ (x : List Float). readyPriceOf (a .bins .now) (a .problem) x (length (a .table .now)))
+      (after-prepare-window .prepare-window .ensures .1)
       ∙ ready-is-cost (a .bins .now) (a .problem) (a .ready .now) (t .end-some) (t .end-few) (t .ready-room) (length (a .table .now))
 
 run-all-requires : tie.Need-run-all-requires
 run-all-requires c κs =
-    let w = c .before .before .before .before .before in
+    let w : tie.After-width = search in
     let t = let-through w in
     let e = w .width .ensures in
     let a = s w .args in (
@@ -112,8 +114,9 @@ run-all-requires c κs =
 
 returns-2 : tie.Need-returns-2
 returns-2 c =
-    let k = c .before .before .before .before .before .before .before .before in
-    let w = k .before .before .before .before .before .before in
+    let after-prepare-window : tie.After-prepare-window = search in
+    let k : tie.After-run-all = search in
+    let w : tie.After-width = search in
     let a = s w .args in
     let X = a .simplexes .now in
     let I = a .iterations .now in
@@ -132,7 +135,7 @@ returns-2 c =
             k .run-all .ensures .1 .1 .0 ∙ (λ j. stoppedAfter (ew j) X I S (a .runs) (ep j) (ec j) (a .limit))
                 ∙ ap (endsBy (s w)) answer,
             (
-              w .before .before .before .before .prepare-window .ensures .1 ∙ ap (readyBy (s w)) answer,
+              after-prepare-window .prepare-window .ensures .1 ∙ ap (readyBy (s w)) answer,
               subst
                   (λ (x : Reply ℕ). drop (stoodFrom (a .problem) x) (k .run-all .last .1 .1 .1 .1 .1 .1 .1 .1 .1 .1 .0)
                   ≡ drop (stoodFrom (a .problem) x) (a .table .now)) answer (k .run-all .ensures .1 .1 .1),

@@ -29,21 +29,24 @@ loop-less c = omega arith
 
 loop-again : tie.Need-loop-again Inv-loop μ-loop
 loop-again c =
-    let at = c .before .before in
+    let at : tie.At-loop Inv-loop μ-loop = search in
     goes-on _ _ _ _ (at .loop .inv) _ (omega arith) (ap (λ (x : Float). at .loop .sum ⊕ x) (c .square-at2 .ensures))
 
 int-to-float-result : tie.Need-int-to-float-result Inv-loop μ-loop
 int-to-float-result c =
-    let w = c .before .before .before .before .before .before .args .w in
+    let s : tie.Start Inv-loop μ-loop = search in
+    let w = s .args .w in
     let h : w * w < 2 ^ 64 = omega arith in
     width-held w h
 
 returns : tie.Need-returns Inv-loop μ-loop
 returns c =
-    let at = c .before .before in
-    let a = at .before .before .before .before .args in
+    let after-mean-cost : tie.After-mean-cost Inv-loop μ-loop = search in
+    let s : tie.Start Inv-loop μ-loop = search in
+    let at : tie.At-loop Inv-loop μ-loop = search in
+    let a = s .args in
     ap (λ (x : Float). x ⊘ ofCount (a .w)) (ends _ _ _ _ (at .loop .inv) (omega arith))
-    ∙ sym (deviation-is (a .w) (a .rows .now) _ (at .before .before .mean-cost .ensures))
+    ∙ sym (deviation-is (a .w) (a .rows .now) _ (after-mean-cost .mean-cost .ensures))
 
 pub deviation-spec : {M : Type 1} → statement M
 deviation-spec =

@@ -20,7 +20,7 @@ abbrev μ-loop : tie.MeasureT-loop
 μ-loop rows w sum₀ i₀ sum i = w - i
 
 shared-slice-read-sum : tie.Need-shared-slice-read-sum Inv-loop μ-loop
-shared-slice-read-sum c = omega (arith, mul-pos (c .before .pre .1) (c .before .pre .1))
+shared-slice-read-sum c = let s = c .before in omega (arith, mul-pos (s .pre .1) (s .pre .1))
 
 loop-holds : tie.Need-loop-holds Inv-loop μ-loop
 loop-holds c =
@@ -29,18 +29,22 @@ loop-holds c =
 
 mul-sum : tie.Need-mul-sum Inv-loop μ-loop
 mul-sum c =
-    let w = c .before .before .before .args .w in
+    let s : tie.Start Inv-loop μ-loop = search in
+    let w = s .args .w in
     omega (arith, row-fits (c .before .loop .i) w w (omega arith))
 
 mul-sum-2 : tie.Need-mul-sum-2 Inv-loop μ-loop
 mul-sum-2 c =
-    let w = c .before .before .before .args .w in
+    let s : tie.Start Inv-loop μ-loop = search in
+    let w = s .args .w in
     omega (arith, row-fits (c .before .loop .i) w w (omega arith))
 
 shared-slice-read-sum-2 : tie.Need-shared-slice-read-sum-2 Inv-loop μ-loop
 shared-slice-read-sum-2 c =
-    let w = c .before .before .before .before .args .w in
-    omega (arith, row-fits (c .before .before .loop .i) w w (omega arith))
+    let l : tie.At-loop Inv-loop μ-loop = search in
+    let s : tie.Start Inv-loop μ-loop = search in
+    let w = s .args .w in
+    omega (arith, row-fits (l .loop .i) w w (omega arith))
 
 add-i : tie.Need-add-i Inv-loop μ-loop
 add-i c = omega arith
@@ -50,22 +54,23 @@ loop-less c = omega arith
 
 loop-again : tie.Need-loop-again Inv-loop μ-loop
 loop-again c =
-    let at = c .before .before in
-    let s = at .before .before in
+    let at : tie.At-loop Inv-loop μ-loop = search in
+    let s : tie.Start Inv-loop μ-loop = search in
     goes-on _ _ _ _ (at .loop .inv) _ (omega arith)
     (ap (λ (x : Float). at .loop .sum ⊕ x)
     (sym (cost-in (s .args .w) (s .args .rows .now) (s .pre .0) (at .loop .i) (omega arith))))
 
 int-to-float-result : tie.Need-int-to-float-result Inv-loop μ-loop
 int-to-float-result c =
-    let w = c .before .before .before .before .args .w in
+    let s : tie.Start Inv-loop μ-loop = search in
+    let w = s .args .w in
     let h : w * w < 2 ^ 64 = omega arith in
     width-held w h
 
 returns : tie.Need-returns Inv-loop μ-loop
 returns c =
-    let at = c .before .before in
-    let s = at .before .before in
+    let at : tie.At-loop Inv-loop μ-loop = search in
+    let s : tie.Start Inv-loop μ-loop = search in
     ap (λ (x : Float). x ⊘ ofCount (s .args .w)) (ends _ _ _ _ (at .loop .inv) (omega arith))
     ∙ sym (mean-is (s .args .w) (s .args .rows .now))
 

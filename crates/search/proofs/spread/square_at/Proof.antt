@@ -17,8 +17,9 @@ mul-off-2 c = omega (arith, row-fits (c .args .i) (c .args .w) (c .args .w) (c .
 
 shared-slice-read-off : tie.Need-shared-slice-read-off
 shared-slice-read-off c =
-    let a = c .before .args in
-    omega (arith, row-fits (a .i) (a .w) (a .w) (c .before .pre .1))
+    let s = c .before in
+    let a = s .args in
+    omega (arith, row-fits (a .i) (a .w) (a .w) (s .pre .1))
 
 returns : tie.Need-returns
 unfolding squareAt

@@ -15,7 +15,7 @@ use Rattle.search.proofs.steps.contract_in.Statement.{statement}
 use Rattle.search.proofs.steps.contract_in.Tie as tie
 
 abbrev start : tie.After-slice-known4 → tie.Start
-start c = c .before .before .before .before .before .before
+start c = search
 
 -- the last row lies in the slice
 last-fits : (c : tie.After-slice-known4) → let w = start c .args .w in (w - 1) * w + w ≤ w * w
@@ -23,7 +23,7 @@ last-fits c = row-fits (start c .args .w - 1) (start c .args .w) (start c .args 
 
 module _ (t : tie.After-try-point) where
   abbrev s : tie.Start
-  s = start (t .before .before .before .before .before .before)
+  s = search
 
   abbrev price : List Float → Float
   price = let a = s .args in readyPriceOf (a .bins .now) (a .problem) (a .ready .now) (length (a .table .now))
@@ -44,19 +44,23 @@ mul-try-point : tie.Need-mul-try-point
 mul-try-point c = omega (arith, last-fits (c .before))
 
 part-try-point-end : tie.Need-part-try-point-end
-part-try-point-end c = omega (arith, last-fits (c .before .before))
+part-try-point-end c =
+    let after-slice-known4 : tie.After-slice-known4 = search in
+    omega (arith, last-fits after-slice-known4)
 
 mul-if1 : tie.Need-mul-if1
-mul-if1 c = omega (arith, last-fits (c .before .before .before .before .before .before .before .before .before .before))
+mul-if1 c = let after-slice-known4 : tie.After-slice-known4 = search in omega (arith, last-fits after-slice-known4)
 
 slice-read-if1 : tie.Need-slice-read-if1
-slice-read-if1 c = omega (arith, last-fits (c .before .before .before .before .before .before .before .before .before .before .before))
+slice-read-if1 c =
+    let after-slice-known4 : tie.After-slice-known4 = search in
+    omega (arith, last-fits after-slice-known4)
 
 returns : tie.Need-returns
 returns c =
-    let k = c .before .before in
-    let then = k .before .before .before in
-    let t = then .before .before .before .before .before .before in
+    let k : tie.After-put = search in
+    let then : tie.Then1 = search in
+    let t : tie.After-try-point = search in
     let a = s t .args in (
       k .put .ensures
           ∙ in-taken (price t) (a .w) (a .rows .now) (s t .pre .0) (some t) (a .centre .now) _
@@ -67,9 +71,9 @@ returns c =
 
 returns-2 : tie.Need-returns-2
 returns-2 c =
-    let k = c .before .before .before .before .before .before .before .before in
-    let else = k .before .before .before .before .before in
-    let t = else .before .before .before .before .before .before in
+    let k : tie.After-shrink = search in
+    let else : tie.Else1 = search in
+    let t : tie.After-try-point = search in
     let a = s t .args in (
       k .shrink .ensures .0
           ∙ ap (λ (n : ℕ). shrunk (readyPriceOf (a .bins .now) (a .problem) (a .ready .now) n) (rowsIn (a .w) (a .w) (a .rows .now)))

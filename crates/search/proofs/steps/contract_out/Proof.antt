@@ -16,7 +16,7 @@ use Rattle.search.proofs.steps.contract_out.Tie as tie
 
 module _ (t : tie.After-try-point) where
   abbrev s : tie.Start
-  s = t .before .before .before .before .before .before .before .before .before .before .before
+  s = search
 
   abbrev price : List Float → Float
   price = let a = s .args in readyPriceOf (a .bins .now) (a .problem) (a .ready .now) (length (a .table .now))
@@ -26,9 +26,9 @@ module _ (t : tie.After-try-point) where
 
 returns : tie.Need-returns
 returns c =
-    let k = c .before .before in
-    let then = k .before .before .before in
-    let t = then .before .before .before .before .before in
+    let k : tie.After-put = search in
+    let then : tie.Then1 = search in
+    let t : tie.After-try-point = search in
     let a = s t .args in (
       k .put .ensures
           ∙ out-taken (price t) (a .w) (a .rows .now) (s t .pre .0) (some t) (a .centre .now) (a .point .now) (a .reflected) _ _
@@ -38,9 +38,9 @@ returns c =
 
 returns-2 : tie.Need-returns-2
 returns-2 c =
-    let k = c .before .before .before .before .before .before .before .before in
-    let else = k .before .before .before .before .before in
-    let t = else .before .before .before .before .before in
+    let k : tie.After-shrink = search in
+    let else : tie.Else1 = search in
+    let t : tie.After-try-point = search in
     let a = s t .args in (
       k .shrink .ensures .0
           ∙ ap (λ (n : ℕ). shrunk (readyPriceOf (a .bins .now) (a .problem) (a .ready .now) n) (rowsIn (a .w) (a .w) (a .rows .now)))

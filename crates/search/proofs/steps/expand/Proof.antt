@@ -18,7 +18,7 @@ use Rattle.search.proofs.steps.expand.Statement.{statement}
 use Rattle.search.proofs.steps.expand.Tie as tie
 
 abbrev start : tie.After-slice-known3 → tie.Start
-start c = c .before .before .before .before .before .before .before
+start c = search
 
 -- the last row lies in the slice
 last-fits : (c : tie.After-slice-known3) → let w = start c .args .w in (w - 1) * w + w ≤ w * w
@@ -42,7 +42,7 @@ part-try-point-end c = omega (arith, last-fits (c .before))
 -- what is put into the last row is what the rule has
 module _ (t : tie.After-try-point) where
   abbrev s : tie.Start
-  s = start (t .before .before .before .before .before)
+  s = search
 
   abbrev price : List Float → Float
   price = let a = s .args in readyPriceOf (a .bins .now) (a .problem) (a .ready .now) (length (a .table .now))
@@ -66,18 +66,18 @@ module _ (t : tie.After-try-point) where
 
 returns : tie.Need-returns
 returns c =
-    let k = c .before .before in
-    let then = k .before .before .before in
-    let t = then .before .before .before .before .before in (
+    let k : tie.After-put = search in
+    let then : tie.Then1 = search in
+    let t : tie.After-try-point = search in (
       k .put .ensures ∙ left t _ _ (t .try-point .ensures .0) (t .try-point .ensures .1 .0) true (then .if1 .taken),
       t .try-point .ensures .1 .1,
     )
 
 returns-2 : tie.Need-returns-2
 returns-2 c =
-    let k = c .before .before in
-    let else = k .before .before in
-    let t = else .before .before .before .before .before in (
+    let k : tie.After-put2 = search in
+    let else : tie.Else1 = search in
+    let t : tie.After-try-point = search in (
       k .put2 .ensures ∙ left t _ _ (t .try-point .ensures .0) (t .try-point .ensures .1 .0) false (else .if1 .left),
       t .try-point .ensures .1 .1,
     )

@@ -33,19 +33,19 @@ abbrev μ-loop : tie.MeasureT-loop
 μ-loop bins problem w best point₀ rows₀ ready table₀ n i₀ point rows table i = w - i
 
 abbrev copied : tie.At-loop Inv-loop μ-loop → tie.After-copy Inv-loop μ-loop
-copied l = l .before .before .before
+copied l = search
 
 abbrev start : tie.After-copy-arg Inv-loop μ-loop → tie.Start Inv-loop μ-loop
-start k = k .before .before .before .before .before .before .before
+start k = search
 
 abbrev begun : tie.At-loop Inv-loop μ-loop → tie.Start Inv-loop μ-loop
-begun l = start (copied l .before .before .before)
+begun l = search
 
 abbrev tried : tie.After-put-arg2 Inv-loop μ-loop → tie.After-try-point Inv-loop μ-loop
-tried k = k .before .before .before .before .before .before
+tried k = search
 
 abbrev turn : tie.After-try-point Inv-loop μ-loop → tie.In-loop Inv-loop μ-loop
-turn p = p .before .before .before .before .before .before
+turn p = search
 
 abbrev price : tie.Start Inv-loop μ-loop → List Float → Float
 price s = let a = s .args in readyPriceOf (a .bins .now) (a .problem) (a .ready .now) (length (a .table .now))
@@ -76,7 +76,7 @@ part-copy-end c = first-in (start (c .before))
 
 copy-requires : tie.Need-copy-requires Inv-loop μ-loop
 copy-requires c κs =
-    let s = start (c .before .before) in
+    let s : tie.Start Inv-loop μ-loop = search in
     let a = s .args in
     let e : length (a .best .now) ≡ a .w - 1 = omega arith in
     e ∙ sym (mid-len 1 (a .w) (a .rows .now) (first-in s))
@@ -86,7 +86,7 @@ sub-n c = omega arith
 
 loop-holds : tie.Need-loop-holds Inv-loop μ-loop
 loop-holds c =
-    let s = start (c .before .before .before .before .before) in
+    let s : tie.Start Inv-loop μ-loop = search in
     let a = s .args in (
       lit≤ tt,
       refl,
@@ -119,7 +119,7 @@ part-try-point-end c = omega (arith, inside (c .before))
 
 try-point-requires : tie.Need-try-point-requires Inv-loop μ-loop
 try-point-requires c κs =
-    let t = c .before .before .before .before .before in
+    let t : tie.In-loop Inv-loop μ-loop = search in
     let l = t .before in
     let s = begun l in
     let a = s .args in
@@ -148,7 +148,7 @@ loop-less : tie.Need-loop-less Inv-loop μ-loop
 loop-less c = omega arith
 
 -- one more row is passed
-more : (k : tie.After-put Inv-loop μ-loop) → let l = turn (tried (k .before)) .before in
+more : (k : tie.After-put Inv-loop μ-loop) → let l : tie.At-loop Inv-loop μ-loop = search in
     let a = begun l .args in
     Passed (shrunkAt (price (begun l)) (rows (begun l))) [] (rows (begun l)) (rowsIn (a .w) (a .w) (k .put .last .0)) (l .loop .i + 1)
 more k =
@@ -170,7 +170,7 @@ more k =
 
 loop-again : tie.Need-loop-again Inv-loop μ-loop
 loop-again c =
-    let k = c .before .before in
+    let k : tie.After-put Inv-loop μ-loop = search in
     let p = tried (k .before) in
     let l = turn p .before in (
       omega arith,

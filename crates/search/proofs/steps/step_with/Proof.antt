@@ -15,7 +15,7 @@ use Rattle.search.proofs.steps.step_with.Statement.{statement}
 use Rattle.search.proofs.steps.step_with.Tie as tie
 
 abbrev start : tie.After-slice-known5 → tie.Start
-start c = c .before .before .before .before .before .before .before
+start c = search
 
 -- the last row lies in the slice, and so does the one before it
 last-fits : (c : tie.After-slice-known5) → let w = start c .args .w in (w - 1) * w + w ≤ w * w
@@ -25,10 +25,10 @@ second-fits : (c : tie.After-slice-known5) → let w = start c .args .w in (w - 
 second-fits c = row-fits (start c .args .w - 2) (start c .args .w - 1) (start c .args .w) (omega arith)
 
 abbrev first : tie.After-try-point → tie.After-slice-known5
-first t = t .before .before .before .before .before .before .before .before .before .before .before
+first t = search
 
 abbrev tried : tie.After-slice-known9 → tie.After-try-point
-tried c = c .before .before .before .before .before
+tried c = search
 
 module _ (t : tie.After-try-point) where
   abbrev s : tie.Start
@@ -39,7 +39,7 @@ module _ (t : tie.After-try-point) where
 
   -- the centroid, and the vertex reflected
   abbrev middle : List Float
-  middle = t .before .before .before .before .before .before .before .before .centroid .last .1 .1 .0
+  middle = let after-centroid : tie.After-centroid = search in after-centroid .centroid .last .1 .1 .0
 
   abbrev reflected : Vertex
   reflected = t .try-point .result ∷ t .try-point .last .1 .1 .1 .1 .1 .0
@@ -60,24 +60,30 @@ add-to : tie.Need-add-to
 add-to c = omega (arith, last-fits c)
 
 mul-try-point : tie.Need-mul-try-point
-mul-try-point c = omega (arith, last-fits (c .before .before .before .before .before .before))
+mul-try-point c =
+    let after-slice-known5 : tie.After-slice-known5 = search in
+    omega (arith, last-fits after-slice-known5)
 
 part-try-point-end : tie.Need-part-try-point-end
-part-try-point-end c = omega (arith, last-fits (c .before .before .before .before .before .before .before))
+part-try-point-end c =
+    let after-slice-known5 : tie.After-slice-known5 = search in
+    omega (arith, last-fits after-slice-known5)
 
 slice-read-if1 : tie.Need-slice-read-if1
 slice-read-if1 c = omega (arith, last-fits (first (tried c)))
 
 returns : tie.Need-returns
 returns c =
-    let k = c .before .before .before .before .before .before in
-    let then = k .before .before .before .before .before .before in
+    let after-centroid : tie.After-centroid = search in
+    let k : tie.After-expand = search in
+    let then : tie.Then1 = search in
     let t = tried (then .before) in
     let a = s t .args in (
       k .expand .ensures .0
           ∙ ap (λ (n : ℕ). expanded (readyPriceOf (a .bins .now) (a .problem) (a .ready .now) n) (rowsIn (a .w) (a .w) (a .rows .now)) (middle t) (reflected t))
           (t .try-point .kept .1 .1 .1 .1 .1 .1 .1 .0)
-          ∙ below-best (price t) (a .w) (a .rows .now) (s t .pre .0) (some t) (s t .pre .1) _ _ (t .before .before .before .before .before .before .before .before .centroid .ensures)
+          ∙ below-best (price t) (a .w) (a .rows .now) (s t .pre .0) (some t) (s t .pre .1) _ _
+          (after-centroid .centroid .ensures)
           (last-part (price t) (a .w) (a .rows .now) (s t .pre .0) (some t)) _ _ _ (t .try-point .ensures .0)
           (t .try-point .ensures .1 .0) (then .if1 .taken),
       k .expand .ensures .1 ∙ t .try-point .ensures .1 .1,
@@ -87,39 +93,50 @@ mul-if2 : tie.Need-mul-if2
 mul-if2 c = omega (arith, last-fits (first (tried (c .before))), start (first (tried (c .before))) .good .1 .1 .1 .1 .1 .1 .0)
 
 slice-read-if2 : tie.Need-slice-read-if2
-slice-read-if2 c = omega (arith, last-fits (first (tried (c .before .before))))
+slice-read-if2 c =
+    let after-slice-known5 : tie.After-slice-known5 = search in
+    omega (arith, last-fits after-slice-known5)
 
 returns-2 : tie.Need-returns-2
 returns-2 c =
-    let k = c .before .before in
-    let then = k .before .before .before in
-    let else = then .before .before in
+    let after-centroid : tie.After-centroid = search in
+    let k : tie.After-put = search in
+    let then : tie.Then2 = search in
+    let else : tie.Else1 = search in
     let t = tried (else .before) in
     let a = s t .args in (
-      k .put .ensures ∙ below-second (price t) (a .w) (a .rows .now) (s t .pre .0) (some t) (s t .pre .1) _ _ (t .before .before .before .before .before .before .before .before .centroid .ensures)
+      k .put .ensures ∙ below-second (price t) (a .w) (a .rows .now) (s t .pre .0) (some t) (s t .pre .1) _ _
+          (after-centroid .centroid .ensures)
           (last-part (price t) (a .w) (a .rows .now) (s t .pre .0) (some t)) _ _ _ (t .try-point .ensures .0)
           (t .try-point .ensures .1 .0) (else .if1 .left) (then .if2 .taken),
       t .try-point .ensures .1 .1,
     )
 
 mul-if3 : tie.Need-mul-if3
-mul-if3 c = omega (arith, last-fits (first (tried (c .before .before .before))), start (first (tried (c .before .before .before))) .good .1 .1 .1 .1 .1 .1 .0)
+mul-if3 c =
+    let after-slice-known5 : tie.After-slice-known5 = search in
+    let begun : tie.Start = search in
+    omega (arith, last-fits after-slice-known5, begun .good .1 .1 .1 .1 .1 .1 .0)
 
 slice-read-if3 : tie.Need-slice-read-if3
-slice-read-if3 c = omega (arith, last-fits (first (tried (c .before .before .before .before))))
+slice-read-if3 c =
+    let after-slice-known5 : tie.After-slice-known5 = search in
+    omega (arith, last-fits after-slice-known5)
 
 returns-3 : tie.Need-returns-3
 returns-3 c =
-    let k = c .before .before .before .before .before .before .before .before in
-    let then = k .before .before .before .before .before .before in
-    let second = then .before .before in
-    let else = second .before .before in
+    let after-centroid : tie.After-centroid = search in
+    let k : tie.After-contract-out = search in
+    let then : tie.Then3 = search in
+    let second : tie.Else2 = search in
+    let else : tie.Else1 = search in
     let t = tried (else .before) in
     let a = s t .args in (
       k .contract-out .ensures .0
           ∙ ap (λ (n : ℕ). contractedOut (readyPriceOf (a .bins .now) (a .problem) (a .ready .now) n) (rowsIn (a .w) (a .w) (a .rows .now)) (middle t) (reflected t))
           (t .try-point .kept .1 .1 .1 .1 .1 .1 .1 .0)
-          ∙ below-worst (price t) (a .w) (a .rows .now) (s t .pre .0) (some t) (s t .pre .1) _ _ (t .before .before .before .before .before .before .before .before .centroid .ensures)
+          ∙ below-worst (price t) (a .w) (a .rows .now) (s t .pre .0) (some t) (s t .pre .1) _ _
+          (after-centroid .centroid .ensures)
           (last-part (price t) (a .w) (a .rows .now) (s t .pre .0) (some t)) _ _ _ (t .try-point .ensures .0)
           (t .try-point .ensures .1 .0) (else .if1 .left) (second .if2 .left) (then .if3 .taken),
       k .contract-out .ensures .1 ∙ t .try-point .ensures .1 .1,
@@ -127,16 +144,18 @@ returns-3 c =
 
 returns-4 : tie.Need-returns-4
 returns-4 c =
-    let k = c .before .before .before .before .before .before .before .before in
-    let third = k .before .before .before .before .before in
-    let second = third .before .before in
-    let else = second .before .before in
+    let after-centroid : tie.After-centroid = search in
+    let k : tie.After-contract-in = search in
+    let third : tie.Else3 = search in
+    let second : tie.Else2 = search in
+    let else : tie.Else1 = search in
     let t = tried (else .before) in
     let a = s t .args in (
       k .contract-in .ensures .0
           ∙ ap (λ (n : ℕ). contractedIn (readyPriceOf (a .bins .now) (a .problem) (a .ready .now) n) (rowsIn (a .w) (a .w) (a .rows .now)) (middle t))
           (t .try-point .kept .1 .1 .1 .1 .1 .1 .1 .0)
-          ∙ not-below (price t) (a .w) (a .rows .now) (s t .pre .0) (some t) (s t .pre .1) _ _ (t .before .before .before .before .before .before .before .before .centroid .ensures)
+          ∙ not-below (price t) (a .w) (a .rows .now) (s t .pre .0) (some t) (s t .pre .1) _ _
+          (after-centroid .centroid .ensures)
           (last-part (price t) (a .w) (a .rows .now) (s t .pre .0) (some t)) _ _ _ (t .try-point .ensures .0)
           (t .try-point .ensures .1 .0) (else .if1 .left) (second .if2 .left) (third .if3 .left),
       k .contract-in .ensures .1 ∙ t .try-point .ensures .1 .1,

@@ -11,10 +11,11 @@ use Rattle.search.proofs.steps.try_point.Tie as tie
 
 returns : tie.Need-returns
 returns c =
-    let p = c .before .before in
-    let m = p .before .before .before .before .before in
-    let k = m .before .before .before .before in
-    let a = k .before .before .before .before .before .before .before .before .args in
+    let s : tie.Start = search in
+    let p : tie.After-price = search in
+    let m : tie.After-move-point = search in
+    let k : tie.After-copy = search in
+    let a = s .args in
     let e = m .move-point .ensures ∙ ap (λ (x : List Float). moved (a .how) x (a .other .now)) (k .copy .ensures) in (
       e,
       (

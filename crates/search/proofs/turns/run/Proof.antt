@@ -27,7 +27,7 @@ abbrev μ-loop : tie.MeasureT-loop
 μ-loop bins problem w cap limit rows₀ ready table₀ now₀ left₀ rows table now left = left
 
 abbrev start : tie.At-loop Inv-loop μ-loop → tie.Start Inv-loop μ-loop
-start c = c .before .before .before .before .before
+start c = search
 
 -- the cost that it goes by, and the state at hand
 abbrev price : tie.At-loop Inv-loop μ-loop → ℕ → List Float → Float
@@ -42,7 +42,7 @@ loop-holds c = (refl, refl, refl, refl)
 returns : tie.Need-returns Inv-loop μ-loop
 returns c =
     let t = c .before in
-    let at = t .before .before in
+    let at : tie.At-loop Inv-loop μ-loop = search in
     let a = start at .args in (
       sym
           (stays (price at (length (a .table .now))) (a .cap) (at .loop .left) (state at)
@@ -53,9 +53,9 @@ returns c =
 
 turn-requires : tie.Need-turn-requires Inv-loop μ-loop
 turn-requires c κs =
-    let i = c .before .before in
+    let i : tie.Else1 Inv-loop μ-loop = search in
     let t = i .before in
-    let at = t .before .before in
+    let at : tie.At-loop Inv-loop μ-loop = search in
     let s = start at in
     let few = below-cap (s .args .cap) (state at) (sym (t .has-ended .ensures) ∙ i .if1 .left) in
     (at .loop .inv .0 ∙ s .pre .0, s .pre .1, s .pre .2, omega arith)
@@ -68,10 +68,10 @@ loop-less c = omega arith
 
 loop-again : tie.Need-loop-again Inv-loop μ-loop
 loop-again c =
-    let p = c .before .before .before .before in
-    let i = p .before .before .before in
+    let p : tie.After-turn Inv-loop μ-loop = search in
+    let i : tie.Else1 Inv-loop μ-loop = search in
     let t = i .before in
-    let at = t .before .before in
+    let at : tie.At-loop Inv-loop μ-loop = search in
     let a = start at .args in
     let same = at .loop .inv .1 in (
       p .turn .kept .1 .1 .1 .1 .0 ∙ at .loop .inv .0,

@@ -14,7 +14,7 @@ use Rattle.search.proofs.turns.turn.Tie as tie
 
 -- the start, from where the rows are in order
 abbrev start : tie.After-order → tie.Start
-start c = c .before .before .before .before .before .before
+start c = search
 
 -- the cost that it goes by, and the state that is found
 abbrev price : tie.After-order → List Float → Float
@@ -27,7 +27,7 @@ found c = let a = start c .args in stateOf (a .w) (a .rows .now) (a .progress)
 returns : tie.Need-returns
 returns c =
     let t = c .before in
-    let o = t .before .before .before .before in
+    let o : tie.After-order = search in
     (settles (price o) (found o) _ (o .order .ensures) (sym (t .is-settled .ensures) ∙ c .if1 .taken), refl)
 
 add-t18 : tie.Need-add-t18
@@ -35,10 +35,10 @@ add-t18 c = omega arith
 
 returns-2 : tie.Need-returns-2
 returns-2 c =
-    let p = c .before .before .before .before .before in
-    let i = p .before .before .before in
+    let p : tie.After-step = search in
+    let i : tie.Else1 = search in
     let t = i .before in
-    let o = t .before .before .before .before in (
+    let o : tie.After-order = search in (
       steps (price o) (found o) _ (o .order .ensures) _ (sym (t .is-settled .ensures) ∙ i .if1 .left) (p .step .ensures .0),
       p .step .ensures .1,
     )

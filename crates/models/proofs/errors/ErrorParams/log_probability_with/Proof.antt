@@ -11,10 +11,11 @@ returns c = rw (c .before .if1 .taken) (c .ln .ensures)
 returns-2 : tie.Need-returns-2
 unfolding logProbabilityOf
 returns-2 c =
-    let first = c .before .before in
+    let s : tie.Start = search in
+    let first : tie.After-log-survival-from-two = search in
     rw (first .before .if1 .left)
     (rw (c .ln-sub-exp .ensures, c .before .log-survival-from-two2 .ensures)
-    (rw (first .log-survival-from-two .ensures, first .before .before .pre)))
+    (rw (first .log-survival-from-two .ensures, s .pre)))
 
 pub log-probability-with-spec : {M : Type 1} → statement M
 log-probability-with-spec =

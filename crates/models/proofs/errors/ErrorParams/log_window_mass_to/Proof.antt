@@ -7,8 +7,8 @@ use Rattle.models.proofs.errors.ErrorParams.log_window_mass_to.Tie as t
 returns : tie.Need-returns
 unfolding logWindowMassTo
 returns c =
-    let survival = c .before .before in
-    let tail = survival .before .before in
+    let survival : tie.After-log-survival-from-two = search in
+    let tail : tie.After-ln-tail = search in
     rw (c .ln .ensures, c .before .expm1 .ensures, survival .log-survival-from-two .ensures, tail .ln-tail .ensures)
 
 pub log-window-mass-to-spec : {M : Type 1} → statement M

@@ -6,7 +6,9 @@ use Rattle.models.proofs.errors.ErrorParams.window_mass_with.Tie as tie
 
 returns : tie.Need-returns
 unfolding windowMassWith
-returns c = rw (c .ln .ensures, c .before .expm1 .ensures, c .before .before .survival-with .ensures)
+returns c =
+    let after-survival-with : tie.After-survival-with = search in
+    rw (c .ln .ensures, c .before .expm1 .ensures, after-survival-with .survival-with .ensures)
 
 pub window-mass-with-spec : {M : Type 1} → statement M
 window-mass-with-spec =
