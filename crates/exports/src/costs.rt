@@ -48,8 +48,14 @@ pub extern "C" fn fog_cost(
     theta: &[f64],
     table: &mut [f64],
 ) -> FlatNumber
-    ensures { λ r. ⌜ r ≡ sayNumber (costOf (now (bins .entry)) scale «window_end» peak (errorOf error) (genomeOf genome) (now (theta .entry)) (length (now (table .entry)))) ⌝ }
-    ensures { λ _. ⌜ now (table .exit) ≡ costTable (now (bins .entry)) scale «window_end» peak (errorOf error) (genomeOf genome) (now (theta .entry)) (now (table .entry)) ⌝ }
+    ensures { λ r.
+        ⌜ r
+        ≡ sayNumber (costOf (now (bins .entry)) scale «window_end» peak (errorOf error) (genomeOf genome)
+        (now (theta .entry)) (length (now (table .entry)))) ⌝ }
+    ensures { λ _.
+        ⌜ now (table .exit)
+        ≡ costTable (now (bins .entry)) scale «window_end» peak (errorOf error) (genomeOf genome) (now (theta .entry))
+        (now (table .entry)) ⌝ }
 {
     let tail = error_of(error);
     let lobes = genome_of(genome);
@@ -76,8 +82,14 @@ pub extern "C" fn fog_cost_prepared(
     ready: &[f64],
     table: &mut [f64],
 ) -> FlatNumber
-    ensures { λ r. ⌜ r ≡ sayNumber (preparedCostOf (now (bins .entry)) scale «window_end» peak (errorOf error) (genomeOf genome) (now (theta .entry)) (now (ready .entry)) (length (now (table .entry)))) ⌝ }
-    ensures { λ _. ⌜ now (table .exit) ≡ preparedCostTable (now (bins .entry)) scale «window_end» peak (errorOf error) (genomeOf genome) (now (theta .entry)) (now (ready .entry)) (now (table .entry)) ⌝ }
+    ensures { λ r.
+        ⌜ r
+        ≡ sayNumber (preparedCostOf (now (bins .entry)) scale «window_end» peak (errorOf error) (genomeOf genome)
+        (now (theta .entry)) (now (ready .entry)) (length (now (table .entry)))) ⌝ }
+    ensures { λ _.
+        ⌜ now (table .exit)
+        ≡ preparedCostTable (now (bins .entry)) scale «window_end» peak (errorOf error) (genomeOf genome)
+        (now (theta .entry)) (now (ready .entry)) (now (table .entry)) ⌝ }
 {
     let tail = error_of(error);
     let lobes = genome_of(genome);
@@ -107,8 +119,14 @@ pub extern "C" fn fog_unpack(
     iterations: u64,
     table: &mut [f64],
 ) -> FlatFitAnswer
-    ensures { λ r. ⌜ r ≡ ofFitAnswer (fitAnswerOf (unpackOf (now (bins .entry)) scale «window_end» peak (errorOf error) (genomeOf genome) (now (theta .entry)) cost iterations (length (now (table .entry))))) ⌝ }
-    ensures { λ _. ⌜ now (table .exit) ≡ unpackTable (now (bins .entry)) scale «window_end» peak (errorOf error) (genomeOf genome) (now (theta .entry)) cost iterations (now (table .entry)) ⌝ }
+    ensures { λ r.
+        ⌜ r
+        ≡ ofFitAnswer (fitAnswerOf (unpackOf (now (bins .entry)) scale «window_end» peak (errorOf error)
+        (genomeOf genome) (now (theta .entry)) cost iterations (length (now (table .entry))))) ⌝ }
+    ensures { λ _.
+        ⌜ now (table .exit)
+        ≡ unpackTable (now (bins .entry)) scale «window_end» peak (errorOf error) (genomeOf genome)
+        (now (theta .entry)) cost iterations (now (table .entry)) ⌝ }
 {
     let tail = error_of(error);
     let lobes = genome_of(genome);

@@ -46,7 +46,9 @@ pub fn flat_file(answer: FileRead) -> FlatFile
 #[no_mangle]
 pub extern "C" fn fog_read_histogram(file: &[u8], bins: &mut [u32]) -> FlatFile
     ensures { λ r. ⌜ r ≡ sayFile (counted (readHistogramOf (now (file .entry)) (length (now (bins .entry))))) ⌝ }
-    ensures { λ _. ⌜ now (bins .exit) ≡ laid (readHistogramOf (now (file .entry)) (length (now (bins .entry)))) (now (bins .entry)) ⌝ }
+    ensures { λ _.
+        ⌜ now (bins .exit)
+        ≡ laid (readHistogramOf (now (file .entry)) (length (now (bins .entry)))) (now (bins .entry)) ⌝ }
 {
     flat_file(read_histogram(file, bins))
 }
@@ -54,7 +56,9 @@ pub extern "C" fn fog_read_histogram(file: &[u8], bins: &mut [u32]) -> FlatFile
 #[no_mangle]
 pub extern "C" fn fog_write_histogram(bins: &[u32], file: &mut [u8]) -> FlatWritten
     ensures { λ r. ⌜ r ≡ sayWritten (counted (writeHistogramOf (now (bins .entry)) (length (now (file .entry))))) ⌝ }
-    ensures { λ _. ⌜ now (file .exit) ≡ laid (writeHistogramOf (now (bins .entry)) (length (now (file .entry)))) (now (file .entry)) ⌝ }
+    ensures { λ _.
+        ⌜ now (file .exit)
+        ≡ laid (writeHistogramOf (now (bins .entry)) (length (now (file .entry)))) (now (file .entry)) ⌝ }
 {
     flat_written(write_histogram(bins, file))
 }

@@ -106,7 +106,10 @@ pub extern "C" fn fog_select_fit(
     third: FlatAttempt,
     fourth: FlatAttempt,
 ) -> FlatSelected
-    ensures { λ r. ⌜ r ≡ ofSelected (selectOf (attemptOfFlat first ∷ attemptOfFlat second ∷ attemptOfFlat third ∷ attemptOfFlat fourth ∷ [])) ⌝ }
+    ensures { λ r.
+        ⌜ r
+        ≡ ofSelected
+        (selectOf (attemptOfFlat first ∷ attemptOfFlat second ∷ attemptOfFlat third ∷ attemptOfFlat fourth ∷ [])) ⌝ }
 {
     let one = attempt_of(first);
     let two = attempt_of(second);

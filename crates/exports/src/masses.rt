@@ -25,7 +25,8 @@ pub extern "C" fn fog_single_copy_log_mass(
     table: &[f64],
     top: usize,
 ) -> FlatNumber
-    ensures { λ r. ⌜ r ≡ sayNumber (singleCopyLogMassOf mean dispersion (partOf present shelf) (now (table .entry)) top) ⌝ }
+    ensures { λ r.
+        ⌜ r ≡ sayNumber (singleCopyLogMassOf mean dispersion (partOf present shelf) (now (table .entry)) top) ⌝ }
 {
     flat_number(single_copy_log_mass(mean, dispersion, part_of(present, shelf), table, top))
 }

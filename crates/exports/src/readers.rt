@@ -72,7 +72,8 @@ pub extern "C" fn fog_component_heights_to(
     out: &mut [f64],
 ) -> FlatWritten
     ensures { λ r. ⌜ r ≡ sayWritten (counted (heightsToOf (fitOf fit) last (length (now (out .entry))))) ⌝ }
-    ensures { λ _. ⌜ now (out .exit) ≡ laid (heightsToOf (fitOf fit) last (length (now (out .entry)))) (now (out .entry)) ⌝ }
+    ensures { λ _.
+        ⌜ now (out .exit) ≡ laid (heightsToOf (fitOf fit) last (length (now (out .entry)))) (now (out .entry)) ⌝ }
 {
     flat_written(component_heights_to(fit_of(fit), last, out))
 }

@@ -46,8 +46,13 @@ pub extern "C" fn fog_attempt_from(
     lists: &[f64],
     table: &mut [f64],
 ) -> FlatAttemptAnswer
-    ensures { λ r. ⌜ r ≡ sayAttempt (attemptAnswerOf (attemptFrom (now (bins .entry)) (setupFrom setup) (now (lists .entry)) (length (now (table .entry))) (runIn (now (runs .entry))) (length (now (runs .entry))))) ⌝ }
-    ensures { λ r. ⌜ drop (standsFrom (setupFrom setup) (r .number)) (now (table .exit)) ≡ drop (standsFrom (setupFrom setup) (r .number)) (now (table .entry)) ⌝ }
+    ensures { λ r.
+        ⌜ r
+        ≡ sayAttempt (attemptAnswerOf (attemptFrom (now (bins .entry)) (setupFrom setup) (now (lists .entry))
+        (length (now (table .entry))) (runIn (now (runs .entry))) (length (now (runs .entry))))) ⌝ }
+    ensures { λ r.
+        ⌜ drop (standsFrom (setupFrom setup) (r .number)) (now (table .exit))
+        ≡ drop (standsFrom (setupFrom setup) (r .number)) (now (table .entry)) ⌝ }
 {
     let numbers = setup_from(setup);
     let answer = attempt_from(bins, numbers, runs, lists, table);

@@ -111,8 +111,18 @@ pub extern "C" fn fog_attempt_from_numbers(
     lists: &[f64],
     table: &mut [f64],
 ) -> FlatAttemptAnswer
-    ensures { λ r. ⌜ r ≡ sayAttempt (attemptAnswerOf (attemptFrom (now (bins .entry)) (setupOf scale «window_end» valley peak error genome «mass_limit») (now (lists .entry)) (length (now (table .entry))) (runOf (now (converged .entry)) (now (costs .entry)) (now (places .entry)) (now (lengths .entry)) (now (iterations .entry)) (now (caps .entry))) (countOfRuns (now (converged .entry)) (now (costs .entry)) (now (places .entry)) (now (lengths .entry)) (now (iterations .entry)) (now (caps .entry))))) ⌝ }
-    ensures { λ r. ⌜ drop (standsFrom (setupOf scale «window_end» valley peak error genome «mass_limit») (r .number)) (now (table .exit)) ≡ drop (standsFrom (setupOf scale «window_end» valley peak error genome «mass_limit») (r .number)) (now (table .entry)) ⌝ }
+    ensures { λ r.
+        ⌜ r
+        ≡ sayAttempt (attemptAnswerOf (attemptFrom (now (bins .entry)) (setupOf scale «window_end» valley peak error
+        genome «mass_limit») (now (lists .entry)) (length (now (table .entry))) (runOf (now (converged .entry))
+        (now (costs .entry)) (now (places .entry)) (now (lengths .entry)) (now (iterations .entry))
+        (now (caps .entry))) (countOfRuns (now (converged .entry)) (now (costs .entry)) (now (places .entry))
+        (now (lengths .entry)) (now (iterations .entry)) (now (caps .entry))))) ⌝ }
+    ensures { λ r.
+        ⌜ drop (standsFrom (setupOf scale «window_end» valley peak error genome «mass_limit») (r .number))
+        (now (table .exit))
+        ≡ drop (standsFrom (setupOf scale «window_end» valley peak error genome «mass_limit») (r .number))
+        (now (table .entry)) ⌝ }
 {
     let setup = setup_of(scale, window_end, valley, peak, error, genome, mass_limit);
     let answer = attempt_from_numbers(

@@ -6,11 +6,13 @@ ghost use Rattle.meaning.specs.Flags.{byteOf};
 ghost use Rattle.meaning.specs.Lent.{onGive};
 ghost use Rattle.meaning.specs.Over.{over};
 ghost use Rattle.models.specs.Families.{listLengthOf};
-ghost use Rattle.search.specs.Beginning.{simplexesBegun, iterationsBegun, stoppedBegun, beginSearchesOf, sizeOf, runsIn};
+ghost use Rattle.search.specs.Beginning.{simplexesBegun, iterationsBegun, stoppedBegun, beginSearchesOf, sizeOf};
+ghost use Rattle.search.specs.Beginning.{runsIn};
 ghost use Rattle.search.specs.Lists.{listOf};
 ghost use Rattle.search.specs.Prices.{priceOf, capOf, widthOf};
 ghost use Rattle.search.specs.Reporting.{reportedAt, columnsOf, reportOf};
-ghost use Rattle.search.specs.Searches.{simplexesAfter, iterationsAfter, stoppedAfter, lentOf, runSearchesOf, stoodFrom, readyAfter};
+ghost use Rattle.search.specs.Searches.{simplexesAfter, iterationsAfter, stoppedAfter, lentOf, runSearchesOf};
+ghost use Rattle.search.specs.Searches.{stoodFrom, readyAfter};
 ghost use Rattle.exports.specs.Flat.{sayWritten};
 ghost use Rattle.models.specs.Parts.{errorOf, genomeOf};
 ghost use Rattle.exports.specs.FlatSearches.{problemOf};
@@ -46,12 +48,49 @@ pub extern "C" fn fog_begin_searches(
     ready: &mut [f64],
     table: &mut [f64],
 ) -> FlatWritten
-    ensures { λ r. ⌜ r ≡ sayWritten (beginSearchesOf (now (bins .entry)) (problemOf scale «window_end» peak error genome) (now (starts .entry)) (lentOf (now (simplexes .entry)) (now (iterations .entry)) (now (stopped .entry)) (now (ready .entry)) (now (table .entry)))) ⌝ }
-    ensures { λ _. ⌜ now (simplexes .exit) ≡ onGive (beginSearchesOf (now (bins .entry)) (problemOf scale «window_end» peak error genome) (now (starts .entry)) (lentOf (now (simplexes .entry)) (now (iterations .entry)) (now (stopped .entry)) (now (ready .entry)) (now (table .entry)))) (simplexesBegun (priceOf (now (bins .entry)) (problemOf scale «window_end» peak error genome) (length (now (table .entry)))) (sizeOf (problemOf scale «window_end» peak error genome)) (now (starts .entry)) (runsIn (problemOf scale «window_end» peak error genome) (now (starts .entry))) (now (simplexes .entry))) (now (simplexes .entry)) ⌝ }
-    ensures { λ _. ⌜ now (iterations .exit) ≡ onGive (beginSearchesOf (now (bins .entry)) (problemOf scale «window_end» peak error genome) (now (starts .entry)) (lentOf (now (simplexes .entry)) (now (iterations .entry)) (now (stopped .entry)) (now (ready .entry)) (now (table .entry)))) (iterationsBegun (runsIn (problemOf scale «window_end» peak error genome) (now (starts .entry))) (now (iterations .entry))) (now (iterations .entry)) ⌝ }
-    ensures { λ _. ⌜ now (stopped .exit) ≡ onGive (beginSearchesOf (now (bins .entry)) (problemOf scale «window_end» peak error genome) (now (starts .entry)) (lentOf (now (simplexes .entry)) (now (iterations .entry)) (now (stopped .entry)) (now (ready .entry)) (now (table .entry)))) (stoppedBegun (runsIn (problemOf scale «window_end» peak error genome) (now (starts .entry))) (now (stopped .entry))) (now (stopped .entry)) ⌝ }
-    ensures { λ _. ⌜ now (ready .exit) ≡ readyAfter (problemOf scale «window_end» peak error genome) (beginSearchesOf (now (bins .entry)) (problemOf scale «window_end» peak error genome) (now (starts .entry)) (lentOf (now (simplexes .entry)) (now (iterations .entry)) (now (stopped .entry)) (now (ready .entry)) (now (table .entry)))) (now (ready .entry)) ⌝ }
-    ensures { λ _. ⌜ drop (stoodFrom (problemOf scale «window_end» peak error genome) (beginSearchesOf (now (bins .entry)) (problemOf scale «window_end» peak error genome) (now (starts .entry)) (lentOf (now (simplexes .entry)) (now (iterations .entry)) (now (stopped .entry)) (now (ready .entry)) (now (table .entry))))) (now (table .exit)) ≡ drop (stoodFrom (problemOf scale «window_end» peak error genome) (beginSearchesOf (now (bins .entry)) (problemOf scale «window_end» peak error genome) (now (starts .entry)) (lentOf (now (simplexes .entry)) (now (iterations .entry)) (now (stopped .entry)) (now (ready .entry)) (now (table .entry))))) (now (table .entry)) ⌝ }
+    ensures { λ r.
+        ⌜ r
+        ≡ sayWritten (beginSearchesOf (now (bins .entry)) (problemOf scale «window_end» peak error genome) (now
+        (starts .entry)) (lentOf (now (simplexes .entry)) (now (iterations .entry)) (now (stopped .entry))
+        (now (ready .entry)) (now (table .entry)))) ⌝ }
+    ensures { λ _.
+        ⌜ now (simplexes .exit)
+        ≡ onGive (beginSearchesOf (now (bins .entry)) (problemOf scale «window_end» peak error genome) (now
+        (starts .entry)) (lentOf (now (simplexes .entry)) (now (iterations .entry)) (now (stopped .entry))
+        (now (ready .entry)) (now (table .entry)))) (simplexesBegun (priceOf (now (bins .entry))
+        (problemOf scale «window_end» peak error genome) (length (now (table .entry)))) (sizeOf
+        (problemOf scale «window_end» peak error genome)) (now (starts .entry)) (runsIn
+        (problemOf scale «window_end» peak error genome) (now (starts .entry))) (now (simplexes .entry))) (now
+        (simplexes .entry)) ⌝ }
+    ensures { λ _.
+        ⌜ now (iterations .exit)
+        ≡ onGive (beginSearchesOf (now (bins .entry)) (problemOf scale «window_end» peak error genome) (now
+        (starts .entry)) (lentOf (now (simplexes .entry)) (now (iterations .entry)) (now (stopped .entry))
+        (now (ready .entry)) (now (table .entry)))) (iterationsBegun (runsIn
+        (problemOf scale «window_end» peak error genome) (now (starts .entry))) (now (iterations .entry))) (now
+        (iterations .entry)) ⌝ }
+    ensures { λ _.
+        ⌜ now (stopped .exit)
+        ≡ onGive (beginSearchesOf (now (bins .entry)) (problemOf scale «window_end» peak error genome) (now
+        (starts .entry)) (lentOf (now (simplexes .entry)) (now (iterations .entry)) (now (stopped .entry))
+        (now (ready .entry)) (now (table .entry)))) (stoppedBegun (runsIn
+        (problemOf scale «window_end» peak error genome) (now (starts .entry))) (now (stopped .entry))) (now (stopped
+        .entry)) ⌝ }
+    ensures { λ _.
+        ⌜ now (ready .exit)
+        ≡ readyAfter (problemOf scale «window_end» peak error genome) (beginSearchesOf (now (bins .entry)) (problemOf
+        scale «window_end» peak error genome) (now (starts .entry)) (lentOf (now (simplexes .entry))
+        (now (iterations .entry)) (now (stopped .entry)) (now (ready .entry)) (now (table .entry)))) (now (ready
+        .entry)) ⌝ }
+    ensures { λ _.
+        ⌜ drop (stoodFrom (problemOf scale «window_end» peak error genome) (beginSearchesOf (now (bins .entry))
+        (problemOf scale «window_end» peak error genome) (now (starts .entry)) (lentOf (now (simplexes .entry))
+        (now (iterations .entry)) (now (stopped .entry)) (now (ready .entry)) (now (table .entry))))) (now (table
+        .exit))
+        ≡ drop (stoodFrom (problemOf scale «window_end» peak error genome) (beginSearchesOf (now (bins .entry))
+        (problemOf scale «window_end» peak error genome) (now (starts .entry)) (lentOf (now (simplexes .entry))
+        (now (iterations .entry)) (now (stopped .entry)) (now (ready .entry)) (now (table .entry))))) (now (table
+        .entry)) ⌝ }
 {
     let problem = problem_of(scale, window_end, peak, error, genome);
     let answer = begin_searches(
@@ -83,12 +122,49 @@ pub extern "C" fn fog_run_searches(
     ready: &mut [f64],
     table: &mut [f64],
 ) -> FlatWritten
-    ensures { λ r. ⌜ r ≡ sayWritten (runSearchesOf (now (bins .entry)) (problemOf scale «window_end» peak error genome) runs (lentOf (now (simplexes .entry)) (now (iterations .entry)) (now (stopped .entry)) (now (ready .entry)) (now (table .entry)))) ⌝ }
-    ensures { λ _. ⌜ now (simplexes .exit) ≡ onGive (runSearchesOf (now (bins .entry)) (problemOf scale «window_end» peak error genome) runs (lentOf (now (simplexes .entry)) (now (iterations .entry)) (now (stopped .entry)) (now (ready .entry)) (now (table .entry)))) (simplexesAfter (widthOf (problemOf scale «window_end» peak error genome)) (now (simplexes .entry)) (now (iterations .entry)) (now (stopped .entry)) runs (priceOf (now (bins .entry)) (problemOf scale «window_end» peak error genome) (length (now (table .entry)))) (capOf (genomeOf genome)) limit) (now (simplexes .entry)) ⌝ }
-    ensures { λ _. ⌜ now (iterations .exit) ≡ onGive (runSearchesOf (now (bins .entry)) (problemOf scale «window_end» peak error genome) runs (lentOf (now (simplexes .entry)) (now (iterations .entry)) (now (stopped .entry)) (now (ready .entry)) (now (table .entry)))) (iterationsAfter (widthOf (problemOf scale «window_end» peak error genome)) (now (simplexes .entry)) (now (iterations .entry)) (now (stopped .entry)) runs (priceOf (now (bins .entry)) (problemOf scale «window_end» peak error genome) (length (now (table .entry)))) (capOf (genomeOf genome)) limit) (now (iterations .entry)) ⌝ }
-    ensures { λ _. ⌜ now (stopped .exit) ≡ onGive (runSearchesOf (now (bins .entry)) (problemOf scale «window_end» peak error genome) runs (lentOf (now (simplexes .entry)) (now (iterations .entry)) (now (stopped .entry)) (now (ready .entry)) (now (table .entry)))) (stoppedAfter (widthOf (problemOf scale «window_end» peak error genome)) (now (simplexes .entry)) (now (iterations .entry)) (now (stopped .entry)) runs (priceOf (now (bins .entry)) (problemOf scale «window_end» peak error genome) (length (now (table .entry)))) (capOf (genomeOf genome)) limit) (now (stopped .entry)) ⌝ }
-    ensures { λ _. ⌜ now (ready .exit) ≡ readyAfter (problemOf scale «window_end» peak error genome) (runSearchesOf (now (bins .entry)) (problemOf scale «window_end» peak error genome) runs (lentOf (now (simplexes .entry)) (now (iterations .entry)) (now (stopped .entry)) (now (ready .entry)) (now (table .entry)))) (now (ready .entry)) ⌝ }
-    ensures { λ _. ⌜ drop (stoodFrom (problemOf scale «window_end» peak error genome) (runSearchesOf (now (bins .entry)) (problemOf scale «window_end» peak error genome) runs (lentOf (now (simplexes .entry)) (now (iterations .entry)) (now (stopped .entry)) (now (ready .entry)) (now (table .entry))))) (now (table .exit)) ≡ drop (stoodFrom (problemOf scale «window_end» peak error genome) (runSearchesOf (now (bins .entry)) (problemOf scale «window_end» peak error genome) runs (lentOf (now (simplexes .entry)) (now (iterations .entry)) (now (stopped .entry)) (now (ready .entry)) (now (table .entry))))) (now (table .entry)) ⌝ }
+    ensures { λ r.
+        ⌜ r
+        ≡ sayWritten (runSearchesOf (now (bins .entry)) (problemOf scale «window_end» peak error genome) runs (lentOf
+        (now (simplexes .entry)) (now (iterations .entry)) (now (stopped .entry)) (now (ready .entry))
+        (now (table .entry)))) ⌝ }
+    ensures { λ _.
+        ⌜ now (simplexes .exit)
+        ≡ onGive (runSearchesOf (now (bins .entry)) (problemOf scale «window_end» peak error genome) runs (lentOf
+        (now (simplexes .entry)) (now (iterations .entry)) (now (stopped .entry)) (now (ready .entry))
+        (now (table .entry)))) (simplexesAfter (widthOf (problemOf scale «window_end» peak error genome)) (now
+        (simplexes .entry)) (now (iterations .entry)) (now (stopped .entry)) runs (priceOf (now (bins .entry))
+        (problemOf scale «window_end» peak error genome) (length (now (table .entry)))) (capOf (genomeOf genome))
+        limit) (now (simplexes .entry)) ⌝ }
+    ensures { λ _.
+        ⌜ now (iterations .exit)
+        ≡ onGive (runSearchesOf (now (bins .entry)) (problemOf scale «window_end» peak error genome) runs (lentOf
+        (now (simplexes .entry)) (now (iterations .entry)) (now (stopped .entry)) (now (ready .entry))
+        (now (table .entry)))) (iterationsAfter (widthOf (problemOf scale «window_end» peak error genome)) (now
+        (simplexes .entry)) (now (iterations .entry)) (now (stopped .entry)) runs (priceOf (now (bins .entry))
+        (problemOf scale «window_end» peak error genome) (length (now (table .entry)))) (capOf (genomeOf genome))
+        limit) (now (iterations .entry)) ⌝ }
+    ensures { λ _.
+        ⌜ now (stopped .exit)
+        ≡ onGive (runSearchesOf (now (bins .entry)) (problemOf scale «window_end» peak error genome) runs (lentOf
+        (now (simplexes .entry)) (now (iterations .entry)) (now (stopped .entry)) (now (ready .entry))
+        (now (table .entry)))) (stoppedAfter (widthOf (problemOf scale «window_end» peak error genome)) (now
+        (simplexes .entry)) (now (iterations .entry)) (now (stopped .entry)) runs (priceOf (now (bins .entry))
+        (problemOf scale «window_end» peak error genome) (length (now (table .entry)))) (capOf (genomeOf genome))
+        limit) (now (stopped .entry)) ⌝ }
+    ensures { λ _.
+        ⌜ now (ready .exit)
+        ≡ readyAfter (problemOf scale «window_end» peak error genome) (runSearchesOf (now (bins .entry)) (problemOf
+        scale «window_end» peak error genome) runs (lentOf (now (simplexes .entry)) (now (iterations .entry))
+        (now (stopped .entry)) (now (ready .entry)) (now (table .entry)))) (now (ready .entry)) ⌝ }
+    ensures { λ _.
+        ⌜ drop (stoodFrom (problemOf scale «window_end» peak error genome) (runSearchesOf (now (bins .entry))
+        (problemOf scale «window_end» peak error genome) runs (lentOf (now (simplexes .entry))
+        (now (iterations .entry)) (now (stopped .entry)) (now (ready .entry)) (now (table .entry))))) (now (table
+        .exit))
+        ≡ drop (stoodFrom (problemOf scale «window_end» peak error genome) (runSearchesOf (now (bins .entry))
+        (problemOf scale «window_end» peak error genome) runs (lentOf (now (simplexes .entry))
+        (now (iterations .entry)) (now (stopped .entry)) (now (ready .entry)) (now (table .entry))))) (now (table
+        .entry)) ⌝ }
 {
     let problem = problem_of(scale, window_end, peak, error, genome);
     let answer = run_searches(
@@ -119,12 +195,46 @@ pub extern "C" fn fog_report_searches(
     lengths: &mut [usize],
     caps: &mut [u8],
 ) -> FlatWritten
-    ensures { λ r. ⌜ r ≡ sayWritten (reportOf (errorOf error) (genomeOf genome) runs (columnsOf (now (simplexes .entry)) (now (iterations .entry)) (now (stopped .entry)) (now (converged .entry)) (now (costs .entry)) (now (places .entry)) (now (lengths .entry)) (now (caps .entry)))) ⌝ }
-    ensures { λ _. ⌜ now (converged .exit) ≡ onGive (reportOf (errorOf error) (genomeOf genome) runs (columnsOf (now (simplexes .entry)) (now (iterations .entry)) (now (stopped .entry)) (now (converged .entry)) (now (costs .entry)) (now (places .entry)) (now (lengths .entry)) (now (caps .entry)))) (over (listOf (λ (i : ℕ). byteOf (reportedAt (errorOf error) (genomeOf genome) runs (now (simplexes .entry)) (now (iterations .entry)) (now (stopped .entry)) i .converged)) runs) (now (converged .entry))) (now (converged .entry)) ⌝ }
-    ensures { λ _. ⌜ now (costs .exit) ≡ onGive (reportOf (errorOf error) (genomeOf genome) runs (columnsOf (now (simplexes .entry)) (now (iterations .entry)) (now (stopped .entry)) (now (converged .entry)) (now (costs .entry)) (now (places .entry)) (now (lengths .entry)) (now (caps .entry)))) (over (listOf (λ (i : ℕ). reportedAt (errorOf error) (genomeOf genome) runs (now (simplexes .entry)) (now (iterations .entry)) (now (stopped .entry)) i .cost) runs) (now (costs .entry))) (now (costs .entry)) ⌝ }
-    ensures { λ _. ⌜ now (places .exit) ≡ onGive (reportOf (errorOf error) (genomeOf genome) runs (columnsOf (now (simplexes .entry)) (now (iterations .entry)) (now (stopped .entry)) (now (converged .entry)) (now (costs .entry)) (now (places .entry)) (now (lengths .entry)) (now (caps .entry)))) (over (listOf (λ (i : ℕ). reportedAt (errorOf error) (genomeOf genome) runs (now (simplexes .entry)) (now (iterations .entry)) (now (stopped .entry)) i .place) runs) (now (places .entry))) (now (places .entry)) ⌝ }
-    ensures { λ _. ⌜ now (lengths .exit) ≡ onGive (reportOf (errorOf error) (genomeOf genome) runs (columnsOf (now (simplexes .entry)) (now (iterations .entry)) (now (stopped .entry)) (now (converged .entry)) (now (costs .entry)) (now (places .entry)) (now (lengths .entry)) (now (caps .entry)))) (over (listOf (λ (i : ℕ). listLengthOf (errorOf error) (genomeOf genome)) runs) (now (lengths .entry))) (now (lengths .entry)) ⌝ }
-    ensures { λ _. ⌜ now (caps .exit) ≡ onGive (reportOf (errorOf error) (genomeOf genome) runs (columnsOf (now (simplexes .entry)) (now (iterations .entry)) (now (stopped .entry)) (now (converged .entry)) (now (costs .entry)) (now (places .entry)) (now (lengths .entry)) (now (caps .entry)))) (over (listOf (λ (i : ℕ). byteOf (reportedAt (errorOf error) (genomeOf genome) runs (now (simplexes .entry)) (now (iterations .entry)) (now (stopped .entry)) i .«hit_cap»)) runs) (now (caps .entry))) (now (caps .entry)) ⌝ }
+    ensures { λ r.
+        ⌜ r
+        ≡ sayWritten (reportOf (errorOf error) (genomeOf genome) runs (columnsOf (now (simplexes .entry))
+        (now (iterations .entry)) (now (stopped .entry)) (now (converged .entry)) (now (costs .entry))
+        (now (places .entry)) (now (lengths .entry)) (now (caps .entry)))) ⌝ }
+    ensures { λ _.
+        ⌜ now (converged .exit)
+        ≡ onGive (reportOf (errorOf error) (genomeOf genome) runs (columnsOf (now (simplexes .entry)) (now (iterations
+        .entry)) (now (stopped .entry)) (now (converged .entry)) (now (costs .entry)) (now (places .entry)) (now
+        (lengths .entry)) (now (caps .entry)))) (over (listOf (λ (i : ℕ). byteOf (reportedAt (errorOf error)
+        (genomeOf genome) runs (now (simplexes .entry)) (now (iterations .entry)) (now (stopped .entry)) i
+        .converged)) runs) (now (converged .entry))) (now (converged .entry)) ⌝ }
+    ensures { λ _.
+        ⌜ now (costs .exit)
+        ≡ onGive (reportOf (errorOf error) (genomeOf genome) runs (columnsOf (now (simplexes .entry)) (now
+        (iterations .entry)) (now (stopped .entry)) (now (converged .entry)) (now (costs .entry)) (now
+        (places .entry)) (now (lengths .entry)) (now (caps .entry)))) (over (listOf (λ (i : ℕ). reportedAt
+        (errorOf error) (genomeOf genome) runs (now (simplexes .entry)) (now (iterations .entry))
+        (now (stopped .entry)) i .cost) runs) (now (costs .entry))) (now (costs .entry)) ⌝ }
+    ensures { λ _.
+        ⌜ now (places .exit)
+        ≡ onGive (reportOf (errorOf error) (genomeOf genome) runs (columnsOf (now (simplexes .entry)) (now
+        (iterations .entry)) (now (stopped .entry)) (now (converged .entry)) (now (costs .entry)) (now
+        (places .entry)) (now (lengths .entry)) (now (caps .entry)))) (over (listOf (λ (i : ℕ). reportedAt
+        (errorOf error) (genomeOf genome) runs (now (simplexes .entry)) (now (iterations .entry))
+        (now (stopped .entry)) i .place) runs) (now (places .entry))) (now (places .entry)) ⌝ }
+    ensures { λ _.
+        ⌜ now (lengths .exit)
+        ≡ onGive (reportOf (errorOf error) (genomeOf genome) runs (columnsOf (now (simplexes .entry))
+        (now (iterations .entry)) (now (stopped .entry)) (now (converged .entry)) (now (costs .entry))
+        (now (places .entry)) (now (lengths .entry)) (now (caps .entry)))) (over (listOf
+        (λ (i : ℕ). listLengthOf (errorOf error) (genomeOf genome)) runs) (now (lengths .entry))) (now (lengths
+        .entry)) ⌝ }
+    ensures { λ _.
+        ⌜ now (caps .exit)
+        ≡ onGive (reportOf (errorOf error) (genomeOf genome) runs (columnsOf (now (simplexes .entry)) (now (iterations
+        .entry)) (now (stopped .entry)) (now (converged .entry)) (now (costs .entry)) (now (places .entry)) (now
+        (lengths .entry)) (now (caps .entry)))) (over (listOf (λ (i : ℕ). byteOf (reportedAt (errorOf error)
+        (genomeOf genome) runs (now (simplexes .entry)) (now (iterations .entry)) (now (stopped .entry)) i
+        .«hit_cap»)) runs) (now (caps .entry))) (now (caps .entry)) ⌝ }
 {
     let tail = error_of(error);
     let lobes = genome_of(genome);

@@ -15,7 +15,9 @@ use fitter::shares::empirical_shelf_share;
 #[no_mangle]
 pub extern "C" fn fog_recover_bins(bins: &[u32], scale: f64, out: &mut [u32]) -> FlatWritten
     ensures { λ r. ⌜ r ≡ sayWritten (counted (recoverBinsOf (now (bins .entry)) scale (length (now (out .entry))))) ⌝ }
-    ensures { λ _. ⌜ now (out .exit) ≡ laid (recoverBinsOf (now (bins .entry)) scale (length (now (out .entry)))) (now (out .entry)) ⌝ }
+    ensures { λ _.
+        ⌜ now (out .exit)
+        ≡ laid (recoverBinsOf (now (bins .entry)) scale (length (now (out .entry)))) (now (out .entry)) ⌝ }
 {
     flat_written(recover_bins(bins, scale, out))
 }

@@ -34,8 +34,14 @@ pub extern "C" fn fog_fit_starts(
     shapes: &[f64],
     out: &mut [f64],
 ) -> FlatWritten
-    ensures { λ r. ⌜ r ≡ sayWritten (counted (startsOf (errorOf error) (genomeOf genome) paretoStarts weibullStarts (now (seeds .entry)) hint share (now (shapes .entry)) (length (now (out .entry))))) ⌝ }
-    ensures { λ _. ⌜ now (out .exit) ≡ laid (startsOf (errorOf error) (genomeOf genome) paretoStarts weibullStarts (now (seeds .entry)) hint share (now (shapes .entry)) (length (now (out .entry)))) (now (out .entry)) ⌝ }
+    ensures { λ r.
+        ⌜ r
+        ≡ sayWritten (counted (startsOf (errorOf error) (genomeOf genome) paretoStarts weibullStarts
+        (now (seeds .entry)) hint share (now (shapes .entry)) (length (now (out .entry))))) ⌝ }
+    ensures { λ _.
+        ⌜ now (out .exit)
+        ≡ laid (startsOf (errorOf error) (genomeOf genome) paretoStarts weibullStarts (now (seeds .entry)) hint share
+        (now (shapes .entry)) (length (now (out .entry)))) (now (out .entry)) ⌝ }
 {
     let tail = error_of(error);
     let lobes = genome_of(genome);
@@ -54,8 +60,14 @@ pub extern "C" fn fog_fit_starts_lent<'a>(
     shapes: &[f64],
     out: &mut [f64],
 ) -> FlatWritten
-    ensures { λ r. ⌜ r ≡ sayWritten (counted (startsOf (errorOf error) (genomeOf genome) (now (pareto .entry)) (now (weibull .entry)) (now (seeds .entry)) hint share (now (shapes .entry)) (length (now (out .entry))))) ⌝ }
-    ensures { λ _. ⌜ now (out .exit) ≡ laid (startsOf (errorOf error) (genomeOf genome) (now (pareto .entry)) (now (weibull .entry)) (now (seeds .entry)) hint share (now (shapes .entry)) (length (now (out .entry)))) (now (out .entry)) ⌝ }
+    ensures { λ r.
+        ⌜ r
+        ≡ sayWritten (counted (startsOf (errorOf error) (genomeOf genome) (now (pareto .entry)) (now (weibull .entry))
+        (now (seeds .entry)) hint share (now (shapes .entry)) (length (now (out .entry))))) ⌝ }
+    ensures { λ _.
+        ⌜ now (out .exit)
+        ≡ laid (startsOf (errorOf error) (genomeOf genome) (now (pareto .entry)) (now (weibull .entry))
+        (now (seeds .entry)) hint share (now (shapes .entry)) (length (now (out .entry)))) (now (out .entry)) ⌝ }
 {
     let tail = error_of(error);
     let lobes = genome_of(genome);

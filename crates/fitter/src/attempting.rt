@@ -15,9 +15,9 @@ use crate::settling::with_held;
 use models::families::list_length;
 use models::problems::Problem;
 
-// The attempt over as many runs as the shortest slice has; 1, 2, 4, 5, 6, 7, 9 or 10 instead. 7 is a converged run's list
-// that has the wrong length or does not lie in `lists`; 9 its cost, or the mass limit. A refusal leaves the shelf's table as
-// it is, and so does a plain family; else it is written up to the window end.
+// The attempt over as many runs as the shortest slice has; 1, 2, 4, 5, 6, 7, 9 or 10 instead. 7 is a converged run's
+// list that has the wrong length or does not lie in `lists`; 9 its cost, or the mass limit. A refusal leaves the
+// shelf's table as it is, and so does a plain family; else it is written up to the window end.
 pub fn attempt_from_numbers(
     bins: &[u32],
     setup: Problem,
@@ -30,8 +30,15 @@ pub fn attempt_from_numbers(
     lists: &[f64],
     table: &mut [f64],
 ) -> AttemptAnswer
-    ensures { λ r. ⌜ r ≡ attemptAnswerOf (attemptFrom (now (bins .entry)) setup (now (lists .entry)) (length (now (table .entry))) (runOf (now (converged .entry)) (now (costs .entry)) (now (places .entry)) (now (lengths .entry)) (now (iterations .entry)) (now (caps .entry))) (countOfRuns (now (converged .entry)) (now (costs .entry)) (now (places .entry)) (now (lengths .entry)) (now (iterations .entry)) (now (caps .entry)))) ⌝ }
-    ensures { λ r. ⌜ drop (standsFrom setup (r .number)) (now (table .exit)) ≡ drop (standsFrom setup (r .number)) (now (table .entry)) ⌝ }
+    ensures { λ r.
+        ⌜ r
+        ≡ attemptAnswerOf (attemptFrom (now (bins .entry)) setup (now (lists .entry)) (length (now (table .entry)))
+        (runOf (now (converged .entry)) (now (costs .entry)) (now (places .entry)) (now (lengths .entry))
+        (now (iterations .entry)) (now (caps .entry))) (countOfRuns (now (converged .entry)) (now (costs .entry))
+        (now (places .entry)) (now (lengths .entry)) (now (iterations .entry)) (now (caps .entry)))) ⌝ }
+    ensures { λ r.
+        ⌜ drop (standsFrom setup (r .number)) (now (table .exit))
+        ≡ drop (standsFrom setup (r .number)) (now (table .entry)) ⌝ }
 {
     let n = run_count(converged, costs, places, lengths, iterations, caps);
     let error = setup.error;

@@ -59,7 +59,8 @@ pub(crate) fn judge_run(
     lists: &[f64],
     table: &mut [f64],
 ) -> JudgedFit
-    ensures { λ r. ⌜ r ≡ judgedFitOf (now (bins .entry)) setup (now (lists .entry)) (length (now (table .entry))) run ⌝ }
+    ensures { λ r.
+        ⌜ r ≡ judgedFitOf (now (bins .entry)) setup (now (lists .entry)) (length (now (table .entry))) run ⌝ }
     ensures { λ _. ⌜ drop (tableFrom setup) (now (table .exit)) ≡ drop (tableFrom setup) (now (table .entry)) ⌝ }
 {
     let error = setup.error;
@@ -110,7 +111,9 @@ pub(crate) fn retry_run(
     lists: &[f64],
     table: &mut [f64],
 ) -> Held
-    ensures { λ r. ⌜ r ≡ retryStep (now (bins .entry)) setup (now (lists .entry)) (length (now (table .entry))) position run held ⌝ }
+    ensures { λ r.
+        ⌜ r
+        ≡ retryStep (now (bins .entry)) setup (now (lists .entry)) (length (now (table .entry))) position run held ⌝ }
     ensures { λ _. ⌜ drop (tableFrom setup) (now (table .exit)) ≡ drop (tableFrom setup) (now (table .entry)) ⌝ }
 {
     let point = run_point(run);

@@ -1,5 +1,6 @@
 // The bins as the sample had them, into lent memory.
-// Ported from src/preprocessing/spectrum_fitter.rs of bacpop/sparrowhawk-asm, f1f8af1232, Apache-2.0; ported and changed.
+// Ported from src/preprocessing/spectrum_fitter.rs of bacpop/sparrowhawk-asm, f1f8af1232, Apache-2.0; ported and
+// changed.
 ghost use mathlib.Core.Path.{_≡_};
 ghost use Prim.Native.Nat.{_≤_};
 ghost use lib.ListN.{length};
@@ -27,11 +28,14 @@ fn write_bins(bins: &[u32], used: f64, out: &mut [u32])
     }
 }
 
-// The recovered bins into the first of the lent ones, and how many they are; 1 for fewer than 2 bins, 2 for more than 65,535,
-// 10 where the lent ones are too few. A refusal writes nothing, and what lies past the last bin stands as found.
+// The recovered bins into the first of the lent ones, and how many they are; 1 for fewer than 2 bins, 2 for more than
+// 65,535, 10 where the lent ones are too few. A refusal writes nothing, and what lies past the last bin stands as
+// found.
 pub fn recover_bins(bins: &[u32], scale: f64, out: &mut [u32]) -> Written
     ensures { λ r. ⌜ writtenSays r ≡ counted (recoverBinsOf (now (bins .entry)) scale (length (now (out .entry)))) ⌝ }
-    ensures { λ _. ⌜ now (out .exit) ≡ laid (recoverBinsOf (now (bins .entry)) scale (length (now (out .entry)))) (now (out .entry)) ⌝ }
+    ensures { λ _.
+        ⌜ now (out .exit)
+        ≡ laid (recoverBinsOf (now (bins .entry)) scale (length (now (out .entry)))) (now (out .entry)) ⌝ }
 {
     if bins.len() < 2 {
         return Written::Refused(TOO_SMALL);

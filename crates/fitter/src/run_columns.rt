@@ -37,7 +37,10 @@ pub(crate) fn run_count(
     iterations: &[u64],
     caps: &[u8],
 ) -> usize
-    ensures { λ r. ⌜ r ≡ countOfRuns (now (converged .entry)) (now (costs .entry)) (now (places .entry)) (now (lengths .entry)) (now (iterations .entry)) (now (caps .entry)) ⌝ }
+    ensures { λ r.
+        ⌜ r
+        ≡ countOfRuns (now (converged .entry)) (now (costs .entry)) (now (places .entry)) (now (lengths .entry))
+        (now (iterations .entry)) (now (caps .entry)) ⌝ }
 {
     let two = shorter_of(converged.len(), costs.len());
     let four = shorter_of(two, shorter_of(places.len(), lengths.len()));
@@ -55,7 +58,10 @@ pub(crate) fn run_at(
     i: usize,
 ) -> Run
     requires { ⌜ i < countOfRuns (now converged) (now costs) (now places) (now lengths) (now iterations) (now caps) ⌝ }
-    ensures { λ r. ⌜ r ≡ runOf (now (converged .entry)) (now (costs .entry)) (now (places .entry)) (now (lengths .entry)) (now (iterations .entry)) (now (caps .entry)) i ⌝ }
+    ensures { λ r.
+        ⌜ r
+        ≡ runOf (now (converged .entry)) (now (costs .entry)) (now (places .entry)) (now (lengths .entry))
+        (now (iterations .entry)) (now (caps .entry)) i ⌝ }
 {
     Run {
         converged: is_set(converged[i]),
@@ -78,7 +84,12 @@ pub(crate) fn survey_columns(
     lent: usize,
     wanted: usize,
 ) -> Survey
-    ensures { λ r. ⌜ r ≡ surveyOf lent wanted (runOf (now (converged .entry)) (now (costs .entry)) (now (places .entry)) (now (lengths .entry)) (now (iterations .entry)) (now (caps .entry))) (countOfRuns (now (converged .entry)) (now (costs .entry)) (now (places .entry)) (now (lengths .entry)) (now (iterations .entry)) (now (caps .entry))) ⌝ }
+    ensures { λ r.
+        ⌜ r
+        ≡ surveyOf lent wanted (runOf (now (converged .entry)) (now (costs .entry)) (now (places .entry))
+        (now (lengths .entry)) (now (iterations .entry)) (now (caps .entry))) (countOfRuns (now (converged .entry))
+        (now (costs .entry)) (now (places .entry)) (now (lengths .entry)) (now (iterations .entry))
+        (now (caps .entry))) ⌝ }
 {
     let n = run_count(converged, costs, places, lengths, iterations, caps);
     let mut s = no_survey();
@@ -108,7 +119,12 @@ pub(crate) fn retry_columns(
     lists: &[f64],
     table: &mut [f64],
 ) -> Held
-    ensures { λ r. ⌜ r ≡ retriedOf (now (bins .entry)) setup (now (lists .entry)) (length (now (table .entry))) (runOf (now (converged .entry)) (now (costs .entry)) (now (places .entry)) (now (lengths .entry)) (now (iterations .entry)) (now (caps .entry))) (countOfRuns (now (converged .entry)) (now (costs .entry)) (now (places .entry)) (now (lengths .entry)) (now (iterations .entry)) (now (caps .entry))) held ⌝ }
+    ensures { λ r.
+        ⌜ r
+        ≡ retriedOf (now (bins .entry)) setup (now (lists .entry)) (length (now (table .entry))) (runOf
+        (now (converged .entry)) (now (costs .entry)) (now (places .entry)) (now (lengths .entry))
+        (now (iterations .entry)) (now (caps .entry))) (countOfRuns (now (converged .entry)) (now (costs .entry))
+        (now (places .entry)) (now (lengths .entry)) (now (iterations .entry)) (now (caps .entry))) held ⌝ }
     ensures { λ _. ⌜ drop (tableFrom setup) (now (table .exit)) ≡ drop (tableFrom setup) (now (table .entry)) ⌝ }
 {
     let n = run_count(converged, costs, places, lengths, iterations, caps);

@@ -12,8 +12,8 @@ use crate::turns::end_turns;
 use crate::turns::turn;
 use models::problems::Problem;
 
-// The attempt, or 1, 2, 4, 5, 6, 7, 9 or 10 instead, as `attempt_from_numbers` has it over the table's columns. The loop is
-// thin, for its proof is a walk by hand: the work of a turn is `turn`.
+// The attempt, or 1, 2, 4, 5, 6, 7, 9 or 10 instead, as `attempt_from_numbers` has it over the table's columns. The
+// loop is thin, for its proof is a walk by hand: the work of a turn is `turn`.
 pub fn attempt_from(
     bins: &[u32],
     setup: Problem,
@@ -21,8 +21,13 @@ pub fn attempt_from(
     lists: &[f64],
     table: &mut [f64],
 ) -> AttemptAnswer
-    ensures { λ r. ⌜ r ≡ attemptAnswerOf (attemptFrom (now (bins .entry)) setup (now (lists .entry)) (length (now (table .entry))) (runIn (now (runs .entry))) (length (now (runs .entry)))) ⌝ }
-    ensures { λ r. ⌜ drop (standsFrom setup (r .number)) (now (table .exit)) ≡ drop (standsFrom setup (r .number)) (now (table .entry)) ⌝ }
+    ensures { λ r.
+        ⌜ r
+        ≡ attemptAnswerOf (attemptFrom (now (bins .entry)) setup (now (lists .entry)) (length (now (table .entry)))
+        (runIn (now (runs .entry))) (length (now (runs .entry)))) ⌝ }
+    ensures { λ r.
+        ⌜ drop (standsFrom setup (r .number)) (now (table .exit))
+        ≡ drop (standsFrom setup (r .number)) (now (table .entry)) ⌝ }
 {
     let mut t = begin_turns(bins, setup, runs.len(), table.len());
     while t.next < runs.len() {

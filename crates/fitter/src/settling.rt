@@ -1,7 +1,6 @@
-// What an attempt comes to once its run table was gone through: a refusal, the run of least cost where it is valid, or a
-// second look at the others.
-// Ported from src/preprocessing/spectrum_fitter.rs of bacpop/sparrowhawk-asm, f1f8af1232, Apache-2.0; ported and
-// changed: what can't be used is refused by number.
+// What an attempt comes to once its run table was gone through: a refusal, the run of least cost where it is valid, or
+// a second look at the others. Ported from src/preprocessing/spectrum_fitter.rs of bacpop/sparrowhawk-asm, f1f8af1232,
+// Apache-2.0; ported and changed: what can't be used is refused by number.
 ghost use mathlib.Core.Path.{_≡_};
 ghost use lib.ListN.{length, drop};
 ghost use mathlib.Core.List.{[], _∷_};
@@ -180,8 +179,11 @@ pub(crate) fn settle(
     lists: &[f64],
     table: &mut [f64],
 ) -> Settled
-    ensures { λ r. ⌜ r ≡ settleOf (now (bins .entry)) setup runs survey (now (lists .entry)) (length (now (table .entry))) ⌝ }
-    ensures { λ r. ⌜ drop (standsFrom setup (r .number)) (now (table .exit)) ≡ drop (standsFrom setup (r .number)) (now (table .entry)) ⌝ }
+    ensures { λ r.
+        ⌜ r ≡ settleOf (now (bins .entry)) setup runs survey (now (lists .entry)) (length (now (table .entry))) ⌝ }
+    ensures { λ r.
+        ⌜ drop (standsFrom setup (r .number)) (now (table .exit))
+        ≡ drop (standsFrom setup (r .number)) (now (table .entry)) ⌝ }
 {
     let number = attempt_refusal(bins, setup, runs, survey, table.len());
     if number != 0 {

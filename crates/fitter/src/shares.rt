@@ -1,5 +1,6 @@
 // The shelf share that a search starts from, read off the histogram.
-// Ported from src/preprocessing/spectrum_fitter.rs of bacpop/sparrowhawk-asm, f1f8af1232, Apache-2.0; ported and changed.
+// Ported from src/preprocessing/spectrum_fitter.rs of bacpop/sparrowhawk-asm, f1f8af1232, Apache-2.0; ported and
+// changed.
 ghost use mathlib.Core.Path.{_≡_};
 ghost use Prim.Native.Nat.{_≤_, min as minℕ};
 ghost use Rattle.meaning.specs.Rows.{most};
@@ -61,8 +62,8 @@ fn share(bins: &[u32], used: f64, valley: usize, peak: usize) -> f64
     clamp(2.0 * mass(bins, used, valley, peak / 2) / lobe, 0.01, 0.4)
 }
 
-// The starting shelf share over the recovered bins, 0.05 for an empty lobe; 1 where the valley, the peak or the number of
-// bins is below 2, and 2 where one is above 65,535.
+// The starting shelf share over the recovered bins, 0.05 for an empty lobe; 1 where the valley, the peak or the number
+// of bins is below 2, and 2 where one is above 65,535.
 pub fn empirical_shelf_share(bins: &[u32], scale: f64, valley: usize, peak: usize) -> Number
     ensures { λ r. ⌜ numberSays r ≡ shelfShareOf (now (bins .entry)) scale valley peak ⌝ }
 {

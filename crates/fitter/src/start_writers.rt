@@ -1,5 +1,6 @@
 // The writers of starts: each lends the rest of what it was lent to the next.
-// Ported from src/preprocessing/spectrum_fitter.rs of bacpop/sparrowhawk-asm, f1f8af1232, Apache-2.0; ported and changed.
+// Ported from src/preprocessing/spectrum_fitter.rs of bacpop/sparrowhawk-asm, f1f8af1232, Apache-2.0; ported and
+// changed.
 ghost use mathlib.Core.Path.{_≡_};
 ghost use mathlib.Core.List.{[], _∷_, _++_};
 ghost use Prim.Native.Nat.{_/_, _<_, _≤_};
@@ -152,7 +153,8 @@ fn write_shelf_start(
     shape: ShelfShape,
 ) -> usize
     requires { ⌜ length (plainStart error seed start ++ shelfList share shape) ≤ length (now rest) ⌝ }
-    ensures { λ r. ⌜ Wrote (plainStart error seed start ++ shelfList share shape) r (now (rest .entry)) (now (rest .exit)) ⌝ }
+    ensures { λ r.
+        ⌜ Wrote (plainStart error seed start ++ shelfList share shape) r (now (rest .entry)) (now (rest .exit)) ⌝ }
 {
     let first = write_plain(rest, error, seed, start);
     first + write_shelf(&mut rest[first..], share, shape)
@@ -178,7 +180,8 @@ fn write_shapes(
     shapes: &[f64],
 ) -> usize
     requires { ⌜ length (shapeStarts error seed start share (now shapes)) ≤ length (now rest) ⌝ }
-    ensures { λ r. ⌜ Wrote (shapeStarts error seed start share (now (shapes .entry))) r (now (rest .entry)) (now (rest .exit)) ⌝ }
+    ensures { λ r.
+        ⌜ Wrote (shapeStarts error seed start share (now (shapes .entry))) r (now (rest .entry)) (now (rest .exit)) ⌝ }
 {
     let n = shapes.len() / 2;
     let mut at: usize = 0;
@@ -202,7 +205,9 @@ fn write_row(
     shapes: &[f64],
 ) -> usize
     requires { ⌜ length (rowStarts error genome seed start share (now shapes)) ≤ length (now rest) ⌝ }
-    ensures { λ r. ⌜ Wrote (rowStarts error genome seed start share (now (shapes .entry))) r (now (rest .entry)) (now (rest .exit)) ⌝ }
+    ensures { λ r.
+        ⌜ Wrote (rowStarts error genome seed start share (now (shapes .entry))) r (now (rest .entry))
+        (now (rest .exit)) ⌝ }
 {
     match genome {
         GenomeModel::NegativeBinomial => write_plain(rest, error, seed, start),
@@ -232,7 +237,9 @@ fn write_table(
     shapes: &[f64],
 ) -> usize
     requires { ⌜ length (oneSeed error genome seed (now table) share (now shapes)) ≤ length (now rest) ⌝ }
-    ensures { λ r. ⌜ Wrote (oneSeed error genome seed (now (table .entry)) share (now (shapes .entry))) r (now (rest .entry)) (now (rest .exit)) ⌝ }
+    ensures { λ r.
+        ⌜ Wrote (oneSeed error genome seed (now (table .entry)) share (now (shapes .entry))) r (now (rest .entry))
+        (now (rest .exit)) ⌝ }
 {
     let n = table.len() / 3;
     let mut at: usize = 0;
@@ -264,8 +271,12 @@ pub(crate) fn write_starts(
     share: f64,
     shapes: &[f64],
 ) -> usize
-    requires { ⌜ length (allStarts error genome (now seeds ++ (hint ∷ [])) (now table) share (now shapes)) ≤ length (now rest) ⌝ }
-    ensures { λ r. ⌜ Wrote (allStarts error genome (now (seeds .entry) ++ (hint ∷ [])) (now (table .entry)) share (now (shapes .entry))) r (now (rest .entry)) (now (rest .exit)) ⌝ }
+    requires { ⌜ length (allStarts error genome (now seeds ++ (hint ∷ [])) (now table) share (now shapes))
+        ≤ length (now rest) ⌝ }
+    ensures { λ r.
+        ⌜ Wrote
+        (allStarts error genome (now (seeds .entry) ++ (hint ∷ [])) (now (table .entry)) share (now (shapes .entry)))
+        r (now (rest .entry)) (now (rest .exit)) ⌝ }
 {
     let mut at: usize = 0;
     let mut i: usize = 0;

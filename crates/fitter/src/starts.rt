@@ -1,5 +1,6 @@
 // The starts of a search, written one behind the other into a lent buffer.
-// Ported from src/preprocessing/spectrum_fitter.rs of bacpop/sparrowhawk-asm, f1f8af1232, Apache-2.0; ported and changed.
+// Ported from src/preprocessing/spectrum_fitter.rs of bacpop/sparrowhawk-asm, f1f8af1232, Apache-2.0; ported and
+// changed.
 ghost use mathlib.Core.Path.{_≡_};
 ghost use mathlib.Core.List.{[]};
 ghost use Prim.Native.Nat.{_+_, _*_, _/_, _<_};
@@ -44,8 +45,11 @@ pub fn start_tables_refusal(pareto: &[f64], weibull: &[f64]) -> u8
 // The one of the two lent tables that belongs to the family, as the caller's own memory; an empty part, which no table
 // is, for the number 7 of `start_tables_refusal`.
 pub fn start_table<'a>(error: ErrorModel, pareto: &'a [f64], weibull: &'a [f64]) -> &'a [f64]
-    ensures { λ r. ⌜ (0 ≡ firstOf (wrongTables (length (now (pareto .entry))) (length (now (weibull .entry)))) → r ≡ tableOf error (pareto .entry) (weibull .entry)) ⌝ }
-    ensures { λ r. ⌜ (7 ≡ firstOf (wrongTables (length (now (pareto .entry))) (length (now (weibull .entry)))) → now r ≡ []) ⌝ }
+    ensures { λ r.
+        ⌜ (0 ≡ firstOf (wrongTables (length (now (pareto .entry))) (length (now (weibull .entry)))) → r ≡ tableOf
+        error (pareto .entry) (weibull .entry)) ⌝ }
+    ensures { λ r.
+        ⌜ (7 ≡ firstOf (wrongTables (length (now (pareto .entry))) (length (now (weibull .entry)))) → now r ≡ []) ⌝ }
 {
     if start_tables_refusal(pareto, weibull) != 0 {
         return &pareto[0..0];
@@ -66,8 +70,8 @@ fn per_row(genome: GenomeModel, shapes: usize) -> usize
     }
 }
 
-// Whether the room is too short for `seeds` + 1 times as many starts. What is needed may be 2^64 or more, so the room is
-// divided.
+// Whether the room is too short for `seeds` + 1 times as many starts. What is needed may be 2^64 or more, so the room
+// is divided.
 fn too_short(room: usize, width: usize, each: usize, rows: usize, seeds: usize) -> bool
     requires { ⌜ 0 < width ⌝ }
     requires { ⌜ 0 < rows ⌝ }
@@ -93,8 +97,14 @@ pub fn fit_starts_lent<'a>(
     shapes: &[f64],
     out: &mut [f64],
 ) -> Written
-    ensures { λ r. ⌜ writtenSays r ≡ counted (startsOf error genome (now (pareto .entry)) (now (weibull .entry)) (now (seeds .entry)) hint share (now (shapes .entry)) (length (now (out .entry)))) ⌝ }
-    ensures { λ _. ⌜ now (out .exit) ≡ laid (startsOf error genome (now (pareto .entry)) (now (weibull .entry)) (now (seeds .entry)) hint share (now (shapes .entry)) (length (now (out .entry)))) (now (out .entry)) ⌝ }
+    ensures { λ r.
+        ⌜ writtenSays r
+        ≡ counted (startsOf error genome (now (pareto .entry)) (now (weibull .entry)) (now (seeds .entry)) hint share
+        (now (shapes .entry)) (length (now (out .entry)))) ⌝ }
+    ensures { λ _.
+        ⌜ now (out .exit)
+        ≡ laid (startsOf error genome (now (pareto .entry)) (now (weibull .entry)) (now (seeds .entry)) hint share
+        (now (shapes .entry)) (length (now (out .entry)))) (now (out .entry)) ⌝ }
 {
     let table = start_table(error, pareto, weibull);
     if table.len() == 0 {
@@ -123,8 +133,14 @@ pub fn fit_starts(
     shapes: &[f64],
     out: &mut [f64],
 ) -> Written
-    ensures { λ r. ⌜ writtenSays r ≡ counted (startsOf error genome paretoStarts weibullStarts (now (seeds .entry)) hint share (now (shapes .entry)) (length (now (out .entry)))) ⌝ }
-    ensures { λ _. ⌜ now (out .exit) ≡ laid (startsOf error genome paretoStarts weibullStarts (now (seeds .entry)) hint share (now (shapes .entry)) (length (now (out .entry)))) (now (out .entry)) ⌝ }
+    ensures { λ r.
+        ⌜ writtenSays r
+        ≡ counted (startsOf error genome paretoStarts weibullStarts (now (seeds .entry)) hint share
+        (now (shapes .entry)) (length (now (out .entry)))) ⌝ }
+    ensures { λ _.
+        ⌜ now (out .exit)
+        ≡ laid (startsOf error genome paretoStarts weibullStarts (now (seeds .entry)) hint share (now (shapes .entry))
+        (length (now (out .entry)))) (now (out .entry)) ⌝ }
 {
     let pareto = pareto_starts();
     let weibull = weibull_starts();

@@ -1,7 +1,6 @@
-// What is known of a run table before anything is unpacked: what speaks against it, the totals, and the converged run of
-// least cost.
-// Ported from src/preprocessing/spectrum_fitter.rs of bacpop/sparrowhawk-asm, f1f8af1232, Apache-2.0; ported and
-// changed: a search for the least stands for the stable sort.
+// What is known of a run table before anything is unpacked: what speaks against it, the totals, and the converged run
+// of least cost. Ported from src/preprocessing/spectrum_fitter.rs of bacpop/sparrowhawk-asm, f1f8af1232, Apache-2.0;
+// ported and changed: a search for the least stands for the stable sort.
 ghost use mathlib.Core.Path.{_≡_};
 ghost use Rattle.fitter.specs.Runs.{atMost, top64, top32, one-if, noRun};
 ghost use Rattle.fitter.specs.Surveys.{noSurvey, beats, lesser, countOf, weighOf, surveyStep};

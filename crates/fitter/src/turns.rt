@@ -1,7 +1,6 @@
-// Two passes over a run table, one run at a time: what scans a slice of run structs holds a `Turns` and hands it run after
-// run.
-// Ported from src/preprocessing/spectrum_fitter.rs of bacpop/sparrowhawk-asm, f1f8af1232, Apache-2.0; ported and
-// changed: a turn takes a run by value.
+// Two passes over a run table, one run at a time: what scans a slice of run structs holds a `Turns` and hands it run
+// after run. Ported from src/preprocessing/spectrum_fitter.rs of bacpop/sparrowhawk-asm, f1f8af1232, Apache-2.0; ported
+// and changed: a turn takes a run by value.
 ghost use mathlib.Core.Path.{_≡_};
 ghost use Prim.Native.Nat.{_<_};
 ghost use lib.ListN.{length, drop};
@@ -92,8 +91,10 @@ pub(crate) fn survey_turn(
     table: &mut [f64],
 ) -> Turns
     requires { ⌜ t .next < t .runs ⌝ }
-    ensures { λ r. ⌜ r ≡ firstTurn (now (bins .entry)) setup (now (lists .entry)) (length (now (table .entry))) run t ⌝ }
-    ensures { λ r. ⌜ drop (firstStands setup r) (now (table .exit)) ≡ drop (firstStands setup r) (now (table .entry)) ⌝ }
+    ensures { λ r.
+        ⌜ r ≡ firstTurn (now (bins .entry)) setup (now (lists .entry)) (length (now (table .entry))) run t ⌝ }
+    ensures { λ r.
+        ⌜ drop (firstStands setup r) (now (table .exit)) ≡ drop (firstStands setup r) (now (table .entry)) ⌝ }
 {
     let error = setup.error;
     let genome = setup.genome;
@@ -131,7 +132,8 @@ pub(crate) fn retry_turn(
     table: &mut [f64],
 ) -> Turns
     requires { ⌜ t .next < t .runs ⌝ }
-    ensures { λ r. ⌜ r ≡ secondTurn (now (bins .entry)) setup (now (lists .entry)) (length (now (table .entry))) run t ⌝ }
+    ensures { λ r.
+        ⌜ r ≡ secondTurn (now (bins .entry)) setup (now (lists .entry)) (length (now (table .entry))) run t ⌝ }
     ensures { λ _. ⌜ drop (tableFrom setup) (now (table .exit)) ≡ drop (tableFrom setup) (now (table .entry)) ⌝ }
 {
     let survey = t.survey;
@@ -156,8 +158,10 @@ pub(crate) fn turn(
     table: &mut [f64],
 ) -> Turns
     requires { ⌜ t .next < t .runs ⌝ }
-    ensures { λ r. ⌜ r ≡ turnOf (now (bins .entry)) setup (now (lists .entry)) (length (now (table .entry))) (runFrom lent) t ⌝ }
-    ensures { λ r. ⌜ drop (turnStands setup t r) (now (table .exit)) ≡ drop (turnStands setup t r) (now (table .entry)) ⌝ }
+    ensures { λ r.
+        ⌜ r ≡ turnOf (now (bins .entry)) setup (now (lists .entry)) (length (now (table .entry))) (runFrom lent) t ⌝ }
+    ensures { λ r.
+        ⌜ drop (turnStands setup t r) (now (table .exit)) ≡ drop (turnStands setup t r) (now (table .entry)) ⌝ }
 {
     let run = run_of(lent);
     if t.surveyed {

@@ -1,6 +1,6 @@
 // Whether a fit is to be believed: the first of document 01's ten rules that turns it away.
-// The rules are this project's own; those of src/preprocessing/spectrum_fitter.rs of bacpop/sparrowhawk-asm, f1f8af1232,
-// Apache-2.0, are others (docs/DIFFERENCES.md).
+// The rules are this project's own; those of src/preprocessing/spectrum_fitter.rs of bacpop/sparrowhawk-asm,
+// f1f8af1232, Apache-2.0, are others (docs/DIFFERENCES.md).
 ghost use mathlib.Core.Path.{_≡_};
 ghost use Rattle.meaning.specs.Reply.{give, firstOf};
 ghost use Rattle.fitter.specs.Validation.{badLimit, validateTests, verdictSays, verdictOf, validateOf};
@@ -101,8 +101,8 @@ pub(crate) fn judge(fit: SpectrumFit, valley: usize, peak: usize, mass_limit: f6
     Verdict::Valid
 }
 
-// 1 for a valley or a peak below 2; 2 for one of them or the fit's window end above 65,535; 5 for a window end of 0; 9 for
-// a mass limit that is not finite or is below 1.
+// 1 for a valley or a peak below 2; 2 for one of them or the fit's window end above 65,535; 5 for a window end of 0; 9
+// for a mass limit that is not finite or is below 1.
 pub fn validate_fit(fit: SpectrumFit, valley: usize, peak: usize, mass_limit: f64) -> Verdict
     ensures { λ r. ⌜ verdictSays r ≡ validateOf fit valley peak «mass_limit» ⌝ }
 {

@@ -2,7 +2,8 @@
 // Ported from src/preprocessing/math_helpers.rs of bacpop/sparrowhawk-asm, f1f8af1232, Apache-2.0; ported and changed.
 ghost use mathlib.Core.Path.{_≡_};
 ghost use Rattle.helpers.specs.Answers.{numberSays};
-ghost use Rattle.helpers.specs.Masses.{poissonMassOf, binomialMassOf, logNbMassTo, logNbMassOf, shelfMassOf, singleCopyMassTo, singleCopyLogMassOf};
+ghost use Rattle.helpers.specs.Masses.{poissonMassOf, binomialMassOf, logNbMassTo, logNbMassOf, shelfMassOf};
+ghost use Rattle.helpers.specs.Masses.{singleCopyMassTo, singleCopyLogMassOf};
 use crate::answers::Number;
 use crate::hoists::NEARLY_POISSON;
 use crate::lobes::ln_dnbinom;

@@ -3,7 +3,8 @@
 // plain form.
 // Ported from src/preprocessing/math_helpers.rs of bacpop/sparrowhawk-asm, f1f8af1232, Apache-2.0; ported and changed.
 ghost use mathlib.Core.Path.{_≡_};
-ghost use Rattle.helpers.specs.SingleCopies.{betaBinomialOf, betaDensityOf, betaPartOf, singleCopyOf, singleDensityWith, singleDensityOf};
+ghost use Rattle.helpers.specs.SingleCopies.{betaBinomialOf, betaDensityOf, betaPartOf, singleCopyOf};
+ghost use Rattle.helpers.specs.SingleCopies.{singleDensityWith, singleDensityOf};
 use crate::hoists::Lobe;
 use crate::hoists::density_with;
 use crate::hoists::lobe_of;

@@ -1,5 +1,5 @@
-// A window end that goes from one layer to the next. Its field is no other crate's, so each that there is was made by the
-// call below, and lies in 1 to 65,535: what takes one has nothing to refuse.
+// A window end that goes from one layer to the next. Its field is no other crate's, so each that there is was made by
+// the call below, and lies in 1 to 65,535: what takes one has nothing to refuse.
 ghost use mathlib.Core.Path.{_≡_};
 ghost use Rattle.helpers.specs.WindowEnds.{endAnswerOf, windowEndOf};
 use meaning::limits::MOST;

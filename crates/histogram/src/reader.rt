@@ -112,7 +112,8 @@ fn read_bins(file: &[u8], first: usize, n: usize, held: &mut [u32]) -> FileRead
 // 10 where there is no room for the bins.
 fn in_room(read: FileRead, room: usize) -> FileRead
     ensures { λ r. ⌜ keptOf r ≤ keptOf read ⌝ }
-    ensures { λ r. ⌜ ((held : List ℕ) → keptOf read ≤ length held → heldSays r held ≡ fitsIn room (heldSays read held)) ⌝ }
+    ensures { λ r.
+        ⌜ ((held : List ℕ) → keptOf read ≤ length held → heldSays r held ≡ fitsIn room (heldSays read held)) ⌝ }
 {
     match read {
         FileRead::Bins(n) => {
@@ -153,8 +154,13 @@ fn copy_bins(held: &[u32], n: usize, bins: &mut [u32])
 // n bins from the place `first` on: held until the file and the room are checked, then handed over.
 fn hand_over(file: &[u8], first: usize, n: usize, held: &mut [u32], bins: &mut [u32]) -> FileRead
     requires { ⌜ n ≤ length (now held) ⌝ }
-    ensures { λ r. ⌜ fileSays r ≡ counted (fitsIn (length (now (bins .entry))) (readFrom (Bins n []) (now (file .entry)) first)) ⌝ }
-    ensures { λ _. ⌜ now (bins .exit) ≡ laid (fitsIn (length (now (bins .entry))) (readFrom (Bins n []) (now (file .entry)) first)) (now (bins .entry)) ⌝ }
+    ensures { λ r.
+        ⌜ fileSays r
+        ≡ counted (fitsIn (length (now (bins .entry))) (readFrom (Bins n []) (now (file .entry)) first)) ⌝ }
+    ensures { λ _.
+        ⌜ now (bins .exit)
+        ≡ laid (fitsIn (length (now (bins .entry))) (readFrom (Bins n []) (now (file .entry)) first))
+        (now (bins .entry)) ⌝ }
 {
     let read = read_bins(file, first, n, held);
     let answer = in_room(read, bins.len());
@@ -168,7 +174,9 @@ fn hand_over(file: &[u8], first: usize, n: usize, held: &mut [u32], bins: &mut [
 // small array: a large one takes longer to clear than they take to read.
 pub fn read_histogram(file: &[u8], bins: &mut [u32]) -> FileRead
     ensures { λ r. ⌜ fileSays r ≡ counted (readHistogramOf (now (file .entry)) (length (now (bins .entry)))) ⌝ }
-    ensures { λ _. ⌜ now (bins .exit) ≡ laid (readHistogramOf (now (file .entry)) (length (now (bins .entry)))) (now (bins .entry)) ⌝ }
+    ensures { λ _.
+        ⌜ now (bins .exit)
+        ≡ laid (readHistogramOf (now (file .entry)) (length (now (bins .entry)))) (now (bins .entry)) ⌝ }
 {
     let form = number_at(file, 0, 1, 1);
     let Number::Is(_, second) = form else {

@@ -49,7 +49,9 @@ fn file_size(bins: &[u32]) -> usize
 // Some bins, one behind the other, to the front of the lent bytes, and how many bytes that is.
 fn put_bins(out: &mut [u8], bins: &[u32]) -> usize
     requires { ⌜ length (numbersBytes (now bins)) ≤ length (now out) ⌝ }
-    ensures { λ r. ⌜ (r ≡ length (numbersBytes (now (bins .entry)))) × (now (out .exit) ≡ over (numbersBytes (now (bins .entry))) (now (out .entry))) ⌝ }
+    ensures { λ r.
+        ⌜ (r ≡ length (numbersBytes (now (bins .entry))))
+        × (now (out .exit) ≡ over (numbersBytes (now (bins .entry))) (now (out .entry))) ⌝ }
 {
     let mut at: usize = 0;
     let mut k = 0;
@@ -63,7 +65,9 @@ fn put_bins(out: &mut [u8], bins: &[u32]) -> usize
 // The file of some bins to the front of the lent bytes, and how many bytes that is.
 fn put_file(out: &mut [u8], bins: &[u32]) -> usize
     requires { ⌜ length (writeOf (now bins)) ≤ length (now out) ⌝ }
-    ensures { λ r. ⌜ (r ≡ length (writeOf (now (bins .entry)))) × (now (out .exit) ≡ over (writeOf (now (bins .entry))) (now (out .entry))) ⌝ }
+    ensures { λ r.
+        ⌜ (r ≡ length (writeOf (now (bins .entry))))
+        × (now (out .exit) ≡ over (writeOf (now (bins .entry))) (now (out .entry))) ⌝ }
 {
     out[0] = 1;
     let head = 1 + put_number(&mut out[1..], bins.len() as u64);
@@ -75,7 +79,9 @@ fn put_file(out: &mut [u8], bins: &[u32]) -> usize
 // A refusal writes nothing, and the bytes past the file stand as found.
 pub fn write_histogram(bins: &[u32], out: &mut [u8]) -> Written
     ensures { λ r. ⌜ writtenSays r ≡ counted (writeHistogramOf (now (bins .entry)) (length (now (out .entry)))) ⌝ }
-    ensures { λ _. ⌜ now (out .exit) ≡ laid (writeHistogramOf (now (bins .entry)) (length (now (out .entry)))) (now (out .entry)) ⌝ }
+    ensures { λ _.
+        ⌜ now (out .exit)
+        ≡ laid (writeHistogramOf (now (bins .entry)) (length (now (out .entry)))) (now (out .entry)) ⌝ }
 {
     if bins.len() < 2 {
         return Written::Refused(TOO_SMALL);

@@ -55,7 +55,8 @@ fn put_decimal(out: &mut [u8], n: u64) -> usize
 // A word to the front of the lent bytes, and how many bytes that is.
 fn put_word(out: &mut [u8], word: &[u8]) -> usize
     requires { ⌜ length (now word) ≤ length (now out) ⌝ }
-    ensures { λ r. ⌜ (r ≡ length (now (word .entry))) × (now (out .exit) ≡ over (now (word .entry)) (now (out .entry))) ⌝ }
+    ensures { λ r.
+        ⌜ (r ≡ length (now (word .entry))) × (now (out .exit) ≡ over (now (word .entry)) (now (out .entry))) ⌝ }
 {
     let mut k = 0;
     while k < word.len() {
@@ -68,7 +69,9 @@ fn put_word(out: &mut [u8], word: &[u8]) -> usize
 // A word, a number and the end of the line.
 fn put_line(out: &mut [u8], word: &[u8], n: u64) -> usize
     requires { ⌜ length (lineOf (now word) n) ≤ length (now out) ⌝ }
-    ensures { λ r. ⌜ (r ≡ length (lineOf (now (word .entry)) n)) × (now (out .exit) ≡ over (lineOf (now (word .entry)) n) (now (out .entry))) ⌝ }
+    ensures { λ r.
+        ⌜ (r ≡ length (lineOf (now (word .entry)) n))
+        × (now (out .exit) ≡ over (lineOf (now (word .entry)) n) (now (out .entry))) ⌝ }
 {
     let first = put_word(out, word);
     let end = first + put_decimal(&mut out[first..], n);
@@ -95,7 +98,9 @@ fn row_size(count: u64, n: u64) -> usize
 // A row for each bin, from count 1 on.
 fn put_rows(out: &mut [u8], bins: &[u32]) -> usize
     requires { ⌜ length (rowsOf 1 (now bins)) ≤ length (now out) ⌝ }
-    ensures { λ r. ⌜ (r ≡ length (rowsOf 1 (now (bins .entry)))) × (now (out .exit) ≡ over (rowsOf 1 (now (bins .entry))) (now (out .entry))) ⌝ }
+    ensures { λ r.
+        ⌜ (r ≡ length (rowsOf 1 (now (bins .entry))))
+        × (now (out .exit) ≡ over (rowsOf 1 (now (bins .entry))) (now (out .entry))) ⌝ }
 {
     let mut at: usize = 0;
     let mut k = 0;
@@ -126,7 +131,9 @@ fn rows_size(bins: &[u32]) -> usize
 // A refusal writes nothing, and the bytes past the listing stand as found.
 pub fn list_histogram(bins: &[u32], out: &mut [u8]) -> Written
     ensures { λ r. ⌜ writtenSays r ≡ counted (listHistogramOf (now (bins .entry)) (length (now (out .entry)))) ⌝ }
-    ensures { λ _. ⌜ now (out .exit) ≡ laid (listHistogramOf (now (bins .entry)) (length (now (out .entry)))) (now (out .entry)) ⌝ }
+    ensures { λ _.
+        ⌜ now (out .exit)
+        ≡ laid (listHistogramOf (now (bins .entry)) (length (now (out .entry)))) (now (out .entry)) ⌝ }
 {
     if bins.len() < 2 {
         return Written::Refused(TOO_SMALL);

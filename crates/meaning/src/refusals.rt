@@ -1,5 +1,5 @@
-// The numbers that come back instead of an answer, in the order of document 01's table: the first that applies. Their words
-// stand in docs/NUMBERS.md.
+// The numbers that come back instead of an answer, in the order of document 01's table: the first that applies. Their
+// words stand in docs/NUMBERS.md.
 pub const TOO_SMALL: u8 = 1;
 
 pub const TOO_LARGE: u8 = 2;

@@ -80,8 +80,13 @@ fn evaluate(bins: &[u32], scale: f64, top: u16, p: Params, ready: &[f64], table:
 // The table stays as it is where the parameters are turned away.
 fn cost_at(bins: &[u32], scale: f64, top: u16, p: Params, ready: &[f64], table: &mut [f64]) -> f64
     requires { ⌜ 1 ≤ top ⌝ }
-    ensures { λ r. ⌜ r ≡ costReady (now (bins .entry)) scale top p (now (ready .entry)) (entriesIn (p .shelf) (p .mean) top (length (now (table .entry)))) ⌝ }
-    ensures { λ _. ⌜ now (table .exit) ≡ tableWith p (entriesIn (p .shelf) (p .mean) top (length (now (table .entry)))) (now (table .entry)) ⌝ }
+    ensures { λ r.
+        ⌜ r
+        ≡ costReady (now (bins .entry)) scale top p (now (ready .entry))
+        (entriesIn (p .shelf) (p .mean) top (length (now (table .entry)))) ⌝ }
+    ensures { λ _.
+        ⌜ now (table .exit)
+        ≡ tableWith p (entriesIn (p .shelf) (p .mean) top (length (now (table .entry)))) (now (table .entry)) ⌝ }
 {
     if !params_usable(p) {
         return 1.0 / 0.0;
@@ -106,8 +111,14 @@ pub fn cost(
     theta: &[f64],
     table: &mut [f64],
 ) -> Number
-    ensures { λ r. ⌜ numberSays r ≡ costOf (now (bins .entry)) scale «window_end» peak error genome (now (theta .entry)) (length (now (table .entry))) ⌝ }
-    ensures { λ _. ⌜ now (table .exit) ≡ costTable (now (bins .entry)) scale «window_end» peak error genome (now (theta .entry)) (now (table .entry)) ⌝ }
+    ensures { λ r.
+        ⌜ numberSays r
+        ≡ costOf (now (bins .entry)) scale «window_end» peak error genome (now (theta .entry))
+        (length (now (table .entry))) ⌝ }
+    ensures { λ _.
+        ⌜ now (table .exit)
+        ≡ costTable (now (bins .entry)) scale «window_end» peak error genome (now (theta .entry)) (now (table .entry))
+        ⌝ }
 {
     let refused = fit_refusal(
         bins,
@@ -140,8 +151,14 @@ pub fn cost_prepared(
     ready: &[f64],
     table: &mut [f64],
 ) -> Number
-    ensures { λ r. ⌜ numberSays r ≡ preparedCostOf (now (bins .entry)) scale «window_end» peak error genome (now (theta .entry)) (now (ready .entry)) (length (now (table .entry))) ⌝ }
-    ensures { λ _. ⌜ now (table .exit) ≡ preparedCostTable (now (bins .entry)) scale «window_end» peak error genome (now (theta .entry)) (now (ready .entry)) (now (table .entry)) ⌝ }
+    ensures { λ r.
+        ⌜ numberSays r
+        ≡ preparedCostOf (now (bins .entry)) scale «window_end» peak error genome (now (theta .entry))
+        (now (ready .entry)) (length (now (table .entry))) ⌝ }
+    ensures { λ _.
+        ⌜ now (table .exit)
+        ≡ preparedCostTable (now (bins .entry)) scale «window_end» peak error genome (now (theta .entry))
+        (now (ready .entry)) (now (table .entry)) ⌝ }
 {
     let refused = fit_refusal(
         bins,

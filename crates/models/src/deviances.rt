@@ -70,7 +70,9 @@ fn deviance_term(observed: f64, expected: f64) -> f64
 fn add_deviance(reached: Reached, n: u32, t: HeightTerms, i: u16, scale: f64) -> Reached
     requires { ⌜ reached .ready ≡ readyOf (t .«error_params») (reached .ready .count) ⌝ }
     requires { ⌜ i < 65535 ⌝ }
-    ensures { λ r. ⌜ r .total ≡ seenTerm n (reached .total) (devianceTerm (ofCount n) (expectedOf (heightsOf t (ofCount (i + 1))) scale)) ⌝ }
+    ensures { λ r.
+        ⌜ r .total
+        ≡ seenTerm n (reached .total) (devianceTerm (ofCount n) (expectedOf (heightsOf t (ofCount (i + 1))) scale)) ⌝ }
     ensures { λ r. ⌜ r .ready ≡ readyOf (t .«error_params») (r .ready .count) ⌝ }
 {
     if n == 0 {

@@ -2,7 +2,8 @@
 // Ported from src/preprocessing/models.rs of bacpop/sparrowhawk-asm, f1f8af1232, Apache-2.0; ported and changed.
 ghost use mathlib.Core.Path.{_≡_};
 ghost use Rattle.helpers.specs.Answers.{numberSays};
-ghost use Rattle.models.specs.Errors.{factorOf, survivalOf, lnTailOf, logProbabilityOf, logWindowMassTo, logWindowMassOf};
+ghost use Rattle.models.specs.Errors.{factorOf, survivalOf, lnTailOf, logProbabilityOf, logWindowMassTo};
+ghost use Rattle.models.specs.Errors.{logWindowMassOf};
 ghost use Rattle.models.specs.Hoists.{survivalWith, logProbabilityBetween, windowMassWith};
 use helpers::answers::Number;
 use helpers::log_sums::ln_sub_exp;

@@ -1,7 +1,8 @@
 // A fit as its readers have it.
 // Ported from src/preprocessing/models.rs of bacpop/sparrowhawk-asm, f1f8af1232, Apache-2.0; ported and changed.
 ghost use mathlib.Core.Path.{_≡_};
-ghost use Rattle.models.specs.Fits.{absOf, roundtripOf, totalRatioOf, roundtripErrorOf, primaryModeOf, repeatModeOf};
+ghost use Rattle.models.specs.Fits.{absOf, roundtripOf, totalRatioOf, roundtripErrorOf, primaryModeOf};
+ghost use Rattle.models.specs.Fits.{repeatModeOf};
 use crate::errors::ErrorParams;
 use crate::families::ErrorModel;
 use crate::families::GenomeModel;

@@ -1,5 +1,5 @@
-// A fit as 6 wholes and 27 floats, and back: both families, both presences, the window end and the iterations; the floats in
-// the Rust's order. What is absent has zeros.
+// A fit as 6 wholes and 27 floats, and back: both families, both presences, the window end and the iterations; the
+// floats in the Rust's order. What is absent has zeros.
 ghost use mathlib.Core.Path.{_≡_};
 ghost use Rattle.models.specs.FitWords.{wholesOf, floatsOf, bitOf, fitWordsOf, fitOfWords};
 use crate::errors::ErrorParams;

@@ -15,7 +15,8 @@ use routines::ln::ln;
 // Those at the counts 1 to `last`; what lies behind stays as it is.
 pub(crate) fn write_heights(t: HeightTerms, last: u16, out: &mut [f64])
     requires { ⌜ 3 * last ≤ length (now out) ⌝ }
-    ensures { λ _. ⌜ now (out .exit) ≡ over (heightRows (λ (k : ℕ). heightsOf t (ofCount k)) last) (now (out .entry)) ⌝ }
+    ensures { λ _.
+        ⌜ now (out .exit) ≡ over (heightRows (λ (k : ℕ). heightsOf t (ofCount k)) last) (now (out .entry)) ⌝ }
 {
     let p = t.error_params;
     let mut log = ln(1.0);

@@ -2,7 +2,9 @@
 // proofs/HeightTerms.antt shows that a fit's own terms give its heights.
 // Ported from src/preprocessing/models.rs of bacpop/sparrowhawk-asm, f1f8af1232, Apache-2.0; ported and changed.
 ghost use mathlib.Core.Path.{_≡_};
-ghost use Rattle.models.specs.HeightTerms.{heightTermsOf, scaledOf, errorHeightFrom, errorHeightOf, singleHeightWith, singleHeightOf, repeatHeightWith, repeatHeightOf, heightsFrom, heightsOf};
+ghost use Rattle.models.specs.HeightTerms.{heightTermsOf, scaledOf, errorHeightFrom, errorHeightOf};
+ghost use Rattle.models.specs.HeightTerms.{singleHeightWith, singleHeightOf, repeatHeightWith, repeatHeightOf};
+ghost use Rattle.models.specs.HeightTerms.{heightsFrom, heightsOf};
 use crate::errors::ErrorParams;
 use crate::fit::SpectrumFit;
 use helpers::hoists::Lobe;

@@ -69,7 +69,8 @@ fn ahead_after(log: f64, error: ErrorParams, ready: &[f64], i: u16) -> Ahead
     }
 }
 
-// The mixture's log density at a count, with the error tail's survival from it and from the next, and lgamma(count + 1).
+// The mixture's log density at a count, with the error tail's survival from it and from the next, and lgamma(count +
+// 1).
 fn point(
     p: Params,
     m: WindowMasses,
@@ -115,7 +116,9 @@ fn add_point(
     requires { ⌜ i < most ⌝ }
     requires { ⌜ Kept (steady .lobe) (steady .second) (now kept) (i + 2) ⌝ }
     requires { ⌜ reached .ahead ≡ aheadOf (p .«error_params») (now ready) (reached .ahead .bin) ⌝ }
-    ensures { λ r. ⌜ r .total ≡ seenTerm n (reached .total) (ofCount n ⊗ pointAt p m steady (now (ready .entry)) (now (table .entry)) i) ⌝ }
+    ensures { λ r.
+        ⌜ r .total
+        ≡ seenTerm n (reached .total) (ofCount n ⊗ pointAt p m steady (now (ready .entry)) (now (table .entry)) i) ⌝ }
     ensures { λ r. ⌜ r .ahead ≡ aheadOf (p .«error_params») (now (ready .entry)) (r .ahead .bin) ⌝ }
 {
     if n == 0 {
@@ -156,7 +159,8 @@ pub(crate) fn likelihood(
     table: &[f64],
 ) -> f64
     requires { ⌜ Kept (steady .lobe) (steady .second) (now kept) (top + 1) ⌝ }
-    ensures { λ r. ⌜ r ≡ likelihoodAt (now (bins .entry)) scale top p m steady (now (ready .entry)) (now (table .entry)) ⌝ }
+    ensures { λ r.
+        ⌜ r ≡ likelihoodAt (now (bins .entry)) scale top p m steady (now (ready .entry)) (now (table .entry)) ⌝ }
 {
     let error = p.error_params;
     let mut reached = Reached {

@@ -3,7 +3,8 @@
 ghost use mathlib.Core.Path.{_≡_};
 ghost use lib.ListN.{getD};
 ghost use lib.Ieee.{nan};
-ghost use Rattle.models.specs.Params.{modeOf, errorParamsOf, ratioOf, shelfAt, shelfPartOf, paramsOf, paramsAnswerOf, paramsSays};
+ghost use Rattle.models.specs.Params.{modeOf, errorParamsOf, ratioOf, shelfAt, shelfPartOf, paramsOf};
+ghost use Rattle.models.specs.Params.{paramsAnswerOf, paramsSays};
 use crate::errors::ErrorParams;
 use crate::errors::ShapePart;
 use crate::families::ErrorModel;

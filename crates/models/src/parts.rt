@@ -1,7 +1,8 @@
-// What a fit holds that is no number, as numbers: a family is 0 for its first case and 1 for its second, a part 0 where it is
-// absent and 1 where it is present. Read back, any number but 0 is the second.
+// What a fit holds that is no number, as numbers: a family is 0 for its first case and 1 for its second, a part 0 where
+// it is absent and 1 where it is present. Read back, any number but 0 is the second.
 ghost use mathlib.Core.Path.{_≡_};
-ghost use Rattle.models.specs.Parts.{errorNumber, genomeNumber, errorOf, genomeOf, shapeThere, shapeNumber, shapeOf, shelfThere, shelfHeld, shelfFrom};
+ghost use Rattle.models.specs.Parts.{errorNumber, genomeNumber, errorOf, genomeOf, shapeThere, shapeNumber};
+ghost use Rattle.models.specs.Parts.{shapeOf, shelfThere, shelfHeld, shelfFrom};
 use crate::errors::ShapePart;
 use crate::families::ErrorModel;
 use crate::families::GenomeModel;

@@ -4,7 +4,8 @@
 ghost use mathlib.Core.Path.{_≡_};
 ghost use lib.ListN.{getD};
 ghost use Rattle.routines.specs.Ops.{ofCount};
-ghost use Rattle.models.specs.Spectra.{recoveredAt, seenTerm, observedTotalOf, fullTotalOf, windowOf, allZeroOf, noneRecoveredOf};
+ghost use Rattle.models.specs.Spectra.{recoveredAt, seenTerm, observedTotalOf, fullTotalOf, windowOf, allZeroOf};
+ghost use Rattle.models.specs.Spectra.{noneRecoveredOf};
 use crate::recovery::rounded_quotient;
 use crate::recovery::used_scale;
 

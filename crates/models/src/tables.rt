@@ -10,7 +10,8 @@ use meaning::answers::Written;
 // How many entries were written: all, and none where there is no shelf or they do not fit.
 pub(crate) fn fill_table(mean: f64, shelf: ShelfPart, top: u16, table: &mut [f64]) -> usize
     ensures { λ r. ⌜ r ≡ length (entriesIn shelf mean top (length (now (table .entry)))) ⌝ }
-    ensures { λ _. ⌜ now (table .exit) ≡ over (entriesIn shelf mean top (length (now (table .entry)))) (now (table .entry)) ⌝ }
+    ensures { λ _.
+        ⌜ now (table .exit) ≡ over (entriesIn shelf mean top (length (now (table .entry)))) (now (table .entry)) ⌝ }
 {
     match shelf {
         ShelfPart::Absent => 0,

@@ -6,7 +6,8 @@ ghost use Prim.Native.Nat.{_≤_};
 ghost use lib.ListN.{length};
 ghost use Rattle.meaning.specs.Over.{over};
 ghost use Rattle.models.specs.Tables.{entriesIn};
-ghost use Rattle.models.specs.Unpacking.{logTotal, fitOf, fitAt, emptyFit, fitAnswerOf, unpackOf, unpackTable, unpackEntries, unpackAt};
+ghost use Rattle.models.specs.Unpacking.{logTotal, fitOf, fitAt, emptyFit, fitAnswerOf, unpackOf, unpackTable};
+ghost use Rattle.models.specs.Unpacking.{unpackEntries, unpackAt};
 use crate::deviances::conditional_deviance;
 use crate::errors::ErrorParams;
 use crate::errors::ShapePart;
@@ -102,8 +103,13 @@ fn fit_at(
     table: &mut [f64],
 ) -> SpectrumFit
     requires { ⌜ 1 ≤ window .end ⌝ }
-    ensures { λ r. ⌜ r ≡ fitAt (now (bins .entry)) window error genome p (entriesIn (p .shelf) (p .mean) (window .end) (length (now (table .entry)))) cost iterations ⌝ }
-    ensures { λ _. ⌜ now (table .exit) ≡ over (entriesIn (p .shelf) (p .mean) (window .end) (length (now (table .entry)))) (now (table .entry)) ⌝ }
+    ensures { λ r.
+        ⌜ r
+        ≡ fitAt (now (bins .entry)) window error genome p
+        (entriesIn (p .shelf) (p .mean) (window .end) (length (now (table .entry)))) cost iterations ⌝ }
+    ensures { λ _.
+        ⌜ now (table .exit)
+        ≡ over (entriesIn (p .shelf) (p .mean) (window .end) (length (now (table .entry)))) (now (table .entry)) ⌝ }
 {
     let shelf = p.shelf;
     let items = fill_table(p.mean, shelf, window.end, table);
@@ -159,8 +165,14 @@ fn unpack_at(
     table: &mut [f64],
 ) -> SpectrumFit
     requires { ⌜ 1 ≤ window .end ⌝ }
-    ensures { λ r. ⌜ r ≡ unpackAt (now (bins .entry)) window peak error genome (now (theta .entry)) cost iterations (length (now (table .entry))) ⌝ }
-    ensures { λ _. ⌜ now (table .exit) ≡ over (unpackEntries window peak error genome (now (theta .entry)) (length (now (table .entry)))) (now (table .entry)) ⌝ }
+    ensures { λ r.
+        ⌜ r
+        ≡ unpackAt (now (bins .entry)) window peak error genome (now (theta .entry)) cost iterations
+        (length (now (table .entry))) ⌝ }
+    ensures { λ _.
+        ⌜ now (table .exit)
+        ≡ over (unpackEntries window peak error genome (now (theta .entry)) (length (now (table .entry))))
+        (now (table .entry)) ⌝ }
 {
     let p = decode(error, genome, peak as f64, theta);
     fit_at(bins, window, error, genome, p, cost, iterations, table)
@@ -179,8 +191,14 @@ pub fn unpack(
     iterations: u64,
     table: &mut [f64],
 ) -> FitAnswer
-    ensures { λ r. ⌜ r ≡ fitAnswerOf (unpackOf (now (bins .entry)) scale «window_end» peak error genome (now (theta .entry)) cost iterations (length (now (table .entry)))) ⌝ }
-    ensures { λ _. ⌜ now (table .exit) ≡ unpackTable (now (bins .entry)) scale «window_end» peak error genome (now (theta .entry)) cost iterations (now (table .entry)) ⌝ }
+    ensures { λ r.
+        ⌜ r
+        ≡ fitAnswerOf (unpackOf (now (bins .entry)) scale «window_end» peak error genome (now (theta .entry)) cost
+        iterations (length (now (table .entry)))) ⌝ }
+    ensures { λ _.
+        ⌜ now (table .exit)
+        ≡ unpackTable (now (bins .entry)) scale «window_end» peak error genome (now (theta .entry)) cost iterations
+        (now (table .entry)) ⌝ }
 {
     let refused = fit_refusal(
         bins,

@@ -23,7 +23,8 @@ pub(crate) struct WindowMasses {
     pub repeat: f64,
 }
 
-// `table` holds the shelf's entries and nothing else, and `steady` is the list's. The lobes' growths are left in `kept`.
+// `table` holds the shelf's entries and nothing else, and `steady` is the list's. The lobes' growths are left in
+// `kept`.
 pub(crate) fn masses_at(
     p: Params,
     steady: Steady,

@@ -5,7 +5,8 @@ ghost use lib.ListN.{length, drop};
 ghost use Rattle.meaning.specs.Answers.{writtenSays};
 ghost use Rattle.meaning.specs.Lent.{onGive};
 ghost use Rattle.meaning.specs.Rows.{most};
-ghost use Rattle.search.specs.Beginning.{simplexesBegun, iterationsBegun, stoppedBegun, beginSearchesOf, sizeOf, runsIn};
+ghost use Rattle.search.specs.Beginning.{simplexesBegun, iterationsBegun, stoppedBegun, beginSearchesOf, sizeOf};
+ghost use Rattle.search.specs.Beginning.{runsIn};
 ghost use Rattle.search.specs.Prices.{readyPriceOf, priceOf, standsFrom};
 ghost use Rattle.search.specs.Searches.{lentOf, stoodFrom, readyAfter};
 use crate::firsts::first_simplex;
@@ -29,8 +30,13 @@ fn begin_all(
     ready: &[f64],
     table: &mut [f64],
 )
-    requires { ⌜ (1 < w) × (w ≤ 12) × (runs ≤ most) × (runs * (w - 1) ≤ length (now starts)) × (runs * (w * w) ≤ length (now simplexes)) × (runs ≤ length (now iterations)) × (runs ≤ length (now stopped)) ⌝ }
-    ensures { λ _. ⌜ now (simplexes .exit) ≡ simplexesBegun (readyPriceOf (now (bins .entry)) problem (now (ready .entry)) (length (now (table .entry)))) (w - 1) (now (starts .entry)) runs (now (simplexes .entry)) ⌝ }
+    requires { ⌜ (1 < w) × (w ≤ 12) × (runs ≤ most) × (runs * (w - 1) ≤ length (now starts))
+        × (runs * (w * w) ≤ length (now simplexes)) × (runs ≤ length (now iterations))
+        × (runs ≤ length (now stopped)) ⌝ }
+    ensures { λ _.
+        ⌜ now (simplexes .exit)
+        ≡ simplexesBegun (readyPriceOf (now (bins .entry)) problem (now (ready .entry)) (length (now (table .entry))))
+        (w - 1) (now (starts .entry)) runs (now (simplexes .entry)) ⌝ }
     ensures { λ _. ⌜ now (iterations .exit) ≡ iterationsBegun runs (now (iterations .entry)) ⌝ }
     ensures { λ _. ⌜ now (stopped .exit) ≡ stoppedBegun runs (now (stopped .entry)) ⌝ }
     ensures { λ _. ⌜ drop (standsFrom problem) (now (table .exit)) ≡ drop (standsFrom problem) (now (table .entry)) ⌝ }
@@ -58,9 +64,9 @@ fn begin_all(
     }
 }
 
-// One run for each start, a list of numbers one behind the other, and the answer is how many runs there are; 1, 2, 4, 5,
-// 6, 7 or 10 instead. A refusal changes nothing that is lent. `ready` is filled as `prepare_window` fills it, whatever it
-// held; the shelf's table stands as found past the window end, and all of it where the family is plain.
+// One run for each start, a list of numbers one behind the other, and the answer is how many runs there are; 1, 2, 4,
+// 5, 6, 7 or 10 instead. A refusal changes nothing that is lent. `ready` is filled as `prepare_window` fills it,
+// whatever it held; the shelf's table stands as found past the window end, and all of it where the family is plain.
 pub fn begin_searches(
     bins: &[u32],
     problem: Problem,
@@ -71,12 +77,38 @@ pub fn begin_searches(
     ready: &mut [f64],
     table: &mut [f64],
 ) -> Written
-    ensures { λ r. ⌜ writtenSays r ≡ beginSearchesOf (now (bins .entry)) problem (now (starts .entry)) (lentOf (now (simplexes .entry)) (now (iterations .entry)) (now (stopped .entry)) (now (ready .entry)) (now (table .entry))) ⌝ }
-    ensures { λ _. ⌜ now (simplexes .exit) ≡ onGive (beginSearchesOf (now (bins .entry)) problem (now (starts .entry)) (lentOf (now (simplexes .entry)) (now (iterations .entry)) (now (stopped .entry)) (now (ready .entry)) (now (table .entry)))) (simplexesBegun (priceOf (now (bins .entry)) problem (length (now (table .entry)))) (sizeOf problem) (now (starts .entry)) (runsIn problem (now (starts .entry))) (now (simplexes .entry))) (now (simplexes .entry)) ⌝ }
-    ensures { λ _. ⌜ now (iterations .exit) ≡ onGive (beginSearchesOf (now (bins .entry)) problem (now (starts .entry)) (lentOf (now (simplexes .entry)) (now (iterations .entry)) (now (stopped .entry)) (now (ready .entry)) (now (table .entry)))) (iterationsBegun (runsIn problem (now (starts .entry))) (now (iterations .entry))) (now (iterations .entry)) ⌝ }
-    ensures { λ _. ⌜ now (stopped .exit) ≡ onGive (beginSearchesOf (now (bins .entry)) problem (now (starts .entry)) (lentOf (now (simplexes .entry)) (now (iterations .entry)) (now (stopped .entry)) (now (ready .entry)) (now (table .entry)))) (stoppedBegun (runsIn problem (now (starts .entry))) (now (stopped .entry))) (now (stopped .entry)) ⌝ }
-    ensures { λ _. ⌜ now (ready .exit) ≡ readyAfter problem (beginSearchesOf (now (bins .entry)) problem (now (starts .entry)) (lentOf (now (simplexes .entry)) (now (iterations .entry)) (now (stopped .entry)) (now (ready .entry)) (now (table .entry)))) (now (ready .entry)) ⌝ }
-    ensures { λ _. ⌜ drop (stoodFrom problem (beginSearchesOf (now (bins .entry)) problem (now (starts .entry)) (lentOf (now (simplexes .entry)) (now (iterations .entry)) (now (stopped .entry)) (now (ready .entry)) (now (table .entry))))) (now (table .exit)) ≡ drop (stoodFrom problem (beginSearchesOf (now (bins .entry)) problem (now (starts .entry)) (lentOf (now (simplexes .entry)) (now (iterations .entry)) (now (stopped .entry)) (now (ready .entry)) (now (table .entry))))) (now (table .entry)) ⌝ }
+    ensures { λ r.
+        ⌜ writtenSays r
+        ≡ beginSearchesOf (now (bins .entry)) problem (now (starts .entry)) (lentOf (now (simplexes .entry))
+        (now (iterations .entry)) (now (stopped .entry)) (now (ready .entry)) (now (table .entry))) ⌝ }
+    ensures { λ _.
+        ⌜ now (simplexes .exit)
+        ≡ onGive (beginSearchesOf (now (bins .entry)) problem (now (starts .entry)) (lentOf (now (simplexes .entry))
+        (now (iterations .entry)) (now (stopped .entry)) (now (ready .entry)) (now (table .entry)))) (simplexesBegun
+        (priceOf (now (bins .entry)) problem (length (now (table .entry)))) (sizeOf problem) (now (starts .entry))
+        (runsIn problem (now (starts .entry))) (now (simplexes .entry))) (now (simplexes .entry)) ⌝ }
+    ensures { λ _.
+        ⌜ now (iterations .exit)
+        ≡ onGive (beginSearchesOf (now (bins .entry)) problem (now (starts .entry)) (lentOf (now (simplexes .entry))
+        (now (iterations .entry)) (now (stopped .entry)) (now (ready .entry)) (now (table .entry)))) (iterationsBegun
+        (runsIn problem (now (starts .entry))) (now (iterations .entry))) (now (iterations .entry)) ⌝ }
+    ensures { λ _.
+        ⌜ now (stopped .exit)
+        ≡ onGive (beginSearchesOf (now (bins .entry)) problem (now (starts .entry)) (lentOf (now (simplexes .entry))
+        (now (iterations .entry)) (now (stopped .entry)) (now (ready .entry)) (now (table .entry)))) (stoppedBegun
+        (runsIn problem (now (starts .entry))) (now (stopped .entry))) (now (stopped .entry)) ⌝ }
+    ensures { λ _.
+        ⌜ now (ready .exit)
+        ≡ readyAfter problem (beginSearchesOf (now (bins .entry)) problem (now (starts .entry)) (lentOf
+        (now (simplexes .entry)) (now (iterations .entry)) (now (stopped .entry)) (now (ready .entry))
+        (now (table .entry)))) (now (ready .entry)) ⌝ }
+    ensures { λ _.
+        ⌜ drop (stoodFrom problem (beginSearchesOf (now (bins .entry)) problem (now (starts .entry)) (lentOf
+        (now (simplexes .entry)) (now (iterations .entry)) (now (stopped .entry)) (now (ready .entry))
+        (now (table .entry))))) (now (table .exit))
+        ≡ drop (stoodFrom problem (beginSearchesOf (now (bins .entry)) problem (now (starts .entry)) (lentOf
+        (now (simplexes .entry)) (now (iterations .entry)) (now (stopped .entry)) (now (ready .entry))
+        (now (table .entry))))) (now (table .entry)) ⌝ }
 {
     let lent = Lent {
         simplexes: simplexes.len(),

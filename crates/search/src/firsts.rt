@@ -36,7 +36,10 @@ fn first_rows(
     table: &mut [f64],
 )
     requires { ⌜ (length (now rows) ≡ w * w) × (length (now start) + 1 ≡ w) × (length (now point) + 1 ≡ w) ⌝ }
-    ensures { λ _. ⌜ rowsIn w w (now (rows .exit)) ≡ firstSimplex (readyPriceOf (now (bins .entry)) problem (now (ready .entry)) (length (now (table .entry)))) (now (start .entry)) ⌝ }
+    ensures { λ _.
+        ⌜ rowsIn w w (now (rows .exit))
+        ≡ firstSimplex (readyPriceOf (now (bins .entry)) problem (now (ready .entry)) (length (now (table .entry))))
+        (now (start .entry)) ⌝ }
     ensures { λ _. ⌜ drop (standsFrom problem) (now (table .exit)) ≡ drop (standsFrom problem) (now (table .entry)) ⌝ }
 {
     let mut i: usize = 0;
@@ -58,7 +61,10 @@ pub(crate) fn first_simplex(
     table: &mut [f64],
 )
     requires { ⌜ (length (now rows) ≡ w * w) × (length (now start) + 1 ≡ w) × (w ≤ 12) ⌝ }
-    ensures { λ _. ⌜ rowsIn w w (now (rows .exit)) ≡ firstSimplex (readyPriceOf (now (bins .entry)) problem (now (ready .entry)) (length (now (table .entry)))) (now (start .entry)) ⌝ }
+    ensures { λ _.
+        ⌜ rowsIn w w (now (rows .exit))
+        ≡ firstSimplex (readyPriceOf (now (bins .entry)) problem (now (ready .entry)) (length (now (table .entry))))
+        (now (start .entry)) ⌝ }
     ensures { λ _. ⌜ drop (standsFrom problem) (now (table .exit)) ≡ drop (standsFrom problem) (now (table .entry)) ⌝ }
 {
     let n = w - 1;

@@ -10,7 +10,10 @@ use crate::rows::swap_next;
 // A row goes behind those after it that cost less, which are in order.
 fn sink(rows: &mut [f64], w: usize, i: usize)
     requires { ⌜ (length (now rows) ≡ w * w) × (w ≤ 12) × (i < w) ⌝ }
-    ensures { λ _. ⌜ rowsIn w w (now (rows .exit)) ≡ take i (rowsIn w w (now (rows .entry))) ++ insert (vertexAt (rowsIn w w (now (rows .entry))) i) (drop (suc i) (rowsIn w w (now (rows .entry)))) ⌝ }
+    ensures { λ _.
+        ⌜ rowsIn w w (now (rows .exit))
+        ≡ take i (rowsIn w w (now (rows .entry))) ++ insert (vertexAt (rowsIn w w (now (rows .entry))) i)
+        (drop (suc i) (rowsIn w w (now (rows .entry)))) ⌝ }
 {
     let mut k = i;
     while k + 1 < w {

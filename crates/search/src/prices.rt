@@ -26,7 +26,10 @@ pub(crate) fn price(
     ready: &[f64],
     table: &mut [f64],
 ) -> f64
-    ensures { λ r. ⌜ r ≡ readyPriceOf (now (bins .entry)) problem (now (ready .entry)) (length (now (table .entry))) (now (list .entry)) ⌝ }
+    ensures { λ r.
+        ⌜ r
+        ≡ readyPriceOf (now (bins .entry)) problem (now (ready .entry)) (length (now (table .entry)))
+        (now (list .entry)) ⌝ }
     ensures { λ _. ⌜ drop (standsFrom problem) (now (table .exit)) ≡ drop (standsFrom problem) (now (table .entry)) ⌝ }
 {
     let error = problem.error;

@@ -11,7 +11,8 @@ ghost use Rattle.meaning.specs.Reply.{firstOf};
 ghost use Rattle.meaning.specs.Rows.{most};
 ghost use Rattle.models.specs.Families.{listLengthOf};
 ghost use Rattle.search.specs.Lists.{listOf};
-ghost use Rattle.search.specs.Reporting.{leastPlace, convergedAt, cappedAt, foundOf, foundAt, reportedAt, reportTests, columnsOf, reportOf};
+ghost use Rattle.search.specs.Reporting.{leastPlace, convergedAt, cappedAt, foundOf, foundAt, reportedAt};
+ghost use Rattle.search.specs.Reporting.{reportTests, columnsOf, reportOf};
 ghost use Rattle.search.specs.Vertices.{rowsIn};
 use crate::prices::iteration_cap;
 use meaning::answers::Written;
@@ -111,13 +112,29 @@ fn write_found(
     caps: &mut [u8],
 )
     requires { ⌜ (0 < w) × (w ≤ 12) × (runs ≤ most) ⌝ }
-    requires { ⌜ (runs * (w * w) ≤ length (now simplexes)) × (runs ≤ length (now iterations)) × (runs ≤ length (now stopped)) ⌝ }
-    requires { ⌜ (runs ≤ length (now converged)) × (runs ≤ length (now costs)) × (runs ≤ length (now places)) × (runs ≤ length (now lengths)) × (runs ≤ length (now caps)) ⌝ }
-    ensures { λ _. ⌜ now (converged .exit) ≡ over (listOf (λ (i : ℕ). byteOf (foundAt w cap runs (now (simplexes .entry)) (now (iterations .entry)) (now (stopped .entry)) i .converged)) runs) (now (converged .entry)) ⌝ }
-    ensures { λ _. ⌜ now (costs .exit) ≡ over (listOf (λ (i : ℕ). foundAt w cap runs (now (simplexes .entry)) (now (iterations .entry)) (now (stopped .entry)) i .cost) runs) (now (costs .entry)) ⌝ }
-    ensures { λ _. ⌜ now (places .exit) ≡ over (listOf (λ (i : ℕ). foundAt w cap runs (now (simplexes .entry)) (now (iterations .entry)) (now (stopped .entry)) i .place) runs) (now (places .entry)) ⌝ }
+    requires { ⌜ (runs * (w * w) ≤ length (now simplexes)) × (runs ≤ length (now iterations))
+        × (runs ≤ length (now stopped)) ⌝ }
+    requires { ⌜ (runs ≤ length (now converged)) × (runs ≤ length (now costs)) × (runs ≤ length (now places))
+        × (runs ≤ length (now lengths)) × (runs ≤ length (now caps)) ⌝ }
+    ensures { λ _.
+        ⌜ now (converged .exit)
+        ≡ over (listOf (λ (i : ℕ). byteOf
+        (foundAt w cap runs (now (simplexes .entry)) (now (iterations .entry)) (now (stopped .entry)) i .converged))
+        runs) (now (converged .entry)) ⌝ }
+    ensures { λ _.
+        ⌜ now (costs .exit)
+        ≡ over (listOf (λ (i : ℕ). foundAt w cap runs (now (simplexes .entry)) (now (iterations .entry))
+        (now (stopped .entry)) i .cost) runs) (now (costs .entry)) ⌝ }
+    ensures { λ _.
+        ⌜ now (places .exit)
+        ≡ over (listOf (λ (i : ℕ). foundAt w cap runs (now (simplexes .entry)) (now (iterations .entry))
+        (now (stopped .entry)) i .place) runs) (now (places .entry)) ⌝ }
     ensures { λ _. ⌜ now (lengths .exit) ≡ over (listOf (λ (i : ℕ). w - 1) runs) (now (lengths .entry)) ⌝ }
-    ensures { λ _. ⌜ now (caps .exit) ≡ over (listOf (λ (i : ℕ). byteOf (foundAt w cap runs (now (simplexes .entry)) (now (iterations .entry)) (now (stopped .entry)) i .«hit_cap»)) runs) (now (caps .entry)) ⌝ }
+    ensures { λ _.
+        ⌜ now (caps .exit)
+        ≡ over (listOf (λ (i : ℕ). byteOf
+        (foundAt w cap runs (now (simplexes .entry)) (now (iterations .entry)) (now (stopped .entry)) i .«hit_cap»))
+        runs) (now (caps .entry)) ⌝ }
 {
     let square = w * w;
     let length = w - 1;
@@ -162,8 +179,8 @@ fn report_refusal(w: usize, runs: usize, lent: Columns) -> u8
     0
 }
 
-// The number of runs, each with its row of the run table; or 2 for more than 65,535, or 10 where a slice is too short. A
-// refusal leaves every slice as it is, and an answer what lies behind the last run.
+// The number of runs, each with its row of the run table; or 2 for more than 65,535, or 10 where a slice is too short.
+// A refusal leaves every slice as it is, and an answer what lies behind the last run.
 pub fn report_searches(
     error: ErrorModel,
     genome: GenomeModel,
@@ -177,12 +194,44 @@ pub fn report_searches(
     lengths: &mut [usize],
     caps: &mut [u8],
 ) -> Written
-    ensures { λ r. ⌜ writtenSays r ≡ reportOf error genome runs (columnsOf (now (simplexes .entry)) (now (iterations .entry)) (now (stopped .entry)) (now (converged .entry)) (now (costs .entry)) (now (places .entry)) (now (lengths .entry)) (now (caps .entry))) ⌝ }
-    ensures { λ _. ⌜ now (converged .exit) ≡ onGive (reportOf error genome runs (columnsOf (now (simplexes .entry)) (now (iterations .entry)) (now (stopped .entry)) (now (converged .entry)) (now (costs .entry)) (now (places .entry)) (now (lengths .entry)) (now (caps .entry)))) (over (listOf (λ (i : ℕ). byteOf (reportedAt error genome runs (now (simplexes .entry)) (now (iterations .entry)) (now (stopped .entry)) i .converged)) runs) (now (converged .entry))) (now (converged .entry)) ⌝ }
-    ensures { λ _. ⌜ now (costs .exit) ≡ onGive (reportOf error genome runs (columnsOf (now (simplexes .entry)) (now (iterations .entry)) (now (stopped .entry)) (now (converged .entry)) (now (costs .entry)) (now (places .entry)) (now (lengths .entry)) (now (caps .entry)))) (over (listOf (λ (i : ℕ). reportedAt error genome runs (now (simplexes .entry)) (now (iterations .entry)) (now (stopped .entry)) i .cost) runs) (now (costs .entry))) (now (costs .entry)) ⌝ }
-    ensures { λ _. ⌜ now (places .exit) ≡ onGive (reportOf error genome runs (columnsOf (now (simplexes .entry)) (now (iterations .entry)) (now (stopped .entry)) (now (converged .entry)) (now (costs .entry)) (now (places .entry)) (now (lengths .entry)) (now (caps .entry)))) (over (listOf (λ (i : ℕ). reportedAt error genome runs (now (simplexes .entry)) (now (iterations .entry)) (now (stopped .entry)) i .place) runs) (now (places .entry))) (now (places .entry)) ⌝ }
-    ensures { λ _. ⌜ now (lengths .exit) ≡ onGive (reportOf error genome runs (columnsOf (now (simplexes .entry)) (now (iterations .entry)) (now (stopped .entry)) (now (converged .entry)) (now (costs .entry)) (now (places .entry)) (now (lengths .entry)) (now (caps .entry)))) (over (listOf (λ (i : ℕ). listLengthOf error genome) runs) (now (lengths .entry))) (now (lengths .entry)) ⌝ }
-    ensures { λ _. ⌜ now (caps .exit) ≡ onGive (reportOf error genome runs (columnsOf (now (simplexes .entry)) (now (iterations .entry)) (now (stopped .entry)) (now (converged .entry)) (now (costs .entry)) (now (places .entry)) (now (lengths .entry)) (now (caps .entry)))) (over (listOf (λ (i : ℕ). byteOf (reportedAt error genome runs (now (simplexes .entry)) (now (iterations .entry)) (now (stopped .entry)) i .«hit_cap»)) runs) (now (caps .entry))) (now (caps .entry)) ⌝ }
+    ensures { λ r.
+        ⌜ writtenSays r
+        ≡ reportOf error genome runs (columnsOf (now (simplexes .entry)) (now (iterations .entry))
+        (now (stopped .entry)) (now (converged .entry)) (now (costs .entry)) (now (places .entry))
+        (now (lengths .entry)) (now (caps .entry))) ⌝ }
+    ensures { λ _.
+        ⌜ now (converged .exit)
+        ≡ onGive (reportOf error genome runs (columnsOf (now (simplexes .entry)) (now (iterations .entry)) (now
+        (stopped .entry)) (now (converged .entry)) (now (costs .entry)) (now (places .entry)) (now (lengths .entry))
+        (now (caps .entry)))) (over (listOf (λ (i : ℕ). byteOf (reportedAt error genome runs (now (simplexes .entry))
+        (now (iterations .entry)) (now (stopped .entry)) i .converged)) runs) (now (converged .entry))) (now
+        (converged .entry)) ⌝ }
+    ensures { λ _.
+        ⌜ now (costs .exit)
+        ≡ onGive (reportOf error genome runs (columnsOf (now (simplexes .entry)) (now (iterations .entry)) (now
+        (stopped .entry)) (now (converged .entry)) (now (costs .entry)) (now (places .entry)) (now (lengths .entry))
+        (now (caps .entry)))) (over (listOf (λ (i : ℕ). reportedAt error genome runs (now (simplexes .entry))
+        (now (iterations .entry)) (now (stopped .entry)) i .cost) runs) (now (costs .entry))) (now (costs .entry)) ⌝ }
+    ensures { λ _.
+        ⌜ now (places .exit)
+        ≡ onGive (reportOf error genome runs (columnsOf (now (simplexes .entry)) (now (iterations .entry)) (now
+        (stopped .entry)) (now (converged .entry)) (now (costs .entry)) (now (places .entry)) (now (lengths .entry))
+        (now (caps .entry)))) (over (listOf (λ (i : ℕ). reportedAt error genome runs (now (simplexes .entry))
+        (now (iterations .entry)) (now (stopped .entry)) i .place) runs) (now (places .entry))) (now (places .entry))
+        ⌝ }
+    ensures { λ _.
+        ⌜ now (lengths .exit)
+        ≡ onGive (reportOf error genome runs (columnsOf (now (simplexes .entry)) (now (iterations .entry))
+        (now (stopped .entry)) (now (converged .entry)) (now (costs .entry)) (now (places .entry))
+        (now (lengths .entry)) (now (caps .entry)))) (over (listOf (λ (i : ℕ). listLengthOf error genome) runs) (now
+        (lengths .entry))) (now (lengths .entry)) ⌝ }
+    ensures { λ _.
+        ⌜ now (caps .exit)
+        ≡ onGive (reportOf error genome runs (columnsOf (now (simplexes .entry)) (now (iterations .entry)) (now
+        (stopped .entry)) (now (converged .entry)) (now (costs .entry)) (now (places .entry)) (now (lengths .entry))
+        (now (caps .entry)))) (over (listOf (λ (i : ℕ). byteOf (reportedAt error genome runs (now (simplexes .entry))
+        (now (iterations .entry)) (now (stopped .entry)) i .«hit_cap»)) runs) (now (caps .entry))) (now (caps .entry))
+        ⌝ }
 {
     let w = list_length(error, genome) + 1;
     let number = report_refusal(

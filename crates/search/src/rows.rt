@@ -12,7 +12,10 @@ pub const WIDEST: usize = 12;
 // Two neighbouring rows change places.
 pub(crate) fn swap_next(rows: &mut [f64], w: usize, i: usize)
     requires { ⌜ (length (now rows) ≡ w * w) × (w ≤ 12) × (i + 1 < w) ⌝ }
-    ensures { λ _. ⌜ rowsIn w w (now (rows .exit)) ≡ set (set (rowsIn w w (now (rows .entry))) i (vertexAt (rowsIn w w (now (rows .entry))) (i + 1))) (i + 1) (vertexAt (rowsIn w w (now (rows .entry))) i) ⌝ }
+    ensures { λ _.
+        ⌜ rowsIn w w (now (rows .exit))
+        ≡ set (set (rowsIn w w (now (rows .entry))) i (vertexAt (rowsIn w w (now (rows .entry))) (i + 1))) (i + 1)
+        (vertexAt (rowsIn w w (now (rows .entry))) i) ⌝ }
 {
     let from = i * w;
     let mid = from + w;
@@ -28,7 +31,8 @@ pub(crate) fn swap_next(rows: &mut [f64], w: usize, i: usize)
 // A vertex in a row: its cost, then its coordinates.
 pub(crate) fn put(rows: &mut [f64], w: usize, i: usize, cost: f64, point: &[f64])
     requires { ⌜ (length (now rows) ≡ w * w) × (i < w) × (length (now point) + 1 ≡ w) ⌝ }
-    ensures { λ _. ⌜ rowsIn w w (now (rows .exit)) ≡ set (rowsIn w w (now (rows .entry))) i (cost ∷ now (point .entry)) ⌝ }
+    ensures { λ _.
+        ⌜ rowsIn w w (now (rows .exit)) ≡ set (rowsIn w w (now (rows .entry))) i (cost ∷ now (point .entry)) ⌝ }
 {
     let at = i * w;
     let from = at + 1;

@@ -7,7 +7,8 @@ ghost use Rattle.meaning.specs.Answers.{writtenSays};
 ghost use Rattle.meaning.specs.Lent.{onGive};
 ghost use Rattle.meaning.specs.Rows.{most};
 ghost use Rattle.search.specs.Prices.{readyPriceOf, priceOf, capOf, widthOf, standsFrom};
-ghost use Rattle.search.specs.Searches.{simplexesAfter, iterationsAfter, stoppedAfter, lentOf, runSearchesOf, stoodFrom, readyAfter};
+ghost use Rattle.search.specs.Searches.{simplexesAfter, iterationsAfter, stoppedAfter, lentOf, runSearchesOf};
+ghost use Rattle.search.specs.Searches.{stoodFrom, readyAfter};
 use crate::prices::iteration_cap;
 use crate::prices::width;
 use crate::refusing::Lent;
@@ -34,10 +35,20 @@ fn run_all(
     ready: &[f64],
     table: &mut [f64],
 )
-    requires { ⌜ (1 < w) × (w ≤ 12) × (cap ≤ 2000) × (runs ≤ most) × (runs * (w * w) ≤ length (now simplexes)) × (runs ≤ length (now iterations)) × (runs ≤ length (now stopped)) ⌝ }
-    ensures { λ _. ⌜ now (simplexes .exit) ≡ simplexesAfter w (now (simplexes .entry)) (now (iterations .entry)) (now (stopped .entry)) runs (readyPriceOf (now (bins .entry)) problem (now (ready .entry)) (length (now (table .entry)))) cap limit ⌝ }
-    ensures { λ _. ⌜ now (iterations .exit) ≡ iterationsAfter w (now (simplexes .entry)) (now (iterations .entry)) (now (stopped .entry)) runs (readyPriceOf (now (bins .entry)) problem (now (ready .entry)) (length (now (table .entry)))) cap limit ⌝ }
-    ensures { λ _. ⌜ now (stopped .exit) ≡ stoppedAfter w (now (simplexes .entry)) (now (iterations .entry)) (now (stopped .entry)) runs (readyPriceOf (now (bins .entry)) problem (now (ready .entry)) (length (now (table .entry)))) cap limit ⌝ }
+    requires { ⌜ (1 < w) × (w ≤ 12) × (cap ≤ 2000) × (runs ≤ most) × (runs * (w * w) ≤ length (now simplexes))
+        × (runs ≤ length (now iterations)) × (runs ≤ length (now stopped)) ⌝ }
+    ensures { λ _.
+        ⌜ now (simplexes .exit)
+        ≡ simplexesAfter w (now (simplexes .entry)) (now (iterations .entry)) (now (stopped .entry)) runs
+        (readyPriceOf (now (bins .entry)) problem (now (ready .entry)) (length (now (table .entry)))) cap limit ⌝ }
+    ensures { λ _.
+        ⌜ now (iterations .exit)
+        ≡ iterationsAfter w (now (simplexes .entry)) (now (iterations .entry)) (now (stopped .entry)) runs
+        (readyPriceOf (now (bins .entry)) problem (now (ready .entry)) (length (now (table .entry)))) cap limit ⌝ }
+    ensures { λ _.
+        ⌜ now (stopped .exit)
+        ≡ stoppedAfter w (now (simplexes .entry)) (now (iterations .entry)) (now (stopped .entry)) runs
+        (readyPriceOf (now (bins .entry)) problem (now (ready .entry)) (length (now (table .entry)))) cap limit ⌝ }
     ensures { λ _. ⌜ drop (standsFrom problem) (now (table .exit)) ≡ drop (standsFrom problem) (now (table .entry)) ⌝ }
 {
     let size = w * w;
@@ -66,9 +77,9 @@ fn run_all(
     }
 }
 
-// Each of the first `runs` runs goes on for at most `limit` turns, and the answer is how many runs there are; 1, 2, 4, 5,
-// 6 or 10 instead. A refusal changes nothing that is lent. `ready` is filled as `prepare_window` fills it, whatever it
-// held; the shelf's table stands as found past the window end, and all of it where the family is plain.
+// Each of the first `runs` runs goes on for at most `limit` turns, and the answer is how many runs there are; 1, 2, 4,
+// 5, 6 or 10 instead. A refusal changes nothing that is lent. `ready` is filled as `prepare_window` fills it, whatever
+// it held; the shelf's table stands as found past the window end, and all of it where the family is plain.
 pub fn run_searches(
     bins: &[u32],
     problem: Problem,
@@ -80,12 +91,43 @@ pub fn run_searches(
     ready: &mut [f64],
     table: &mut [f64],
 ) -> Written
-    ensures { λ r. ⌜ writtenSays r ≡ runSearchesOf (now (bins .entry)) problem runs (lentOf (now (simplexes .entry)) (now (iterations .entry)) (now (stopped .entry)) (now (ready .entry)) (now (table .entry))) ⌝ }
-    ensures { λ _. ⌜ now (simplexes .exit) ≡ onGive (runSearchesOf (now (bins .entry)) problem runs (lentOf (now (simplexes .entry)) (now (iterations .entry)) (now (stopped .entry)) (now (ready .entry)) (now (table .entry)))) (simplexesAfter (widthOf problem) (now (simplexes .entry)) (now (iterations .entry)) (now (stopped .entry)) runs (priceOf (now (bins .entry)) problem (length (now (table .entry)))) (capOf (problem .genome)) limit) (now (simplexes .entry)) ⌝ }
-    ensures { λ _. ⌜ now (iterations .exit) ≡ onGive (runSearchesOf (now (bins .entry)) problem runs (lentOf (now (simplexes .entry)) (now (iterations .entry)) (now (stopped .entry)) (now (ready .entry)) (now (table .entry)))) (iterationsAfter (widthOf problem) (now (simplexes .entry)) (now (iterations .entry)) (now (stopped .entry)) runs (priceOf (now (bins .entry)) problem (length (now (table .entry)))) (capOf (problem .genome)) limit) (now (iterations .entry)) ⌝ }
-    ensures { λ _. ⌜ now (stopped .exit) ≡ onGive (runSearchesOf (now (bins .entry)) problem runs (lentOf (now (simplexes .entry)) (now (iterations .entry)) (now (stopped .entry)) (now (ready .entry)) (now (table .entry)))) (stoppedAfter (widthOf problem) (now (simplexes .entry)) (now (iterations .entry)) (now (stopped .entry)) runs (priceOf (now (bins .entry)) problem (length (now (table .entry)))) (capOf (problem .genome)) limit) (now (stopped .entry)) ⌝ }
-    ensures { λ _. ⌜ now (ready .exit) ≡ readyAfter problem (runSearchesOf (now (bins .entry)) problem runs (lentOf (now (simplexes .entry)) (now (iterations .entry)) (now (stopped .entry)) (now (ready .entry)) (now (table .entry)))) (now (ready .entry)) ⌝ }
-    ensures { λ _. ⌜ drop (stoodFrom problem (runSearchesOf (now (bins .entry)) problem runs (lentOf (now (simplexes .entry)) (now (iterations .entry)) (now (stopped .entry)) (now (ready .entry)) (now (table .entry))))) (now (table .exit)) ≡ drop (stoodFrom problem (runSearchesOf (now (bins .entry)) problem runs (lentOf (now (simplexes .entry)) (now (iterations .entry)) (now (stopped .entry)) (now (ready .entry)) (now (table .entry))))) (now (table .entry)) ⌝ }
+    ensures { λ r.
+        ⌜ writtenSays r
+        ≡ runSearchesOf (now (bins .entry)) problem runs (lentOf (now (simplexes .entry)) (now (iterations .entry))
+        (now (stopped .entry)) (now (ready .entry)) (now (table .entry))) ⌝ }
+    ensures { λ _.
+        ⌜ now (simplexes .exit)
+        ≡ onGive (runSearchesOf (now (bins .entry)) problem runs (lentOf (now (simplexes .entry))
+        (now (iterations .entry)) (now (stopped .entry)) (now (ready .entry)) (now (table .entry)))) (simplexesAfter
+        (widthOf problem) (now (simplexes .entry)) (now (iterations .entry)) (now (stopped .entry)) runs (priceOf
+        (now (bins .entry)) problem (length (now (table .entry)))) (capOf (problem .genome)) limit) (now (simplexes
+        .entry)) ⌝ }
+    ensures { λ _.
+        ⌜ now (iterations .exit)
+        ≡ onGive (runSearchesOf (now (bins .entry)) problem runs (lentOf (now (simplexes .entry))
+        (now (iterations .entry)) (now (stopped .entry)) (now (ready .entry)) (now (table .entry)))) (iterationsAfter
+        (widthOf problem) (now (simplexes .entry)) (now (iterations .entry)) (now (stopped .entry)) runs (priceOf
+        (now (bins .entry)) problem (length (now (table .entry)))) (capOf (problem .genome)) limit) (now (iterations
+        .entry)) ⌝ }
+    ensures { λ _.
+        ⌜ now (stopped .exit)
+        ≡ onGive (runSearchesOf (now (bins .entry)) problem runs (lentOf (now (simplexes .entry))
+        (now (iterations .entry)) (now (stopped .entry)) (now (ready .entry)) (now (table .entry)))) (stoppedAfter
+        (widthOf problem) (now (simplexes .entry)) (now (iterations .entry)) (now (stopped .entry)) runs (priceOf
+        (now (bins .entry)) problem (length (now (table .entry)))) (capOf (problem .genome)) limit) (now (stopped
+        .entry)) ⌝ }
+    ensures { λ _.
+        ⌜ now (ready .exit)
+        ≡ readyAfter problem (runSearchesOf (now (bins .entry)) problem runs (lentOf (now (simplexes .entry))
+        (now (iterations .entry)) (now (stopped .entry)) (now (ready .entry)) (now (table .entry)))) (now (ready
+        .entry)) ⌝ }
+    ensures { λ _.
+        ⌜ drop (stoodFrom problem (runSearchesOf (now (bins .entry)) problem runs (lentOf (now (simplexes .entry))
+        (now (iterations .entry)) (now (stopped .entry)) (now (ready .entry)) (now (table .entry))))) (now (table
+        .exit))
+        ≡ drop (stoodFrom problem (runSearchesOf (now (bins .entry)) problem runs (lentOf (now (simplexes .entry))
+        (now (iterations .entry)) (now (stopped .entry)) (now (ready .entry)) (now (table .entry))))) (now (table
+        .entry)) ⌝ }
 {
     let lent = Lent {
         simplexes: simplexes.len(),

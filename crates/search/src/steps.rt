@@ -31,7 +31,10 @@ pub(crate) fn try_point(
 ) -> f64
     requires { ⌜ (length (now point) ≡ length (now from)) × (length (now point) ≡ length (now other)) ⌝ }
     ensures { λ _. ⌜ now (point .exit) ≡ moved how (now (from .entry)) (now (other .entry)) ⌝ }
-    ensures { λ r. ⌜ r ≡ readyPriceOf (now (bins .entry)) problem (now (ready .entry)) (length (now (table .entry))) (moved how (now (from .entry)) (now (other .entry))) ⌝ }
+    ensures { λ r.
+        ⌜ r
+        ≡ readyPriceOf (now (bins .entry)) problem (now (ready .entry)) (length (now (table .entry)))
+        (moved how (now (from .entry)) (now (other .entry))) ⌝ }
     ensures { λ _. ⌜ drop (standsFrom problem) (now (table .exit)) ≡ drop (standsFrom problem) (now (table .entry)) ⌝ }
 {
     copy(point, from);
@@ -51,7 +54,10 @@ fn shrink(
     table: &mut [f64],
 )
     requires { ⌜ (length (now rows) ≡ w * w) × (length (now best) + 1 ≡ w) × (length (now point) + 1 ≡ w) ⌝ }
-    ensures { λ _. ⌜ rowsIn w w (now (rows .exit)) ≡ shrunk (readyPriceOf (now (bins .entry)) problem (now (ready .entry)) (length (now (table .entry)))) (rowsIn w w (now (rows .entry))) ⌝ }
+    ensures { λ _.
+        ⌜ rowsIn w w (now (rows .exit))
+        ≡ shrunk (readyPriceOf (now (bins .entry)) problem (now (ready .entry)) (length (now (table .entry))))
+        (rowsIn w w (now (rows .entry))) ⌝ }
     ensures { λ _. ⌜ drop (standsFrom problem) (now (table .exit)) ≡ drop (standsFrom problem) (now (table .entry)) ⌝ }
 {
     copy(best, &rows[1..w]);
@@ -88,8 +94,12 @@ fn expand(
     ready: &[f64],
     table: &mut [f64],
 )
-    requires { ⌜ (length (now rows) ≡ w * w) × (length (now centre) + 1 ≡ w) × (length (now point) + 1 ≡ w) × (length (now far) + 1 ≡ w) ⌝ }
-    ensures { λ _. ⌜ rowsIn w w (now (rows .exit)) ≡ expanded (readyPriceOf (now (bins .entry)) problem (now (ready .entry)) (length (now (table .entry)))) (rowsIn w w (now (rows .entry))) (now (centre .entry)) (reflected ∷ now (point .entry)) ⌝ }
+    requires { ⌜ (length (now rows) ≡ w * w) × (length (now centre) + 1 ≡ w) × (length (now point) + 1 ≡ w)
+        × (length (now far) + 1 ≡ w) ⌝ }
+    ensures { λ _.
+        ⌜ rowsIn w w (now (rows .exit))
+        ≡ expanded (readyPriceOf (now (bins .entry)) problem (now (ready .entry)) (length (now (table .entry))))
+        (rowsIn w w (now (rows .entry))) (now (centre .entry)) (reflected ∷ now (point .entry)) ⌝ }
     ensures { λ _. ⌜ drop (standsFrom problem) (now (table .exit)) ≡ drop (standsFrom problem) (now (table .entry)) ⌝ }
 {
     let n = w - 1;
@@ -125,8 +135,12 @@ fn contract_out(
     ready: &[f64],
     table: &mut [f64],
 )
-    requires { ⌜ (length (now rows) ≡ w * w) × (length (now centre) + 1 ≡ w) × (length (now point) + 1 ≡ w) × (length (now near) + 1 ≡ w) ⌝ }
-    ensures { λ _. ⌜ rowsIn w w (now (rows .exit)) ≡ contractedOut (readyPriceOf (now (bins .entry)) problem (now (ready .entry)) (length (now (table .entry)))) (rowsIn w w (now (rows .entry))) (now (centre .entry)) (reflected ∷ now (point .entry)) ⌝ }
+    requires { ⌜ (length (now rows) ≡ w * w) × (length (now centre) + 1 ≡ w) × (length (now point) + 1 ≡ w)
+        × (length (now near) + 1 ≡ w) ⌝ }
+    ensures { λ _.
+        ⌜ rowsIn w w (now (rows .exit))
+        ≡ contractedOut (readyPriceOf (now (bins .entry)) problem (now (ready .entry)) (length (now (table .entry))))
+        (rowsIn w w (now (rows .entry))) (now (centre .entry)) (reflected ∷ now (point .entry)) ⌝ }
     ensures { λ _. ⌜ drop (standsFrom problem) (now (table .exit)) ≡ drop (standsFrom problem) (now (table .entry)) ⌝ }
 {
     let cost = try_point(bins, problem, centre, point, Move::Half, near, ready, table);
@@ -149,7 +163,10 @@ fn contract_in(
     table: &mut [f64],
 )
     requires { ⌜ (length (now rows) ≡ w * w) × (length (now centre) + 1 ≡ w) × (length (now near) + 1 ≡ w) ⌝ }
-    ensures { λ _. ⌜ rowsIn w w (now (rows .exit)) ≡ contractedIn (readyPriceOf (now (bins .entry)) problem (now (ready .entry)) (length (now (table .entry)))) (rowsIn w w (now (rows .entry))) (now (centre .entry)) ⌝ }
+    ensures { λ _.
+        ⌜ rowsIn w w (now (rows .exit))
+        ≡ contractedIn (readyPriceOf (now (bins .entry)) problem (now (ready .entry)) (length (now (table .entry))))
+        (rowsIn w w (now (rows .entry))) (now (centre .entry)) ⌝ }
     ensures { λ _. ⌜ drop (standsFrom problem) (now (table .exit)) ≡ drop (standsFrom problem) (now (table .entry)) ⌝ }
 {
     let n = w - 1;
@@ -185,8 +202,12 @@ fn step_with(
     ready: &[f64],
     table: &mut [f64],
 )
-    requires { ⌜ (length (now rows) ≡ w * w) × (1 < w) × (length (now centre) + 1 ≡ w) × (length (now point) + 1 ≡ w) × (length (now other) + 1 ≡ w) ⌝ }
-    ensures { λ _. ⌜ rowsIn w w (now (rows .exit)) ≡ stepped (readyPriceOf (now (bins .entry)) problem (now (ready .entry)) (length (now (table .entry)))) (rowsIn w w (now (rows .entry))) ⌝ }
+    requires { ⌜ (length (now rows) ≡ w * w) × (1 < w) × (length (now centre) + 1 ≡ w) × (length (now point) + 1 ≡ w)
+        × (length (now other) + 1 ≡ w) ⌝ }
+    ensures { λ _.
+        ⌜ rowsIn w w (now (rows .exit))
+        ≡ stepped (readyPriceOf (now (bins .entry)) problem (now (ready .entry)) (length (now (table .entry))))
+        (rowsIn w w (now (rows .entry))) ⌝ }
     ensures { λ _. ⌜ drop (standsFrom problem) (now (table .exit)) ≡ drop (standsFrom problem) (now (table .entry)) ⌝ }
 {
     let n = w - 1;
@@ -251,7 +272,10 @@ pub(crate) fn step(
     table: &mut [f64],
 )
     requires { ⌜ (length (now rows) ≡ w * w) × (1 < w) × (w ≤ 12) ⌝ }
-    ensures { λ _. ⌜ rowsIn w w (now (rows .exit)) ≡ stepped (readyPriceOf (now (bins .entry)) problem (now (ready .entry)) (length (now (table .entry)))) (rowsIn w w (now (rows .entry))) ⌝ }
+    ensures { λ _.
+        ⌜ rowsIn w w (now (rows .exit))
+        ≡ stepped (readyPriceOf (now (bins .entry)) problem (now (ready .entry)) (length (now (table .entry))))
+        (rowsIn w w (now (rows .entry))) ⌝ }
     ensures { λ _. ⌜ drop (standsFrom problem) (now (table .exit)) ≡ drop (standsFrom problem) (now (table .entry)) ⌝ }
 {
     let n = w - 1;

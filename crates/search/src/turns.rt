@@ -38,7 +38,10 @@ fn turn(
     table: &mut [f64],
 ) -> Progress
     requires { ⌜ (length (now rows) ≡ w * w) × (1 < w) × (w ≤ 12) × (progress .iterations < 2000) ⌝ }
-    ensures { λ r. ⌜ stateOf w (now (rows .exit)) r ≡ nextOf (readyPriceOf (now (bins .entry)) problem (now (ready .entry)) (length (now (table .entry)))) (stateOf w (now (rows .entry)) progress) ⌝ }
+    ensures { λ r.
+        ⌜ stateOf w (now (rows .exit)) r
+        ≡ nextOf (readyPriceOf (now (bins .entry)) problem (now (ready .entry)) (length (now (table .entry))))
+        (stateOf w (now (rows .entry)) progress) ⌝ }
     ensures { λ _. ⌜ drop (standsFrom problem) (now (table .exit)) ≡ drop (standsFrom problem) (now (table .entry)) ⌝ }
 {
     order(rows, w);
@@ -68,7 +71,10 @@ pub(crate) fn run(
     table: &mut [f64],
 ) -> Progress
     requires { ⌜ (length (now rows) ≡ w * w) × (1 < w) × (w ≤ 12) × (cap ≤ 2000) ⌝ }
-    ensures { λ r. ⌜ stateOf w (now (rows .exit)) r ≡ turnsOf (readyPriceOf (now (bins .entry)) problem (now (ready .entry)) (length (now (table .entry)))) cap limit (stateOf w (now (rows .entry)) progress) ⌝ }
+    ensures { λ r.
+        ⌜ stateOf w (now (rows .exit)) r
+        ≡ turnsOf (readyPriceOf (now (bins .entry)) problem (now (ready .entry)) (length (now (table .entry)))) cap
+        limit (stateOf w (now (rows .entry)) progress) ⌝ }
     ensures { λ _. ⌜ drop (standsFrom problem) (now (table .exit)) ≡ drop (standsFrom problem) (now (table .entry)) ⌝ }
 {
     let mut now = progress;

@@ -3,7 +3,8 @@ ghost use mathlib.Core.Path.{_≡_};
 ghost use lib.ListN.{length, take, getD};
 ghost use Rattle.meaning.specs.Over.{over};
 ghost use Rattle.templates.specs.Cut.{putAt, endAt};
-ghost use Rattle.templates.specs.Filling.{nextValue, nextPlace, afterBar, takesValue, isBracket, after, pieceOf, shownOf, filledOf};
+ghost use Rattle.templates.specs.Filling.{nextValue, nextPlace, afterBar, takesValue, isBracket, after, pieceOf};
+ghost use Rattle.templates.specs.Filling.{shownOf, filledOf};
 use crate::decimals::put_decimal;
 use crate::floats::put_float;
 use crate::puts::put_text;
@@ -118,11 +119,13 @@ fn put_shown(out: &mut [u8], at: usize, values: &[u64], s: State, c: u8) -> usiz
     put_piece(out, at, c, value_at(values, next))
 }
 
-// The template with its values, from a place of the lent bytes on, as far as there is room. The answer is the place behind
-// it: the end of the lent bytes says that not all of it may be there.
+// The template with its values, from a place of the lent bytes on, as far as there is room. The answer is the place
+// behind it: the end of the lent bytes says that not all of it may be there.
 pub fn fill(out: &mut [u8], at: usize, template: &[u8], values: &[u64]) -> usize
-    ensures { λ r. ⌜ r ≡ endAt at (filledOf (now (template .entry)) (now (values .entry))) (length (now (out .entry))) ⌝ }
-    ensures { λ _. ⌜ now (out .exit) ≡ putAt at (filledOf (now (template .entry)) (now (values .entry))) (now (out .entry)) ⌝ }
+    ensures { λ r.
+        ⌜ r ≡ endAt at (filledOf (now (template .entry)) (now (values .entry))) (length (now (out .entry))) ⌝ }
+    ensures { λ _.
+        ⌜ now (out .exit) ≡ putAt at (filledOf (now (template .entry)) (now (values .entry))) (now (out .entry)) ⌝ }
 {
     let mut s = State { ahead: 0, next: 0 };
     let mut end = at;
