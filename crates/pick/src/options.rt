@@ -1,9 +1,9 @@
 // The words that the program is started with.
-ghost use Prim.Native.Nat.{_≤_};
 use arguments::numbers::Decimal;
 use arguments::numbers::Whole;
 use arguments::numbers::read_decimal;
 use arguments::numbers::read_whole;
+use meaning::wholes::least;
 
 // The longest word that is read: a longer one is empty to `os::arg`, and no option.
 const LONGEST: usize = 64;
@@ -19,12 +19,6 @@ pub struct DecimalOption {
     pub words: usize,
     pub value: f64,
     pub wrong: bool,
-}
-
-fn least(a: usize, b: usize) -> usize
-    ensures { λ r. ⌜ (r ≤ a) × (r ≤ b) ⌝ }
-{
-    if a < b { a } else { b }
 }
 
 fn more(n: usize) -> usize {

@@ -1,15 +1,15 @@
--- When the port's answer is the row's: of floats, where each is the value of its word's bits. Definitions only.
--- Assumes nothing.
+-- When the port's answer is the row's: each word is the row's, or both are a NaN's. Definitions only. Assumes nothing.
 use Prim.Native.Nat.{ℕ, _<_}
 use mathlib.Core.Path.{_≡_}
 use mathlib.Core.List.{List}
+use mathlib.Core.Logic.{_⊎_}
 use lib.ListN.{length, getD}
-use lib.Ieee.{Float, nan, binary64, ofBits}
+use lib.Ieee.{nan, binary64, ofBits}
 
-abbrev pub WholesAgree : List ℕ → List ℕ → Type 0
-WholesAgree ours words = (length ours ≡ length words) × ((k : ℕ) → k < length ours → getD ours k 0 ≡ getD words k 0)
+-- ours, and the row's: our NaNs have one pattern
+abbrev pub Same : ℕ → ℕ → Type 0
+Same ours theirs = (ours ≡ theirs) ⊎ ((ours ≡ 0x7ff8000000000000) × (ofBits binary64 theirs ≡ nan))
 
-abbrev pub FloatsAgree : List Float → List ℕ → Type 0
-FloatsAgree ours words =
-    (length ours ≡ length words) ×
-    ((k : ℕ) → k < length ours → getD ours k nan ≡ ofBits binary64 (getD words k 0))
+-- the first n of ours, and all of the row's
+abbrev pub Agree : ℕ → List ℕ → List ℕ → Type 0
+Agree n ours row = (n ≡ length row) × ((k : ℕ) → k < n → Same (getD ours k 0) (getD row k 0))

@@ -1,190 +1,109 @@
-// Layer 2: a row's answer by the port. The numbers are those of oracle/src/layer2/.
-use crate::answers::Answer;
-use crate::answers::float;
-use crate::answers::none;
-use crate::answers::number;
-use crate::answers::pair;
-use crate::answers::small;
-use crate::answers::whole;
-use crate::row::Row;
-use crate::shapes::part;
-use crate::words::flag;
-use helpers::hoists::Lobe;
-use helpers::hoists::density;
-use helpers::hoists::lobe_of;
-use helpers::lobes::discrete_nb_mode;
-use helpers::lobes::ln_dnbinom;
-use helpers::lobes::ln_dpois;
-use helpers::log_sums::ln_softmax3;
-use helpers::log_sums::ln_sub_exp;
-use helpers::log_sums::lse2;
-use helpers::log_sums::lse3;
-use helpers::log_sums::sigmoid;
-use helpers::masses::log_nb_mass;
-use helpers::shelves::Shelf;
-use helpers::shelves::ShelfPart;
-use helpers::shelves::ln_dbetabinom;
-use helpers::shelves::ln_single_copy;
-use helpers::shelves::mix_shelf;
-use helpers::shelves::shelf_logs;
-use helpers::shelves::shelf_trials;
+// Layer 2: the port's answer to a row, behind its arguments. The calls' numbers are those of oracle/src/layer2/.
+use crate::parts::shelf;
+use crate::parts::shelf_part;
+use crate::puts::*;
+use crate::slices::floats;
+use crate::words::*;
+use helpers::hoists;
+use helpers::lobes;
+use helpers::log_sums;
+use helpers::masses;
+use helpers::shelves;
 
-const LSE2: u64 = 32;
+// ---- structs
 
-const LSE3: u64 = 33;
-
-const LN_SOFTMAX3: u64 = 34;
-
-const LN_SUB_EXP: u64 = 35;
-
-const SIGMOID: u64 = 36;
-
-const LN_DPOIS: u64 = 37;
-
-const LN_DNBINOM: u64 = 38;
-
-const LOBE_OF: u64 = 39;
-
-const DENSITY: u64 = 40;
-
-const DISCRETE_NB_MODE: u64 = 41;
-
-const LOG_NB_MASS: u64 = 42;
-
-const SHELF_TRIALS: u64 = 44;
-
-const LN_DBETABINOM: u64 = 45;
-
-const LN_SINGLE_COPY: u64 = 47;
-
-const MIX_SHELF: u64 = 48;
-
-const SHELF_LOGS: u64 = 52;
-
-// ---- a few floats
-
-fn of_one(call: u64, x: f64) -> f64 {
-    match call {
-        SIGMOID => sigmoid(x),
-        _ => shelf_trials(x),
-    }
+fn softmax(row: &[u64], out: &mut [u64]) -> usize {
+    let logs = log_sums::ln_softmax3(number(row, 1), number(row, 2), number(row, 3));
+    put_floats(out, 4, &[logs.first, logs.second, logs.third])
 }
 
-fn of_two(call: u64, x: f64, y: f64) -> f64 {
-    match call {
-        LSE2 => lse2(x, y),
-        LN_SUB_EXP => ln_sub_exp(x, y),
-        _ => ln_dpois(x, y),
-    }
+fn lobe(x: f64, y: f64, out: &mut [u64]) -> usize {
+    let l = hoists::lobe_of(x, y);
+    let n = put_flag(out, 3, l.poisson);
+    put_floats(out, n, &[l.mean, l.rate, l.size, l.gamma, l.start, l.slope])
 }
 
-fn of_three(call: u64, x: f64, y: f64, z: f64) -> f64 {
-    match call {
-        LSE3 => lse3(x, y, z),
-        _ => ln_dnbinom(x, y, z),
-    }
-}
-
-fn softmax(x: f64, y: f64, z: f64) -> Answer {
-    let logs = ln_softmax3(x, y, z);
-    small(4, 0, 0, 0, 3, logs.first, logs.second, logs.third)
-}
-
-fn of_floats(call: u64, x: f64, y: f64, z: f64, t: f64) -> Answer {
-    match call {
-        SIGMOID | SHELF_TRIALS => float(2, of_one(call, x)),
-        LSE2 | LN_SUB_EXP | LN_DPOIS => float(3, of_two(call, x, y)),
-        LSE3 | LN_DNBINOM => float(4, of_three(call, x, y, z)),
-        LN_DBETABINOM => float(5, ln_dbetabinom(x, y, z, t)),
-        LN_SOFTMAX3 => softmax(x, y, z),
-        DISCRETE_NB_MODE => whole(3, discrete_nb_mode(x, y)),
-        LOBE_OF => lobe(x, y),
-        _ => none(),
-    }
-}
-
-// ---- a lobe
-
-fn lobe(x: f64, y: f64) -> Answer {
-    let l = lobe_of(x, y);
-    Answer {
-        at: 3,
-        wholes: 1,
-        floats: 6,
-        n: [flag(l.poisson), 0, 0, 0, 0, 0, 0],
-        x: [
-            l.mean,
-            l.rate,
-            l.size,
-            l.gamma,
-            l.start,
-            l.slope,
-            0.0,
-            0.0,
-            0.0,
-            0.0,
-            0.0,
-            0.0,
-            0.0,
-            0.0,
-            0.0,
-            0.0,
-            0.0,
-            0.0,
-            0.0,
-            0.0,
-            0.0,
-            0.0,
-            0.0,
-            0.0,
-            0.0,
-            0.0,
-            0.0,
-        ],
-    }
-}
-
-fn density_at(r: Row) -> f64 {
-    let lobe = Lobe {
-        poisson: r.w1 != 0,
-        mean: r.x2,
-        rate: r.x3,
-        size: r.x4,
-        gamma: r.x5,
-        start: r.x6,
-        slope: r.x7,
+fn density(row: &[u64]) -> f64 {
+    let lobe = hoists::Lobe {
+        poisson: word(row, 1) != 0,
+        mean: number(row, 2),
+        rate: number(row, 3),
+        size: number(row, 4),
+        gamma: number(row, 5),
+        start: number(row, 6),
+        slope: number(row, 7),
     };
-    density(lobe, r.x8)
+    hoists::density(lobe, number(row, 8))
 }
 
-// ---- masses and shelves
-
-fn single(r: Row) -> f64 {
-    ln_single_copy(r.x1, r.x2, r.x3, part(r.w4, r.x5, r.x6, r.x7))
+fn logs(row: &[u64], out: &mut [u64]) -> usize {
+    let logs = shelves::shelf_logs(shelf_part(row, 1));
+    put_pair(out, 5, logs.rest, logs.share)
 }
 
-fn mixed(r: Row) -> f64 {
-    let shelf = Shelf {
-        share: r.x2,
-        alpha: r.x3,
-        beta: r.x4,
+// ---- tables
+
+fn log_table(row: &[u64], out: &mut [u64]) -> usize {
+    let mut room = [0.0; MOST];
+    let table = floats(row, 6, &mut room);
+    let x = number(row, 1);
+    let got = shelves::shelf_log_table(x, shelf(row, 2), size(row, 5), table);
+    put_lent(out, past(row, 6), got, table)
+}
+
+fn entry(row: &[u64], table: &[f64]) -> f64 {
+    let logs = shelves::ShelfLogs {
+        rest: number(row, 1),
+        share: number(row, 2),
     };
-    mix_shelf(r.x1, shelf, r.x5)
+    let y = number(row, 4);
+    shelves::mix_entry(number(row, 3), y, shelf_part(row, 5), logs, table)
 }
 
-fn logs(shelf: ShelfPart) -> Answer {
-    let logs = shelf_logs(shelf);
-    pair(5, logs.rest, logs.share)
+fn of_table(row: &[u64], table: &[f64], at: usize, out: &mut [u64]) -> usize {
+    let x = number(row, 1);
+    let y = number(row, 2);
+    let part = shelf_part(row, 3);
+    let n = size(row, 7);
+    match word(row, 0) {
+        49 => put_float(out, at, shelves::mix_single_copy(x, y, part, table)),
+        50 => put_number(out, at, masses::single_copy_log_mass(x, y, part, table, n)),
+        _ => put_float(out, at, entry(row, table)),
+    }
 }
 
-pub(crate) fn answer(r: Row) -> Answer {
-    let call = r.call;
-    match call {
-        DENSITY => float(9, density_at(r)),
-        LOG_NB_MASS => number(4, log_nb_mass(r.x1, r.x2, r.w3 as usize)),
-        LN_SINGLE_COPY => float(8, single(r)),
-        MIX_SHELF => float(6, mixed(r)),
-        SHELF_LOGS => logs(part(r.w1, r.x2, r.x3, r.x4)),
-        _ => of_floats(call, r.x1, r.x2, r.x3, r.x4),
+fn with_table(row: &[u64], at: usize, out: &mut [u64]) -> usize {
+    let mut room = [0.0; MOST];
+    let table = floats(row, at, &mut room);
+    of_table(row, table, past(row, at), out)
+}
+
+pub(crate) fn answer(row: &[u64], out: &mut [u64]) -> usize {
+    let x = number(row, 1);
+    let y = number(row, 2);
+    let z = number(row, 3);
+    let t = number(row, 4);
+    match word(row, 0) {
+        32 => put_float(out, 3, log_sums::lse2(x, y)),
+        33 => put_float(out, 4, log_sums::lse3(x, y, z)),
+        34 => softmax(row, out),
+        35 => put_float(out, 3, log_sums::ln_sub_exp(x, y)),
+        36 => put_float(out, 2, log_sums::sigmoid(x)),
+        37 => put_float(out, 3, lobes::ln_dpois(x, y)),
+        38 => put_float(out, 4, lobes::ln_dnbinom(x, y, z)),
+        39 => lobe(x, y, out),
+        40 => put_float(out, 9, density(row)),
+        41 => put(out, 3, lobes::discrete_nb_mode(x, y)),
+        42 => put_number(out, 4, masses::log_nb_mass(x, y, size(row, 3))),
+        44 => put_float(out, 2, shelves::shelf_trials(x)),
+        45 => put_float(out, 5, shelves::ln_dbetabinom(x, y, z, t)),
+        46 => log_table(row, out),
+        47 => put_float(out, 8, shelves::ln_single_copy(x, y, z, shelf_part(row, 4))),
+        48 => put_float(out, 6, shelves::mix_shelf(x, shelf(row, 2), number(row, 5))),
+        49 => with_table(row, 7, out),
+        50 => with_table(row, 8, out),
+        52 => logs(row, out),
+        53 => with_table(row, 9, out),
+        _ => 0,
     }
 }

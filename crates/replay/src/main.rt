@@ -1,20 +1,15 @@
 // Replays the sample of the oracle's answers on standard input, and says how many rows it read and how many the port
 // answers otherwise.
-mod answers;
-mod cutoff_rows;
+mod attempts;
 mod fits;
 mod layer1;
 mod layer2;
 mod layer3;
-mod lent;
-mod row;
+mod layer4;
+mod parts;
+mod puts;
 mod rows;
-mod run_tables;
-mod shapes;
 mod slices;
-mod spectra;
-mod starts;
-mod verdict_rows;
 mod words;
 
 use libc::STDIN_FILENO;
@@ -31,7 +26,7 @@ fn read_some(words: &mut [u64], replay: Replay) -> Replay {
 
 // A proved loop has to end, and nothing says that the input does: so the turns are counted down.
 fn read_all(words: &mut [u64]) -> Replay {
-    let mut replay = rows::begin();
+    let mut replay = rows::begin(0, 0);
     let mut turns = u64::MAX;
     while turns > 0 && replay.open {
         replay = read_some(words, replay);

@@ -1,85 +1,68 @@
 // A row is a line of hexadecimal words with a space between: the call's number, its arguments, its answer. A line that
 // starts with # is a comment.
-use crate::answers::Answer;
-use crate::answers::agrees;
-use crate::cutoff_rows;
-use crate::fits;
 use crate::layer1;
 use crate::layer2;
 use crate::layer3;
-use crate::lent;
-use crate::row;
-use crate::row::Row;
-use crate::run_tables;
-use crate::slices;
-use crate::spectra;
-use crate::starts;
-use crate::verdict_rows;
-use crate::words::digit;
+use crate::layer4;
+use crate::puts::put_words;
+use crate::words::*;
 
-// Where the replay stands: the word of the row that is being read, whether the row is a comment or has a byte that no
-// row has, the rows and the differences so far, and whether there may be more to read.
+// Where the replay stands: the word of the row that is being read, which lies behind the last where the row has a byte
+// that no row has; whether the row is a comment, the rows and the differences so far, and whether there may be more.
 pub(crate) struct Replay {
     pub place: usize,
     pub comment: bool,
-    pub broken: bool,
     pub rows: u64,
     pub differences: u64,
     pub open: bool,
 }
 
-pub(crate) fn begin() -> Replay {
+// At the first word of a row, behind so many.
+pub(crate) fn begin(rows: u64, differences: u64) -> Replay {
     Replay {
         place: 0,
         comment: false,
-        broken: false,
-        rows: 0,
-        differences: 0,
+        rows,
+        differences,
         open: true,
     }
 }
 
-// The port's answer, of the calls that take no slice and no fit.
-fn answer(r: Row) -> Answer {
-    if r.call < 32 {
-        return layer1::answer(r);
+// The port's answer over the row's own; the place behind it, and 0 for a call that there is not.
+fn answer(row: &[u64], out: &mut [u64]) -> usize {
+    match word(row, 0) {
+        0..=31 => layer1::answer(row, out),
+        32..=63 => layer2::answer(row, out),
+        64..=95 => layer3::answer(row, out),
+        _ => layer4::answer(row, out),
     }
-    if r.call < 64 {
-        return layer2::answer(r);
-    }
-    layer3::answer(r)
 }
 
-// Whether the port gives the row's answer.
+// Whether the row is its own arguments, and the port's answer behind them.
 fn holds(row: &[u64]) -> bool {
-    let r = row::read(row);
-    let call = r.call;
-    match call {
-        lent::SHELF_LOG_TABLE | lent::COST | lent::UNPACK => lent::holds(r, row),
-        slices::MIX_SINGLE_COPY..=slices::SINGLE_COPY_LOG_MASS
-        | slices::MIX_ENTRY
-        | slices::PARAMS_FROM => agrees(slices::answer(r, row), row),
-        fits::COMPONENT_TOTAL_RATIO..=fits::COMPONENT_HEIGHTS => {
-            agrees(fits::answer(call, row), row)
-        }
-        cutoff_rows::HOLE_CUTOFF..=cutoff_rows::CROSSOVER | cutoff_rows::ERROR_FLOOR_CUTOFF => {
-            agrees(cutoff_rows::answer(call, row), row)
-        }
-        spectra::RECOVER_BINS | spectra::EMPIRICAL_SHELF_SHARE => spectra::holds(r, row),
-        starts::START_TABLES_REFUSAL..=starts::FIT_STARTS_LENT => starts::holds(r, row),
-        verdict_rows::VALIDATE_FIT..=verdict_rows::SELECT_FIT => verdict_rows::holds(call, row),
-        run_tables::ATTEMPT_FROM_NUMBERS => run_tables::holds(r, row),
-        _ => agrees(answer(r), row),
-    }
+    let mut ours = [0u64; MOST];
+    put_words(&mut ours, 0, row);
+    let end = answer(row, &mut ours);
+    agrees(&ours, end, row)
 }
 
 // The same of the words up to the one at `place`.
 fn holds_to(words: &[u64], place: usize) -> bool {
     if place < words.len() {
-        let end = place + 1;
-        return holds(&words[..end]);
+        return holds(first(words, place + 1));
     }
     false
+}
+
+// A hexadecimal digit's value, and 16 for any other byte.
+fn digit(b: u8) -> u64 {
+    if b >= b'0' && b <= b'9' {
+        return (b - b'0') as u64;
+    }
+    if b >= b'a' && b <= b'f' {
+        return (b - b'a') as u64 + 10;
+    }
+    16
 }
 
 // One more, up to the largest.
@@ -87,25 +70,14 @@ fn next(n: u64) -> u64 {
     if n < u64::MAX { n + 1 } else { n }
 }
 
-fn end_row(words: &mut [u64], r: Replay) -> Replay {
-    let place = r.place;
-    let mut rows = r.rows;
-    let mut differences = r.differences;
-    if !r.comment {
-        rows = next(rows);
-        if r.broken || !holds_to(words, place) {
-            differences = next(differences);
-        }
+fn end_row(words: &[u64], r: Replay) -> Replay {
+    if r.comment {
+        return begin(r.rows, r.differences);
     }
-    start_word(words, 0);
-    Replay {
-        place: 0,
-        comment: false,
-        broken: false,
-        rows,
-        differences,
-        open: true,
+    if !holds_to(words, r.place) {
+        return begin(next(r.rows), next(r.differences));
     }
+    begin(next(r.rows), r.differences)
 }
 
 fn start_word(words: &mut [u64], place: usize) {
@@ -126,19 +98,19 @@ fn end_word(words: &mut [u64], r: Replay) -> Replay {
 fn take_digit(words: &mut [u64], r: Replay, d: u64) -> Replay {
     let mut next = r;
     let place = r.place;
-    if d < 16 {
-        if place < words.len() {
-            words[place] = words[place] % 0x1000_0000_0000_0000 * 16 + d;
-        }
-    } else {
-        next.broken = true;
+    if d > 15 {
+        next.place = words.len();
+    } else if place < words.len() {
+        words[place] = words[place] % 0x1000_0000_0000_0000 * 16 + d;
     }
     next
 }
 
 fn take(words: &mut [u64], r: Replay, b: u8) -> Replay {
     if b == b'\n' {
-        return end_row(words, r);
+        let next = end_row(words, r);
+        start_word(words, 0);
+        return next;
     }
     if r.comment {
         return r;
