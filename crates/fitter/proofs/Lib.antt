@@ -1,4 +1,6 @@
 -- Laws of this layer.
+-- ---- the window
+pub mod Windows
 -- ---- recovery and the shelf share
 pub mod Recovered
 pub mod ShareTests

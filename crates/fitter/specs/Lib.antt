@@ -1,4 +1,6 @@
--- ---- document 01, in its order: recovery, the shelf's share and the starts; the ten rules; attempts and selection
+-- ---- document 01, in its order: what is asked; recovery, the shelf's share and the starts; the ten rules; attempts
+-- and selection
+pub mod Asking
 pub mod Recovering
 pub mod Shares
 pub mod StartTables

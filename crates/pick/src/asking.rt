@@ -3,8 +3,8 @@ use crate::options::all_known;
 use crate::options::decimal_option;
 use crate::options::flag_words;
 use crate::options::whole_option;
+use fitter::asking::Asked;
 use libc::STDERR_FILENO;
-use record::heads::Asked;
 
 // What a caller who says nothing gets: the original's values.
 const SCALE: f64 = 1.0;

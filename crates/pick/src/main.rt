@@ -6,6 +6,8 @@ mod searches;
 mod showing;
 
 use asking::read_words;
+use fitter::asking::Asked;
+use fitter::asking::window_end_of;
 use fitter::shares::empirical_shelf_share;
 use helpers::answers::Number;
 use histogram::reader::FileRead;
@@ -16,9 +18,6 @@ use models::families::ErrorModel;
 use models::families::GenomeModel;
 use progress::Watch;
 use progress::seconds;
-use record::heads::Asked;
-use record::heads::window_end_of;
-use record::records::last_line;
 use record::records::write_broken;
 use record::records::write_record;
 use record::records::write_refused;
@@ -29,7 +28,7 @@ use showing::LONGEST_RECORD;
 use showing::complain;
 use showing::give_up;
 use showing::show;
-use showing::tell;
+use showing::tell_failed;
 use streams::input::Input;
 use streams::input::read_input;
 
@@ -60,19 +59,16 @@ fn pick_bins(bins: &[u32], asked: Asked, watch: Watch, status: bool) {
     );
     let number = refusal(bins, shelf);
     if number != 0 {
-        let size = write_refused(asked, bins.len(), number, &mut text);
-        show(&text, size, 3, status);
+        let refused = write_refused(asked, bins.len(), number, &mut text);
+        let last = refused.last;
+        show(&text, refused.size, last, status);
         return;
     }
     let share = value(empirical_shelf_share(bins, asked.scale, asked.valley, asked.peak));
-    let pareto = ErrorModel::SingletonPareto;
-    let weibull = ErrorModel::FreeSingletonWeibull;
-    let plain = GenomeModel::NegativeBinomial;
-    let shelved = GenomeModel::ShelfNegativeBinomial;
-    let a = attempt(bins, asked, end, share, pareto, plain, 1, watch);
-    let b = attempt(bins, asked, end, share, weibull, plain, 2, watch);
-    let c = attempt(bins, asked, end, share, pareto, shelved, 3, watch);
-    let d = attempt(bins, asked, end, share, weibull, shelved, 4, watch);
+    let a = attempt(bins, asked, end, share, 1, watch);
+    let b = attempt(bins, asked, end, share, 2, watch);
+    let c = attempt(bins, asked, end, share, 3, watch);
+    let d = attempt(bins, asked, end, share, 4, watch);
     if !a.whole || !b.whole || !c.whole || !d.whole {
         give_up(status);
         return;
@@ -81,9 +77,9 @@ fn pick_bins(bins: &[u32], asked: Asked, watch: Watch, status: bool) {
     let two = b.attempt;
     let three = c.attempt;
     let four = d.attempt;
-    let size = write_record(asked, bins.len(), one, two, three, four, &mut text);
-    let last = last_line(asked, one, two, three, four);
-    show(&text, size, last.kind, status);
+    let record = write_record(asked, bins.len(), one, two, three, four, &mut text);
+    let last = record.last;
+    show(&text, record.size, last, status);
 }
 
 fn pick_file(file: &[u8], asked: Asked, watch: Watch, status: bool) {
@@ -93,8 +89,9 @@ fn pick_file(file: &[u8], asked: Asked, watch: Watch, status: bool) {
     match read {
         FileRead::Bins(n) => pick_bins(first_bins(&bins, n), asked, watch, status),
         FileRead::Broken(place) => {
-            let size = write_broken(asked, place, &mut text);
-            show(&text, size, 3, status);
+            let broken = write_broken(asked, place, &mut text);
+            let last = broken.last;
+            show(&text, broken.size, last, status);
         }
         FileRead::Refused(_) => complain(b"pick: the bins do not fit, which can't be\n", status),
     }
@@ -109,7 +106,7 @@ fn main() {
         began: seconds(),
     };
     if !a.fine {
-        tell(4, a.status);
+        tell_failed(a.status);
         return;
     }
     let mut file = [0u8; ENOUGH];
@@ -118,7 +115,7 @@ fn main() {
         Input::Bytes(n) => pick_file(&file[..n], asked, watch, a.status),
         Input::Failed => {
             os::fail(b"pick: reading");
-            tell(4, a.status);
+            tell_failed(a.status);
         }
     }
 }

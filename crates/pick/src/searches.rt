@@ -3,6 +3,10 @@ ghost use Prim.Native.Nat.{_<_, _≤_};
 use crate::progress::Watch;
 use crate::progress::say;
 use crate::showing::is_heard;
+use fitter::asking::Asked;
+use fitter::asking::SEEDS;
+use fitter::asking::SHAPES;
+use fitter::asking::configuration;
 use fitter::attempting::attempt_from_numbers;
 use fitter::attempts::FitAttempt;
 use fitter::starts::fit_starts;
@@ -12,10 +16,7 @@ use meaning::flags::is_set;
 use models::families::ErrorModel;
 use models::families::GenomeModel;
 use models::problems::Problem;
-use record::heads::Asked;
-use record::heads::SEEDS;
-use record::heads::SHAPES;
-use record::values::pattern;
+use routines::bits::pattern;
 use search::beginning::begin_searches;
 use search::reporting::report_searches;
 use search::searching::run_searches;
@@ -234,11 +235,12 @@ pub(crate) fn attempt(
     asked: Asked,
     end: usize,
     share: f64,
-    error: ErrorModel,
-    genome: GenomeModel,
     k: u64,
     watch: Watch,
 ) -> Attempted {
+    let families = configuration(k);
+    let error = families.error;
+    let genome = families.genome;
     let seeds = SEEDS;
     let shapes = SHAPES;
     let problem = problem_of(asked, end, error, genome);

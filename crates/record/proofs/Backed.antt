@@ -17,59 +17,95 @@ use Rattle.models.specs.ClaimsCutoff.{removedBy, allowedShare, AtMost, Exceeds,
 use Rattle.models.specs.Cutoffs.{Sureness, sure, notSure, noWalk, allowedOf, ceilingOf, holeCutoffOf, holeCutoffSureOf}
 use Rattle.models.proofs.HoleCutoffs.{told-same, sure-supposed, sure-keeps, hole-cutoff-range}
 use Rattle.models.proofs.Lower.{lower-keeps, least-kept, least-broken}
+use Rattle.fitter.specs.declared.asking.Asked.{Asked}
 use Rattle.fitter.specs.declared.selection.Selected.{Selected}
 use Rattle.models.specs.declared.fit.SpectrumFit.{SpectrumFit}
-use Rattle.record.specs.Answers.{smallerOf, answerPlace, answerOf, isBelow, byHole, leastRemoved, leastKind}
-use Rattle.record.specs.Answers.{noFit, cutoffLast, cutoffNone, unsureLast, isUnsure, lastIn}
+use Rattle.record.specs.Answers.{smallerOf, answerPlace, answerOf, isBelow, byHole, leastRemoved, leastAt}
+use Rattle.record.specs.Answers.{leastKind}
+use Rattle.record.specs.Answers.{isLow, backedBy, lastIn, lastNumber, lastPlace}
 use Rattle.record.specs.Attempts.{cutoffsOf}
 use Rattle.record.specs.Record.{chosenLast, lastOf}
-use Rattle.record.specs.Values.{whyNot, holeIn, holeOf}
+use Rattle.record.specs.Values.{sureNumber, whyNot, holeIn, holeOf}
+use Rattle.record.specs.declared.answers.Answer.{Answer}
 use Rattle.record.specs.declared.answers.Last.{Last}
-use Rattle.record.specs.declared.heads.Asked.{Asked}
+use Rattle.record.specs.declared.answers.Last.the-variants.{Cutoff, Unsure, NoFit}
 use Rattle.record.specs.declared.values.Hole.{Hole}
+use Rattle.record.specs.declared.values.HowSure.{HowSure}
+use Rattle.record.specs.declared.values.HowSure.the-variants.{Sure, NotFinite, NotProbable}
 use Rattle.record.specs.declared.values.Place.{Place}
+use Rattle.record.specs.declared.values.Place.the-variants.{Nothing, At, Unknown}
 
 -- ---- the last line of a reply to `hole_cutoff_sure`
-abbrev lineOf : ℕ → Bool → Bool → Hole → Last
-lineOf valley by below h = lastIn h (record { place = answerPlace valley (h .place); hole = by; below = below })
+-- why it is not sure, by the test of the share
+abbrev why : Bool → HowSure
+why f = cond f NotProbable NotFinite
 
--- a count: the walk found one, the line has the smaller of that and the valley, and a cutoff is of a sure one
-record Counted (valley : ℕ) (reply : Reply Sureness) (l : Last) : Type 0 where
+abbrev answered : Bool → Bool → Place → Answer
+answered by below p = record { place = p; hole = by; below = below }
+
+abbrev lineOf : ℕ → Bool → Bool → Hole → Last
+lineOf valley by below h = lastIn (h .how) (answered by below (answerPlace valley (h .place)))
+
+-- of a sure hole it has the answer, sure or not
+shows : (a : Answer) → lastPlace (backedBy a) ≡ a .place
+unfolding backedBy
+shows a = go (isLow a)
+  where
+    go : (b : Bool) → lastPlace (cond b (Unsure (a .place)) (Cutoff (a .place))) ≡ a .place
+    go true = refl
+    go false = refl
+
+nothing : (n : ℕ) → Nothing ≡ At n → ⊥
+nothing n e = let z : _≡_ {A = ℕ} 0 1 = cc in omega arith
+
+same-count : (m n : ℕ) → At m ≡ At n → n ≡ m
+same-count m n e = cc
+
+-- a count: the walk found one, and the line has the smaller of that and the valley
+record Counted (valley n : ℕ) (reply : Reply Sureness) : Type 0 where
   hole : ℕ
   told : toldOf reply ≡ give (some hole)
-  at : l .at ≡ smallerOf valley hole
-  certain : l .kind ≡ 0 → reply ≡ give (sure (some hole))
+  at : n ≡ smallerOf valley hole
 
-counted : (valley : ℕ) (f by below : Bool) (reply : Reply Sureness)
-    → let l = lineOf valley by below (holeIn (cond f 2 1) reply) in
-    l .kind ≤ 1 → l .part ≡ 1 → Counted valley reply l
-unfolding lastIn answerPlace isUnsure
-counted valley f by below (refuse n) k p = absurd (omega arith)
-counted valley f by below (broken place) k p = absurd (omega arith)
-counted valley f by below (give (sure none)) k p = absurd (omega arith)
-counted valley f by below (give (sure (some c))) k p =
-    record { hole = c; told = refl; at = refl; certain = λ (z : _). refl }
-counted valley true by below (give (notSure none)) k p = absurd (omega arith)
-counted valley false by below (give (notSure none)) k p = absurd (omega arith)
-counted valley true by below (give (notSure (some c))) k p =
-    record { hole = c; told = refl; at = refl; certain = λ (z : _≡_ {A = ℕ} 1 0). absurd (omega arith) }
-counted valley false by below (give (notSure (some c))) k p =
-    record { hole = c; told = refl; at = refl; certain = λ (z : _≡_ {A = ℕ} 1 0). absurd (omega arith) }
-counted valley f by below (give noWalk) k p = absurd (omega arith)
+counted : (valley n : ℕ) (f by below : Bool) (reply : Reply Sureness)
+    → let l = lineOf valley by below (holeIn (why f) reply) in
+    lastNumber l ≤ 1 → lastPlace l ≡ At n → Counted valley n reply
+counted valley n f by below (refuse m) k p = absurd (omega arith)
+counted valley n f by below (broken place) k p = absurd (omega arith)
+counted valley n f by below (give (sure none)) k p = absurd (nothing n (sym (shows (answered by below Nothing)) ∙ p))
+counted valley n f by below (give (sure (some c))) k p =
+    let smaller = smallerOf valley c in
+    record { hole = c; told = refl; at = same-count smaller n (sym (shows (answered by below (At smaller))) ∙ p) }
+counted valley n true by below (give (notSure none)) k p = absurd (nothing n p)
+counted valley n false by below (give (notSure none)) k p = absurd (nothing n p)
+counted valley n true by below (give (notSure (some c))) k p =
+    record { hole = c; told = refl; at = same-count (smallerOf valley c) n p }
+counted valley n false by below (give (notSure (some c))) k p =
+    record { hole = c; told = refl; at = same-count (smallerOf valley c) n p }
+counted valley n f by below (give noWalk) k p = absurd (nothing n p)
+
+-- a cutoff: the walk is sure
+certain : (valley : ℕ) (f by below : Bool) (reply : Reply Sureness)
+    → lastNumber (lineOf valley by below (holeIn (why f) reply)) ≡ 0 → (a : Option ℕ) × (reply ≡ give (sure a))
+certain valley f by below (refuse m) k = absurd (omega arith)
+certain valley f by below (broken place) k = absurd (omega arith)
+certain valley f by below (give (sure a)) k = (a, refl)
+certain valley true by below (give (notSure a)) k = absurd (omega arith)
+certain valley false by below (give (notSure a)) k = absurd (omega arith)
+certain valley f by below (give noWalk) k = absurd (omega arith)
 
 -- none, and a cutoff: the walk found none, and it is sure
 uncounted : (valley : ℕ) (f by below : Bool) (reply : Reply Sureness)
-    → let l = lineOf valley by below (holeIn (cond f 2 1) reply) in
-    l .kind ≡ 0 → l .part ≡ 0 → reply ≡ give (sure none)
-unfolding lastIn answerPlace isUnsure
-uncounted valley f by below (refuse n) k p = absurd (omega arith)
+    → let l = lineOf valley by below (holeIn (why f) reply) in
+    lastNumber l ≡ 0 → lastPlace l ≡ Nothing → reply ≡ give (sure none)
+uncounted valley f by below (refuse m) k p = absurd (omega arith)
 uncounted valley f by below (broken place) k p = absurd (omega arith)
 uncounted valley f by below (give (sure none)) k p = refl
-uncounted valley f by below (give (sure (some c))) k p = absurd (omega arith)
-uncounted valley true by below (give (notSure none)) k p = absurd (omega arith)
-uncounted valley false by below (give (notSure none)) k p = absurd (omega arith)
-uncounted valley true by below (give (notSure (some c))) k p = absurd (omega arith)
-uncounted valley false by below (give (notSure (some c))) k p = absurd (omega arith)
+uncounted valley f by below (give (sure (some c))) k p =
+    let smaller = smallerOf valley c in
+    absurd (nothing smaller (sym p ∙ shows (answered by below (At smaller))))
+uncounted valley true by below (give (notSure a)) k p = absurd (omega arith)
+uncounted valley false by below (give (notSure a)) k p = absurd (omega arith)
 uncounted valley f by below (give noWalk) k p = absurd (omega arith)
 
 smaller-below : (valley hole : ℕ) → 2 ≤ hole → smallerOf valley hole ≤ hole
@@ -97,79 +133,79 @@ module _ (asked : Asked) (fit : SpectrumFit) where
   same-hole : (h : ℕ) → toldOf reply ≡ give (some h) → holeCutoffOf fit budget ≡ give (some h)
   same-hole h e = sym (told-same fit budget) ∙ e
 
-  keeps : (n : ℕ) → Supposed fit budget → 3 ≤ n → (c : Counted (asked .valley) reply (chosenLast asked fit))
-      → chosenLast asked fit .at ≡ n → AtMost (removedBy fit n) (allowedShare fit budget)
-  keeps n s three c e =
+  keeps : (n : ℕ) → Supposed fit budget → 3 ≤ n → Counted (asked .valley) n reply
+      → AtMost (removedBy fit n) (allowedShare fit budget)
+  keeps n s three c =
       let hole = c .hole in
       let found = same-hole hole (c .told) in
       let small : smallerOf (asked .valley) hole ≤ hole = smaller-below (asked .valley) hole
       (hole-cutoff-range fit budget hole found .0) in
-      let same : n ≡ smallerOf (asked .valley) hole = sym e ∙ c .at in
+      let same : n ≡ smallerOf (asked .valley) hole = c .at in
       let most : n ≤ hole = omega arith in
       lower-keeps fit budget s hole found (le-trans three most) n most
 
-  chosen-cutoff : (n : ℕ) → chosenLast asked fit ≡ cutoffLast n → 3 ≤ n
+  counts : (n : ℕ) → lastNumber (chosenLast asked fit) ≤ 1 → lastPlace (chosenLast asked fit) ≡ At n
+      → Counted (asked .valley) n reply
+  unfolding chosenLast answerOf whyNot
+  counts n k p = counted (asked .valley) n (finite (allowedOf fit budget)) by below reply k p
+
+  chosen-cutoff : (n : ℕ) → chosenLast asked fit ≡ Cutoff (At n) → 3 ≤ n
       → AtMost (removedBy fit n) (allowedShare fit budget)
   unfolding chosenLast answerOf whyNot
   chosen-cutoff n e three =
-      let kind : chosenLast asked fit .kind ≡ 0 = ap (λ (l : Last). l .kind) e in
-      let part : chosenLast asked fit .part ≡ 1 = ap (λ (l : Last). l .part) e in
-      let c = counted (asked .valley) (finite (allowedOf fit budget)) by below reply (omega arith) part in
-      keeps n (sure-supposed fit budget (some (c .hole)) (c .certain kind)) three c (ap (λ (l : Last). l .at) e)
+      let kind : lastNumber (chosenLast asked fit) ≡ 0 = ap lastNumber e in
+      let c = certain (asked .valley) (finite (allowedOf fit budget)) by below reply kind in
+      keeps n (sure-supposed fit budget (c .0) (c .1)) three (counts n (omega arith) (ap lastPlace e))
 
-  chosen-unsure : (n : ℕ) → Supposed fit budget → chosenLast asked fit ≡ unsureLast n → 3 ≤ n
+  chosen-unsure : (n : ℕ) → Supposed fit budget → chosenLast asked fit ≡ Unsure (At n) → 3 ≤ n
       → AtMost (removedBy fit n) (allowedShare fit budget)
-  unfolding chosenLast answerOf whyNot
   chosen-unsure n s e three =
-      let kind : chosenLast asked fit .kind ≡ 1 = ap (λ (l : Last). l .kind) e in
-      let part : chosenLast asked fit .part ≡ 1 = ap (λ (l : Last). l .part) e in
-      keeps n s three (counted (asked .valley) (finite (allowedOf fit budget)) by below reply (omega arith) part)
-      (ap (λ (l : Last). l .at) e)
+      let kind : lastNumber (chosenLast asked fit) ≡ 1 = ap lastNumber e in
+      keeps n s three (counts n (omega arith) (ap lastPlace e))
 
-  chosen-none : chosenLast asked fit ≡ cutoffNone → AtMost (removedBy fit (ceilingOf fit)) (allowedShare fit budget)
+  chosen-none : chosenLast asked fit ≡ Cutoff Nothing → AtMost (removedBy fit (ceilingOf fit)) (allowedShare fit budget)
   unfolding chosenLast answerOf whyNot
   chosen-none e =
-      let kind : chosenLast asked fit .kind ≡ 0 = ap (λ (l : Last). l .kind) e in
-      let part : chosenLast asked fit .part ≡ 0 = ap (λ (l : Last). l .part) e in
+      let f = finite (allowedOf fit budget) in
       sure-keeps fit budget none
-      (uncounted (asked .valley) (finite (allowedOf fit budget)) by below reply kind part) .1 .stays refl
+      (uncounted (asked .valley) f by below reply (ap lastNumber e) (ap lastPlace e)) .1 .stays refl
 
 -- ---- THE THEOREMS, of the last line of a selection
 module _ (asked : Asked) (s : Selected) where
-  selected : (l : Last) → (noFit ≡ l → ⊥) → lastOf asked s ≡ l → chosenLast asked (s .fit) ≡ l
+  selected : (l : Last) → (NoFit ≡ l → ⊥) → lastOf asked s ≡ l → chosenLast asked (s .fit) ≡ l
   unfolding lastOf
   selected l never e = go (s .found) e
     where
-      go : (b : Bool) → cond b (chosenLast asked (s .fit)) noFit ≡ l → chosenLast asked (s .fit) ≡ l
+      go : (b : Bool) → cond b (chosenLast asked (s .fit)) NoFit ≡ l → chosenLast asked (s .fit) ≡ l
       go true e = e
       go false e = absurd (never e)
 
-  other : (l : Last) → l .kind ≤ 1 → noFit ≡ l → ⊥
-  other l k e = let two : 2 ≡ l .kind = ap (λ (m : Last). m .kind) e in omega arith
+  other : (l : Last) → lastNumber l ≤ 1 → NoFit ≡ l → ⊥
+  other l k e = let two : 2 ≡ lastNumber l = ap lastNumber e in omega arith
 
-  pub cutoff-keeps : (n : ℕ) → lastOf asked s ≡ cutoffLast n → 3 ≤ n
+  pub cutoff-keeps : (n : ℕ) → lastOf asked s ≡ Cutoff (At n) → 3 ≤ n
       → AtMost (removedBy (s .fit) n) (allowedShare (s .fit) (asked .budget))
   cutoff-keeps n e =
-      chosen-cutoff asked (s .fit) n (selected (cutoffLast n) (other (cutoffLast n) (omega arith)) e)
+      chosen-cutoff asked (s .fit) n (selected (Cutoff (At n)) (other (Cutoff (At n)) (omega arith)) e)
 
-  pub unsure-keeps : (n : ℕ) → Supposed (s .fit) (asked .budget) → lastOf asked s ≡ unsureLast n → 3 ≤ n
+  pub unsure-keeps : (n : ℕ) → Supposed (s .fit) (asked .budget) → lastOf asked s ≡ Unsure (At n) → 3 ≤ n
       → AtMost (removedBy (s .fit) n) (allowedShare (s .fit) (asked .budget))
   unsure-keeps n h e =
-      chosen-unsure asked (s .fit) n h (selected (unsureLast n) (other (unsureLast n) (omega arith)) e)
+      chosen-unsure asked (s .fit) n h (selected (Unsure (At n)) (other (Unsure (At n)) (omega arith)) e)
 
-  pub none-keeps : lastOf asked s ≡ cutoffNone
+  pub none-keeps : lastOf asked s ≡ Cutoff Nothing
       → AtMost (removedBy (s .fit) (ceilingOf (s .fit))) (allowedShare (s .fit) (asked .budget))
-  none-keeps e = chosen-none asked (s .fit) (selected cutoffNone (other cutoffNone (omega arith)) e)
+  none-keeps e = chosen-none asked (s .fit) (selected (Cutoff Nothing) (other (Cutoff Nothing) (omega arith)) e)
 
 -- ---- the line at 2
-sure-kind : (f : Bool) (reply : Reply Sureness) → holeIn (cond f 2 1) reply .kind ≡ 0
+sure-hole : (f : Bool) (reply : Reply Sureness) → sureNumber (holeIn (why f) reply .how) ≡ 0
     → (a : Option ℕ) × (reply ≡ give (sure a))
-sure-kind f (refuse n) e = absurd (omega arith)
-sure-kind f (broken place) e = absurd (omega arith)
-sure-kind f (give (sure a)) e = (a, refl)
-sure-kind true (give (notSure a)) e = absurd (omega arith)
-sure-kind false (give (notSure a)) e = absurd (omega arith)
-sure-kind f (give noWalk) e = absurd (omega arith)
+sure-hole f (refuse n) e = absurd (omega arith)
+sure-hole f (broken place) e = absurd (omega arith)
+sure-hole f (give (sure a)) e = (a, refl)
+sure-hole true (give (notSure a)) e = absurd (omega arith)
+sure-hole false (give (notSure a)) e = absurd (omega arith)
+sure-hole f (give noWalk) e = absurd (omega arith)
 
 -- the line shows how the comparison went
 shown : (two above : Bool) (k : ℕ) → 1 ≤ k → cond two (cond above 2 1) 0 ≡ k → above ≡ eqb k 2
@@ -177,28 +213,30 @@ shown true true k h e = subst (λ (n : ℕ). true ≡ eqb n 2) e refl
 shown true false k h e = subst (λ (n : ℕ). false ≡ eqb n 2) e refl
 shown false above k h e = absurd (omega arith)
 
-module _ (fit : SpectrumFit) (budget : Float) (answer : Place) where
-  abbrev kindAt : ℕ
-  kindAt = leastKind answer (allowedOf fit budget) (leastRemoved fit)
+module _ (fit : SpectrumFit) (budget : Float) where
+  abbrev kindAt : Place → ℕ
+  kindAt answer = leastKind answer (allowedOf fit budget) (leastRemoved fit)
 
-  compared : (k : ℕ) → 1 ≤ k → kindAt ≡ k → lt (allowedOf fit budget) (leastRemoved fit) ≡ eqb k 2
-  unfolding leastKind
-  compared k h e =
-      shown (eqb (answer .part) 1 && eqb (answer .at) 2) (lt (allowedOf fit budget) (leastRemoved fit)) k h e
+  compared : (answer : Place) (k : ℕ) → 1 ≤ k → kindAt answer ≡ k
+      → lt (allowedOf fit budget) (leastRemoved fit) ≡ eqb k 2
+  unfolding leastAt
+  compared (At c) k h e = shown (eqb c 2) (lt (allowedOf fit budget) (leastRemoved fit)) k h e
+  compared Nothing k h e = absurd (omega arith)
+  compared Unknown k h e = absurd (omega arith)
 
-  module _ (certain : holeOf fit budget .kind ≡ 0) where
+  module _ (answer : Place) (hole : holeOf fit budget .how ≡ Sure) where
     found : (a : Option ℕ) × (holeCutoffSureOf fit budget ≡ give (sure a))
     unfolding whyNot
-    found = sure-kind (finite (allowedOf fit budget)) (holeCutoffSureOf fit budget) certain
+    found = sure-hole (finite (allowedOf fit budget)) (holeCutoffSureOf fit budget) (ap sureNumber hole)
 
-    pub least-line-kept : kindAt ≡ 1 → AtMost (removedBy fit 2) (allowedShare fit budget)
+    pub least-line-kept : kindAt answer ≡ 1 → AtMost (removedBy fit 2) (allowedShare fit budget)
     least-line-kept e =
         let s = sure-supposed fit budget (found .0) (found .1) in
         least-kept fit budget s (found .0) (sure-keeps fit budget (found .0) (found .1) .0)
-        (subst (λ (b : Bool). T (not b)) (sym (compared 1 (omega arith) e)) tt)
+        (subst (λ (b : Bool). T (not b)) (sym (compared answer 1 (omega arith) e)) tt)
 
-    pub least-line-broken : kindAt ≡ 2 → Exceeds (removedBy fit 2) (allowedShare fit budget)
+    pub least-line-broken : kindAt answer ≡ 2 → Exceeds (removedBy fit 2) (allowedShare fit budget)
     least-line-broken e =
         let s = sure-supposed fit budget (found .0) (found .1) in
         least-broken fit budget s (found .0) (sure-keeps fit budget (found .0) (found .1) .0)
-        (subst T (sym (compared 2 (omega arith) e)) tt)
+        (subst T (sym (compared answer 2 (omega arith) e)) tt)

@@ -2,7 +2,4 @@
 pub mod Answered
 pub mod Backed
 pub mod Leanings
-pub mod Patterns
-pub mod Rows
 pub mod Theorems
-pub mod Windows

@@ -1,32 +1,30 @@
 -- What was asked, what the spectrum has, and what is refused, as lines. Definitions only. Assumes nothing.
-use Prim.Native.Nat.{ℕ, _*_, _-_}
-use mathlib.Core.Bool.{Bool, not, cond}
-use mathlib.Core.List.{List, [], _∷_}
+use Prim.Native.Nat.{ℕ}
+use mathlib.Core.Bool.{not}
+use mathlib.Core.List.{List, [], _∷_, _++_, map}
 use lib.Dec.{ltb, leb}
-use lib.Ieee.{Float, binary64, ofBits, lt, le}
-use Rattle.routines.specs.Constants.{half, one, two, three, four}
+use lib.Ieee.{Float, lt, le}
+use Rattle.meaning.specs.Flags.{byteOf}
+use Rattle.routines.specs.Constants.{one}
+use Rattle.fitter.specs.Asking.{seeds, shapes, windowEndOf, windowKindOf, configurationOf}
+use Rattle.fitter.specs.declared.asking.Asked.{Asked}
+use Rattle.fitter.specs.declared.asking.Families.{Families}
+use Rattle.fitter.specs.declared.asking.WindowKind.{WindowKind}
+use Rattle.fitter.specs.declared.asking.WindowKind.the-variants as window
+use Rattle.listing.specs.Listing.{ascii}
 use Rattle.templates.specs.Filling.{filledOf}
 use Rattle.record.specs.Lines.{linesOf}
-use Rattle.record.specs.Values.{patternOf, flagOf}
-use Rattle.record.specs.declared.heads.Asked.{Asked}
-
--- ---- what stands fixed: the dispersions and the shelf's shapes of the starts, as the Rust has them
--- 8.0
-abbrev pub eight : Float
-eight = ofBits binary64 0x4020000000000000
-
--- 15.0
-abbrev pub fifteen : Float
-fifteen = ofBits binary64 0x402e000000000000
-
--- 0.75
-abbrev pub threeQuarters : Float
-threeQuarters = ofBits binary64 0x3fe8000000000000
+use Rattle.routines.specs.Bits.{patternOf}
+use Rattle.record.specs.Values.{errorNumber, genomeNumber}
 
 -- ---- what was asked
-abbrev pub askedTemplate : List ℕ
-askedTemplate =
-    linesOf
+abbrev pub version : ℕ
+version = 2
+
+abbrev pub optionsText : Asked → List ℕ
+optionsText a =
+    filledOf
+    (linesOf
     ("fogatise pick"
     ∷ "version #"
     ∷ "valley #"
@@ -36,76 +34,82 @@ askedTemplate =
     ∷ "hint ~"
     ∷ "mass_limit ~"
     ∷ "window_end_asked {-|#}"
-    ∷ "seed.1 ~"
-    ∷ "seed.2 ~"
-    ∷ "seed.3 ~"
-    ∷ "shape.1.retained ~"
+    ∷ []))
+    (version ∷ a .valley ∷ a .peak
+    ∷ patternOf (a .budget) ∷ patternOf (a .scale) ∷ patternOf (a .hint) ∷ patternOf (a .«mass_limit»)
+    ∷ byteOf (a .«window_given») ∷ a .«window_end» ∷ [])
+
+abbrev pub seedsText : List ℕ
+seedsText = filledOf (linesOf ("seed.1 ~" ∷ "seed.2 ~" ∷ "seed.3 ~" ∷ [])) (map patternOf seeds)
+
+abbrev pub shapesText : List ℕ
+shapesText =
+    filledOf
+    (linesOf
+    ("shape.1.retained ~"
     ∷ "shape.1.concentration ~"
     ∷ "shape.2.retained ~"
     ∷ "shape.2.concentration ~"
-    ∷ "configuration.1 SingletonPareto NegativeBinomial"
-    ∷ "configuration.2 FreeSingletonWeibull NegativeBinomial"
-    ∷ "configuration.3 SingletonPareto ShelfNegativeBinomial"
-    ∷ "configuration.4 FreeSingletonWeibull ShelfNegativeBinomial{|"
-    ∷ "warning.valley it is not below the peak}{|"
-    ∷ "warning.scale it is below 1, and 1 is used}{|"
-    ∷ "warning.hint it is not above 1, and 2 is used}"
+    ∷ []))
+    (map patternOf shapes)
+
+abbrev pub configurationText : ℕ → List ℕ
+configurationText k =
+    let families = configurationOf k in
+    filledOf
+    (linesOf
+    ("configuration.# {FreeSingletonWeibull|SingletonPareto} {NegativeBinomial|ShelfNegativeBinomial}" ∷ []))
+    (k ∷ errorNumber (families .error) ∷ genomeNumber (families .genome) ∷ [])
+
+unfoldable pub configurationsText : List ℕ
+configurationsText = configurationText 1 ++ (configurationText 2 ++ (configurationText 3 ++ configurationText 4))
+
+-- what is odd in what was asked: the valley, the scale, the hint
+unfoldable pub oddOf : Asked → List ℕ
+oddOf a =
+    byteOf (leb (a .peak) (a .valley)) ∷ byteOf (not (le one (a .scale))) ∷ byteOf (not (lt one (a .hint))) ∷ []
+
+abbrev pub warningsText : Asked → List ℕ
+warningsText a =
+    filledOf
+    (linesOf
+    ("{|warning.valley it is not below the peak"
+    ∷ "}{|warning.scale it is below 1, and 1 is used"
+    ∷ "}{|warning.hint it is not above 1, and 2 is used"
     ∷ [])
+    ++ ascii "}")
+    (oddOf a)
 
-abbrev pub version : ℕ
-version = 2
+unfoldable pub askedText : Asked → List ℕ
+askedText a = optionsText a ++ (seedsText ++ (shapesText ++ (configurationsText ++ warningsText a)))
 
-abbrev pub askedValues : Asked → List ℕ
-askedValues a =
-    version ∷ a .valley ∷ a .peak
-    ∷ patternOf (a .budget) ∷ patternOf (a .scale) ∷ patternOf (a .hint) ∷ patternOf (a .«mass_limit»)
-    ∷ flagOf (a .«window_given») ∷ a .«window_end»
-    ∷ patternOf two ∷ patternOf eight ∷ patternOf fifteen
-    ∷ patternOf half ∷ patternOf three ∷ patternOf threeQuarters ∷ patternOf four
-    ∷ flagOf (leb (a .peak) (a .valley)) ∷ flagOf (not (le one (a .scale))) ∷ flagOf (not (lt one (a .hint))) ∷ []
+-- ---- the spectrum
+-- the part of `{cut|full|given}`
+abbrev pub windowNumber : WindowKind → ℕ
+windowNumber window.Cut = 0
+windowNumber window.Full = 1
+windowNumber window.Given = 2
 
-abbrev pub askedText : Asked → List ℕ
-askedText a = filledOf askedTemplate (askedValues a)
-
--- ---- the spectrum: the whole of six peaks lies in the bins, or is cut to all but the last
-abbrev pub isFull : ℕ → ℕ → Bool
-isFull peak bins = ltb (6 * peak) bins
-
-unfoldable pub windowRule : ℕ → ℕ → ℕ
-windowRule peak bins = cond (isFull peak bins) (6 * peak) (bins - 1)
-
-unfoldable pub windowEndOf : Asked → ℕ → ℕ
-windowEndOf a bins = cond (a .«window_given») (a .«window_end») (windowRule (a .peak) bins)
-
--- 0 cut, 1 full, 2 given
-unfoldable pub windowKind : Asked → ℕ → ℕ
-windowKind a bins = cond (a .«window_given») 2 (flagOf (isFull (a .peak) bins))
-
-abbrev pub spectrumTemplate : List ℕ
-spectrumTemplate =
-    linesOf
+abbrev pub spectrumText : Asked → ℕ → List ℕ
+spectrumText a bins =
+    let end = windowEndOf a bins in
+    filledOf
+    (linesOf
     ("bins #"
     ∷ "window_end #"
     ∷ "window {cut|full|given}{|"
     ∷ "warning.peak it lies beyond the window}"
-    ∷ [])
-
-abbrev pub spectrumValues : Asked → ℕ → List ℕ
-spectrumValues a bins =
-    bins ∷ windowEndOf a bins ∷ windowKind a bins ∷ flagOf (ltb (windowEndOf a bins) (a .peak)) ∷ []
-
-abbrev pub spectrumText : Asked → ℕ → List ℕ
-spectrumText a bins = filledOf spectrumTemplate (spectrumValues a bins)
+    ∷ []))
+    (bins ∷ end ∷ windowNumber (windowKindOf a bins) ∷ byteOf (ltb end (a .peak)) ∷ [])
 
 -- ---- a refusal by its number, in document 01's words as far as a pick can meet it
-abbrev pub refusalTemplate : List ℕ
-refusalTemplate =
-    linesOf
-    ("refusal # {|the peak, the valley or the number of bins is below 2|the peak, the valley, the number of bins or the window end is above 65535|the file breaks the layout of a histogram file|all bins are zero|the window end is 0 or beyond the bins|every recovered bin in the window is zero|a parameter list has a wrong length|a log probability is NaN|the mass limit is not finite or is below 1|a lent buffer is too short}"
-    ∷ [])
-
 abbrev pub refusalText : ℕ → List ℕ
-refusalText n = filledOf refusalTemplate (n ∷ n ∷ [])
+refusalText n =
+    filledOf
+    (linesOf
+    ("refusal # {|the peak, the valley or the number of bins is below 2|the peak, the valley, the number of bins or the window end is above 65535|the file breaks the layout of a histogram file|all bins are zero|the window end is 0 or beyond the bins|every recovered bin in the window is zero|a parameter list has a wrong length|a log probability is NaN|the mass limit is not finite or is below 1|a lent buffer is too short}"
+    ∷ []))
+    (n ∷ n ∷ [])
 
 abbrev pub placeText : ℕ → List ℕ
 placeText place = filledOf (linesOf ("place #" ∷ [])) (place ∷ [])

@@ -2,7 +2,7 @@
 -- to which the cutoffs of the valid ones go. None counts as above every cutoff. An attempt without a walk has no cutoff, and
 -- agrees only with an answer without one. Definitions only. Assumes nothing.
 use Prim.Native.Nat.{ℕ, _+_}
-use mathlib.Core.Bool.{Bool, cond}
+use mathlib.Core.Bool.{Bool, true, false, cond}
 use mathlib.Core.List.{List, [], _∷_}
 use lib.Dec.{eqb, ltb}
 use lib.Ieee.{Float}
@@ -10,7 +10,10 @@ use Rattle.fitter.specs.Attempts.{validOf}
 use Rattle.fitter.specs.declared.attempts.FitAttempt.{FitAttempt}
 use Rattle.record.specs.Values.{holeOf}
 use Rattle.record.specs.declared.values.Hole.{Hole}
+use Rattle.record.specs.declared.values.HowSure.{HowSure}
+use Rattle.record.specs.declared.values.HowSure.the-variants as how
 use Rattle.record.specs.declared.values.Place.{Place}
+use Rattle.record.specs.declared.values.Place.the-variants as place
 use Rattle.record.specs.declared.leaning.Leaning.{Leaning}
 
 -- above every cutoff, and no cutoff at all
@@ -20,8 +23,21 @@ NONE = 65536
 abbrev pub NO-WALK : ℕ
 NO-WALK = 65537
 
+abbrev pub isWalked : HowSure → Bool
+isWalked how.Sure = true
+isWalked how.NotFinite = true
+isWalked how.NotProbable = true
+isWalked how.NoWalk = false
+isWalked (how.Refused n) = true
+isWalked how.NoFit = true
+
+abbrev pub countVote : Place → ℕ
+countVote place.Nothing = NONE
+countVote (place.At c) = c
+countVote place.Unknown = NONE
+
 unfoldable pub voteOf : Hole → ℕ
-voteOf h = cond (eqb (h .kind) 3) NO-WALK (cond (eqb (h .place .part) 1) (h .place .at) NONE)
+voteOf h = cond (isWalked (h .how)) (countVote (h .place)) NO-WALK
 
 -- no attempt yet
 abbrev pub unleant : Leaning

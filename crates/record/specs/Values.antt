@@ -1,6 +1,6 @@
 -- The numbers that a record's marks take, for what is no number itself. Definitions only. Assumes nothing.
 use Prim.Native.Nat.{ℕ}
-use mathlib.Core.Bool.{Bool, true, false, cond}
+use mathlib.Core.Bool.{cond}
 use mathlib.Core.Option.{Option, none, some}
 use lib.Ieee.{Float, nan, binary64, isNan, toBits}
 use lib.Ieee.Scale.{finite}
@@ -17,15 +17,11 @@ use Rattle.models.specs.declared.families.GenomeModel.{GenomeModel}
 use Rattle.models.specs.declared.families.GenomeModel.the-variants.{NegativeBinomial, ShelfNegativeBinomial}
 use Rattle.models.specs.declared.fit.SpectrumFit.{SpectrumFit}
 use Rattle.record.specs.declared.values.Hole.{Hole}
+use Rattle.record.specs.declared.values.HowSure.{HowSure}
+use Rattle.record.specs.declared.values.HowSure.the-variants as how
 use Rattle.record.specs.declared.values.Place.{Place}
-
--- a float's pattern; every NaN has the same
-unfoldable pub patternOf : Float → ℕ
-patternOf x = cond (isNan x) 0x7ff8000000000000 (toBits binary64 x)
-
-abbrev pub flagOf : Bool → ℕ
-flagOf true = 1
-flagOf false = 0
+use Rattle.record.specs.declared.values.Place.the-variants as place
+use Rattle.record.specs.declared.values.PlaceNumbers.{PlaceNumbers}
 
 abbrev pub errorNumber : ErrorModel → ℕ
 errorNumber FreeSingletonWeibull = 0
@@ -53,38 +49,49 @@ abbrev pub rejectionNumber : RejectionPart → ℕ
 rejectionNumber rejection.Absent = 0
 rejectionNumber (rejection.Present r) = reasonNumber r
 
--- ---- a cutoff: 0 for none, 1 for a count, 2 where there is no fit to ask, or it is refused
-abbrev pub noPlace : Place
-noPlace = record { part = 2; at = 0 }
+-- the part of `{none|#|-}`, and the count
+abbrev pub placeNumbers : Place → PlaceNumbers
+placeNumbers place.Nothing = record { part = 0; at = 0 }
+placeNumbers (place.At c) = record { part = 1; at = c }
+placeNumbers place.Unknown = record { part = 2; at = 0 }
 
+abbrev pub sureNumber : HowSure → ℕ
+sureNumber how.Sure = 0
+sureNumber how.NotFinite = 1
+sureNumber how.NotProbable = 2
+sureNumber how.NoWalk = 3
+sureNumber (how.Refused n) = 4
+sureNumber how.NoFit = 5
+
+-- ---- a cutoff
 abbrev pub placeIn : Option ℕ → Place
-placeIn none = record { part = 0; at = 0 }
-placeIn (some c) = record { part = 1; at = c }
+placeIn none = place.Nothing
+placeIn (some c) = place.At c
 
 abbrev pub crossoverPlace : Reply (Option ℕ) → Place
-crossoverPlace (refuse n) = noPlace
-crossoverPlace (broken place) = noPlace
+crossoverPlace (refuse n) = place.Unknown
+crossoverPlace (broken at) = place.Unknown
 crossoverPlace (give found) = placeIn found
 
 abbrev pub floorPlace : Reply ℕ → Place
-floorPlace (refuse n) = noPlace
-floorPlace (broken place) = noPlace
-floorPlace (give c) = record { part = 1; at = c }
+floorPlace (refuse n) = place.Unknown
+floorPlace (broken at) = place.Unknown
+floorPlace (give c) = place.At c
 
--- ---- the hole cutoff: 0 sure, 1 the allowed share is not finite, 2 a probability is not from 0 to 2, 3 no walk, 4 refused,
--- 5 no fit to ask; and the number where it is refused
+-- ---- the hole cutoff, and how sure it is
 abbrev pub noHole : Hole
-noHole = record { place = noPlace; kind = 5; number = 0 }
+noHole = record { place = place.Unknown; how = how.NoFit }
 
-unfoldable pub whyNot : Float → ℕ
-whyNot allowed = cond (finite allowed) 2 1
+-- why it is not sure, where there is a walk
+unfoldable pub whyNot : Float → HowSure
+whyNot allowed = cond (finite allowed) how.NotProbable how.NotFinite
 
-abbrev pub holeIn : ℕ → Reply Sureness → Hole
-holeIn why (refuse n) = record { place = noPlace; kind = 4; number = n }
-holeIn why (broken place) = noHole
-holeIn why (give (sure found)) = record { place = placeIn found; kind = 0; number = 0 }
-holeIn why (give (notSure found)) = record { place = placeIn found; kind = why; number = 0 }
-holeIn why (give noWalk) = record { place = placeIn none; kind = 3; number = 0 }
+abbrev pub holeIn : HowSure → Reply Sureness → Hole
+holeIn why (refuse n) = record { place = place.Unknown; how = how.Refused n }
+holeIn why (broken at) = noHole
+holeIn why (give (sure found)) = record { place = placeIn found; how = how.Sure }
+holeIn why (give (notSure found)) = record { place = placeIn found; how = why }
+holeIn why (give noWalk) = record { place = place.Nothing; how = how.NoWalk }
 
 abbrev pub holeOf : SpectrumFit → Float → Hole
 holeOf fit budget = holeIn (whyNot (allowedOf fit budget)) (holeCutoffSureOf fit budget)

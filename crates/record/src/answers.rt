@@ -1,10 +1,11 @@
 // The answer of a pick: the smaller of the valley and the hole cutoff, and whether a theorem backs it.
 ghost use mathlib.Core.Path.{_≡_};
-ghost use Rattle.record.specs.Answers.{smallerOf, answerPlace, byHole, isBelow, answerOf, leastRemoved, leastKind, isLow, isUnsure, lastIn};
+ghost use Rattle.record.specs.Answers.{smallerOf, answerPlace, byHole, isUnder, isBelow, answerOf};
+ghost use Rattle.record.specs.Answers.{leastRemoved, leastAt, leastKind, fromThree, isLow, backedBy, lastIn};
+ghost use Rattle.record.specs.Answers.{lastNumber, lastPlace};
 use crate::attempt_lines::Cutoffs;
-use crate::values::Hole;
+use crate::values::HowSure;
 use crate::values::Place;
-use crate::values::flag;
 use helpers::single_copies::single_copy_of;
 use models::fit::SpectrumFit;
 use models::walk::probability;
@@ -16,11 +17,12 @@ pub struct Answer {
     pub below: bool,
 }
 
-// The last line: 0 cutoff, 1 unsure, 2 no fit, 3 refused; then 0 none, 1 a number, 2 nothing.
-pub struct Last {
-    pub kind: u64,
-    pub part: u64,
-    pub at: u64,
+// The last line, which is a cutoff only where a theorem backs it; a refusal has its number.
+pub enum Last {
+    Cutoff(Place),
+    Unsure(Place),
+    NoFit,
+    Refused(u64),
 }
 
 // The hole cutoff is the largest that keeps the budget, so a smaller one keeps it too. No cutoff is below 2.
@@ -36,31 +38,41 @@ fn smaller(valley: u64, hole: u64) -> u64
 fn answer_place(valley: u64, hole: Place) -> Place
     ensures { λ r. ⌜ r ≡ answerPlace valley hole ⌝ }
 {
-    if hole.part != 1 {
-        return hole;
-    }
-    Place {
-        part: 1,
-        at: smaller(valley, hole.at),
+    match hole {
+        Place::Nothing => Place::Nothing,
+        Place::At(c) => Place::At(smaller(valley, c)),
+        Place::Unknown => Place::Unknown,
     }
 }
 
 fn by_hole(valley: u64, hole: Place) -> bool
     ensures { λ r. ⌜ r ≡ byHole valley hole ⌝ }
 {
-    if hole.part != 1 {
-        return true;
+    match hole {
+        Place::Nothing => true,
+        Place::At(c) => c < valley,
+        Place::Unknown => true,
     }
-    hole.at < valley
+}
+
+fn is_under(count: u64, floor: Place) -> bool
+    ensures { λ r. ⌜ r ≡ isUnder count floor ⌝ }
+{
+    match floor {
+        Place::Nothing => false,
+        Place::At(f) => count < f,
+        Place::Unknown => false,
+    }
 }
 
 fn is_below(answer: Place, floor: Place) -> bool
     ensures { λ r. ⌜ r ≡ isBelow answer floor ⌝ }
 {
-    if answer.part != 1 {
-        return false;
+    match answer {
+        Place::Nothing => false,
+        Place::At(c) => is_under(c, floor),
+        Place::Unknown => false,
     }
-    answer.at < floor.at
 }
 
 pub(crate) fn answer_of(valley: u64, c: Cutoffs) -> Answer
@@ -87,14 +99,10 @@ pub(crate) fn least_removed(fit: SpectrumFit) -> f64
     none + probability(single, 1)
 }
 
-// Whether the walk stopped at count 1, and so broke the budget, is lost in an answer of 2, which it may have kept.
-pub(crate) fn least_kind(answer: Place, allowed: f64, removed: f64) -> u64
-    ensures { λ r. ⌜ r ≡ leastKind answer allowed removed ⌝ }
+fn least_at(count: u64, allowed: f64, removed: f64) -> u64
+    ensures { λ r. ⌜ r ≡ leastAt count allowed removed ⌝ }
 {
-    if answer.part != 1 {
-        return 0;
-    }
-    if answer.at != 2 {
+    if count != 2 {
         return 0;
     }
     if removed > allowed {
@@ -103,47 +111,82 @@ pub(crate) fn least_kind(answer: Place, allowed: f64, removed: f64) -> u64
     1
 }
 
+// Whether the walk stopped at count 1, and so broke the budget, is lost in an answer of 2, which it may have kept.
+pub(crate) fn least_kind(answer: Place, allowed: f64, removed: f64) -> u64
+    ensures { λ r. ⌜ r ≡ leastKind answer allowed removed ⌝ }
+{
+    match answer {
+        Place::Nothing => 0,
+        Place::At(c) => least_at(c, allowed, removed),
+        Place::Unknown => 0,
+    }
+}
+
+fn from_three(place: Place) -> bool
+    ensures { λ r. ⌜ r ≡ fromThree place ⌝ }
+{
+    match place {
+        Place::Nothing => false,
+        Place::At(c) => c >= 3,
+        Place::Unknown => false,
+    }
+}
+
 // Where the errors are as high as the genome, a count of 3 or more removes what no theorem tells from errors.
 pub(crate) fn is_low(a: Answer) -> bool
     ensures { λ r. ⌜ r ≡ isLow a ⌝ }
 {
     let place = a.place;
     if a.below {
-        return place.at >= 3;
+        return from_three(place);
     }
     false
 }
 
-fn is_unsure(h: Hole, a: Answer) -> bool
-    ensures { λ r. ⌜ r ≡ isUnsure h a ⌝ }
-{
-    if h.kind != 0 {
-        return true;
-    }
-    is_low(a)
-}
-
-pub(crate) fn last_in(h: Hole, a: Answer) -> Last
-    ensures { λ r. ⌜ r ≡ lastIn h a ⌝ }
+// Of a hole that is sure.
+fn backed(a: Answer) -> Last
+    ensures { λ r. ⌜ r ≡ backedBy a ⌝ }
 {
     let place = a.place;
-    if h.kind == 4 {
-        return Last {
-            kind: 3,
-            part: 1,
-            at: h.number,
-        };
+    if is_low(a) {
+        return Last::Unsure(place);
     }
-    if h.kind == 5 {
-        return Last {
-            kind: 2,
-            part: 2,
-            at: 0,
-        };
+    Last::Cutoff(place)
+}
+
+pub(crate) fn last_in(how: HowSure, a: Answer) -> Last
+    ensures { λ r. ⌜ r ≡ lastIn how a ⌝ }
+{
+    let place = a.place;
+    match how {
+        HowSure::Sure => backed(a),
+        HowSure::NotFinite => Last::Unsure(place),
+        HowSure::NotProbable => Last::Unsure(place),
+        HowSure::NoWalk => Last::Unsure(place),
+        HowSure::Refused(n) => Last::Refused(n),
+        HowSure::NoFit => Last::NoFit,
     }
-    Last {
-        kind: flag(is_unsure(h, a)),
-        part: place.part,
-        at: place.at,
+}
+
+pub(crate) fn last_number(last: Last) -> u64
+    ensures { λ r. ⌜ r ≡ lastNumber last ⌝ }
+{
+    match last {
+        Last::Cutoff(_) => 0,
+        Last::Unsure(_) => 1,
+        Last::NoFit => 2,
+        Last::Refused(_) => 3,
+    }
+}
+
+// What stands behind the word.
+pub(crate) fn last_place(last: Last) -> Place
+    ensures { λ r. ⌜ r ≡ lastPlace last ⌝ }
+{
+    match last {
+        Last::Cutoff(place) => place,
+        Last::Unsure(place) => place,
+        Last::NoFit => Place::Unknown,
+        Last::Refused(n) => Place::At(n),
     }
 }

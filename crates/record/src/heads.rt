@@ -2,80 +2,40 @@
 ghost use mathlib.Core.Path.{_≡_};
 ghost use lib.ListN.{length};
 ghost use Rattle.templates.specs.Cut.{putAt, endAt};
-ghost use Rattle.record.specs.Heads.{isFull, windowRule, windowEndOf, windowKind, askedText, spectrumText, refusalText, placeText};
-use crate::values::flag;
-use crate::values::pattern;
+ghost use Rattle.record.specs.Heads.{windowNumber, optionsText, seedsText, shapesText, configurationText};
+ghost use Rattle.record.specs.Heads.{configurationsText, oddOf, warningsText, askedText, spectrumText};
+ghost use Rattle.record.specs.Heads.{refusalText, placeText};
+use crate::values::error_number;
+use crate::values::genome_number;
+use fitter::asking::Asked;
+use fitter::asking::SEEDS;
+use fitter::asking::SHAPES;
+use fitter::asking::WindowKind;
+use fitter::asking::configuration;
+use fitter::asking::window_end_of;
+use fitter::asking::window_kind;
+use meaning::flags::byte_of;
+use routines::bits::pattern;
 use templates::filling::fill;
 
 // It goes up with every change of the record or of what it says.
 pub const VERSION: u64 = 2;
 
-// The dispersions that the starts begin at, beside the hint, and the shapes of their shelves, each a retained fraction and a
-// concentration: the Rust's.
-pub const SEEDS: [f64; 3] = [2.0, 8.0, 15.0];
-
-pub const SHAPES: [f64; 4] = [0.5, 3.0, 0.75, 4.0];
-
-pub struct Asked {
-    pub valley: usize,
-    pub peak: usize,
-    pub budget: f64,
-    pub scale: f64,
-    pub hint: f64,
-    pub mass_limit: f64,
-    // Without one the window ends by `window_rule`.
-    pub window_given: bool,
-    pub window_end: usize,
+// The part of `{cut|full|given}`.
+fn window_number(kind: WindowKind) -> u64
+    ensures { λ r. ⌜ r ≡ windowNumber kind ⌝ }
+{
+    match kind {
+        WindowKind::Cut => 0,
+        WindowKind::Full => 1,
+        WindowKind::Given => 2,
+    }
 }
 
-// Whether six peaks lie within the bins but for the last.
-fn is_full(peak: usize, bins: usize) -> bool
-    ensures { λ r. ⌜ r ≡ isFull peak bins ⌝ }
+fn put_options(out: &mut [u8], at: usize, a: Asked) -> usize
+    ensures { λ r. ⌜ r ≡ endAt at (optionsText a) (length (now (out .entry))) ⌝ }
+    ensures { λ _. ⌜ now (out .exit) ≡ putAt at (optionsText a) (now (out .entry)) ⌝ }
 {
-    if bins == 0 {
-        return false;
-    }
-    peak <= (bins - 1) / 6
-}
-
-// Six peaks, or the last bin but one.
-fn window_rule(peak: usize, bins: usize) -> usize
-    ensures { λ r. ⌜ r ≡ windowRule peak bins ⌝ }
-{
-    if is_full(peak, bins) {
-        return 6 * peak;
-    }
-    if bins == 0 {
-        return 0;
-    }
-    bins - 1
-}
-
-pub fn window_end_of(asked: Asked, bins: usize) -> usize
-    ensures { λ r. ⌜ r ≡ windowEndOf asked bins ⌝ }
-{
-    if asked.window_given {
-        return asked.window_end;
-    }
-    window_rule(asked.peak, bins)
-}
-
-// 0 cut, 1 full, 2 given.
-fn window_kind(asked: Asked, bins: usize) -> u64
-    ensures { λ r. ⌜ r ≡ windowKind asked bins ⌝ }
-{
-    if asked.window_given {
-        return 2;
-    }
-    flag(is_full(asked.peak, bins))
-}
-
-pub(crate) fn put_asked(out: &mut [u8], at: usize, a: Asked) -> usize
-    ensures { λ r. ⌜ r ≡ endAt at (askedText a) (length (now (out .entry))) ⌝ }
-    ensures { λ _. ⌜ now (out .exit) ≡ putAt at (askedText a) (now (out .entry)) ⌝ }
-{
-    let seeds = SEEDS;
-    let shapes = SHAPES;
     let values = [
         VERSION,
         a.valley as u64,
@@ -84,18 +44,8 @@ pub(crate) fn put_asked(out: &mut [u8], at: usize, a: Asked) -> usize
         pattern(a.scale),
         pattern(a.hint),
         pattern(a.mass_limit),
-        flag(a.window_given),
+        byte_of(a.window_given) as u64,
         a.window_end as u64,
-        pattern(seeds[0]),
-        pattern(seeds[1]),
-        pattern(seeds[2]),
-        pattern(shapes[0]),
-        pattern(shapes[1]),
-        pattern(shapes[2]),
-        pattern(shapes[3]),
-        flag(a.peak <= a.valley),
-        flag(!(a.scale >= 1.0)),
-        flag(!(a.hint > 1.0)),
     ];
     fill(
         out,
@@ -109,23 +59,114 @@ scale ~
 hint ~
 mass_limit ~
 window_end_asked {-|#}
-seed.1 ~
-seed.2 ~
-seed.3 ~
-shape.1.retained ~
-shape.1.concentration ~
-shape.2.retained ~
-shape.2.concentration ~
-configuration.1 SingletonPareto NegativeBinomial
-configuration.2 FreeSingletonWeibull NegativeBinomial
-configuration.3 SingletonPareto ShelfNegativeBinomial
-configuration.4 FreeSingletonWeibull ShelfNegativeBinomial{|
-warning.valley it is not below the peak}{|
-warning.scale it is below 1, and 1 is used}{|
-warning.hint it is not above 1, and 2 is used}
 ",
         &values,
     )
+}
+
+fn put_seeds(out: &mut [u8], at: usize) -> usize
+    ensures { λ r. ⌜ r ≡ endAt at seedsText (length (now (out .entry))) ⌝ }
+    ensures { λ _. ⌜ now (out .exit) ≡ putAt at seedsText (now (out .entry)) ⌝ }
+{
+    let seeds = SEEDS;
+    let values = [pattern(seeds[0]), pattern(seeds[1]), pattern(seeds[2])];
+    fill(
+        out,
+        at,
+        b"seed.1 ~
+seed.2 ~
+seed.3 ~
+",
+        &values,
+    )
+}
+
+fn put_shapes(out: &mut [u8], at: usize) -> usize
+    ensures { λ r. ⌜ r ≡ endAt at shapesText (length (now (out .entry))) ⌝ }
+    ensures { λ _. ⌜ now (out .exit) ≡ putAt at shapesText (now (out .entry)) ⌝ }
+{
+    let shapes = SHAPES;
+    let values = [
+        pattern(shapes[0]),
+        pattern(shapes[1]),
+        pattern(shapes[2]),
+        pattern(shapes[3]),
+    ];
+    fill(
+        out,
+        at,
+        b"shape.1.retained ~
+shape.1.concentration ~
+shape.2.retained ~
+shape.2.concentration ~
+",
+        &values,
+    )
+}
+
+fn put_configuration(out: &mut [u8], at: usize, k: u64) -> usize
+    ensures { λ r. ⌜ r ≡ endAt at (configurationText k) (length (now (out .entry))) ⌝ }
+    ensures { λ _. ⌜ now (out .exit) ≡ putAt at (configurationText k) (now (out .entry)) ⌝ }
+{
+    let families = configuration(k);
+    let error = families.error;
+    let genome = families.genome;
+    let values = [k, error_number(error), genome_number(genome)];
+    fill(
+        out,
+        at,
+        b"configuration.# {FreeSingletonWeibull|SingletonPareto} {NegativeBinomial|ShelfNegativeBinomial}
+",
+        &values,
+    )
+}
+
+fn put_configurations(out: &mut [u8], at: usize) -> usize
+    ensures { λ r. ⌜ r ≡ endAt at configurationsText (length (now (out .entry))) ⌝ }
+    ensures { λ _. ⌜ now (out .exit) ≡ putAt at configurationsText (now (out .entry)) ⌝ }
+{
+    let first = put_configuration(out, at, 1);
+    let second = put_configuration(out, first, 2);
+    let third = put_configuration(out, second, 3);
+    put_configuration(out, third, 4)
+}
+
+// What is odd in what was asked: the valley, the scale, the hint.
+fn odd(a: Asked) -> [u64; 3]
+    ensures { λ r. ⌜ r ≡ oddOf a ⌝ }
+{
+    [
+        byte_of(a.peak <= a.valley) as u64,
+        byte_of(!(a.scale >= 1.0)) as u64,
+        byte_of(!(a.hint > 1.0)) as u64,
+    ]
+}
+
+fn put_warnings(out: &mut [u8], at: usize, a: Asked) -> usize
+    ensures { λ r. ⌜ r ≡ endAt at (warningsText a) (length (now (out .entry))) ⌝ }
+    ensures { λ _. ⌜ now (out .exit) ≡ putAt at (warningsText a) (now (out .entry)) ⌝ }
+{
+    let values = odd(a);
+    fill(
+        out,
+        at,
+        b"{|warning.valley it is not below the peak
+}{|warning.scale it is below 1, and 1 is used
+}{|warning.hint it is not above 1, and 2 is used
+}",
+        &values,
+    )
+}
+
+pub(crate) fn put_asked(out: &mut [u8], at: usize, a: Asked) -> usize
+    ensures { λ r. ⌜ r ≡ endAt at (askedText a) (length (now (out .entry))) ⌝ }
+    ensures { λ _. ⌜ now (out .exit) ≡ putAt at (askedText a) (now (out .entry)) ⌝ }
+{
+    let options = put_options(out, at, a);
+    let seeds = put_seeds(out, options);
+    let shapes = put_shapes(out, seeds);
+    let configurations = put_configurations(out, shapes);
+    put_warnings(out, configurations, a)
 }
 
 pub(crate) fn put_spectrum(out: &mut [u8], at: usize, a: Asked, bins: usize) -> usize
@@ -136,8 +177,8 @@ pub(crate) fn put_spectrum(out: &mut [u8], at: usize, a: Asked, bins: usize) -> 
     let values = [
         bins as u64,
         end as u64,
-        window_kind(a, bins),
-        flag(end < a.peak),
+        window_number(window_kind(a, bins)),
+        byte_of(end < a.peak) as u64,
     ];
     fill(
         out,

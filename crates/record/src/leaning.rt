@@ -2,8 +2,11 @@
 ghost use mathlib.Core.Path.{_≡_};
 ghost use Prim.Native.Nat.{_<_};
 ghost use mathlib.Core.List.{[], _∷_};
-ghost use Rattle.record.specs.Leaning.{voteOf, leastOf, largestOf, leantOn, leanStep, unleant, leaningOf};
+ghost use Rattle.record.specs.Leaning.{isWalked, countVote, voteOf, leastOf, largestOf, leantOn, leanStep};
+ghost use Rattle.record.specs.Leaning.{unleant, leaningOf};
 use crate::values::Hole;
+use crate::values::HowSure;
+use crate::values::Place;
 use crate::values::hole_of;
 use fitter::attempts::FitAttempt;
 use fitter::attempts::is_valid;
@@ -20,18 +23,39 @@ pub struct Leaning {
     pub largest: u64,
 }
 
+fn is_walked(how: HowSure) -> bool
+    ensures { λ r. ⌜ r ≡ isWalked how ⌝ }
+{
+    match how {
+        HowSure::Sure => true,
+        HowSure::NotFinite => true,
+        HowSure::NotProbable => true,
+        HowSure::NoWalk => false,
+        HowSure::Refused(_) => true,
+        HowSure::NoFit => true,
+    }
+}
+
+fn count_vote(place: Place) -> u64
+    ensures { λ r. ⌜ r ≡ countVote place ⌝ }
+{
+    match place {
+        Place::Nothing => NONE,
+        Place::At(c) => c,
+        Place::Unknown => NONE,
+    }
+}
+
 // What an attempt says of the hole cutoff.
 pub(crate) fn vote(h: Hole) -> u64
     ensures { λ r. ⌜ r ≡ voteOf h ⌝ }
 {
+    let how = h.how;
     let place = h.place;
-    if h.kind == 3 {
-        return NO_WALK;
+    if is_walked(how) {
+        return count_vote(place);
     }
-    if place.part == 1 {
-        return place.at;
-    }
-    NONE
+    NO_WALK
 }
 
 fn least(a: u64, b: u64) -> u64

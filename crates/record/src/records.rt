@@ -4,19 +4,23 @@ ghost use mathlib.Core.List.{[], _∷_};
 ghost use lib.ListN.{length};
 ghost use Rattle.fitter.specs.Selection.{selectOf};
 ghost use Rattle.templates.specs.Cut.{putAt, endAt};
-ghost use Rattle.record.specs.Record.{cutoffText, answerText, endPart, leaningText, chosenLast, lastOf, lastText, aboveLast, chosenText, selectedText, attemptsText, recordOf, refusedOf, brokenOf};
+ghost use Rattle.record.specs.Record.{cutoffText, leastNumbers, answerText, doubtsText, foundText, endPart};
+ghost use Rattle.record.specs.Record.{leaningText, chosenOf, lastOf, lastText, chosenText, selectedText};
+ghost use Rattle.record.specs.Record.{attemptsText, headText, recordedOf, recordOf, refusedOf, brokenOf};
 use crate::answers::Answer;
 use crate::answers::Last;
 use crate::answers::answer_of;
 use crate::answers::is_low;
 use crate::answers::last_in;
+use crate::answers::last_number;
+use crate::answers::last_place;
 use crate::answers::least_kind;
 use crate::answers::least_removed;
 use crate::attempt_lines::Cutoffs;
+use crate::attempt_lines::cutoff_numbers;
 use crate::attempt_lines::cutoffs_of;
 use crate::attempt_lines::put_attempt;
 use crate::fit_lines::put_fit;
-use crate::heads::Asked;
 use crate::heads::put_asked;
 use crate::heads::put_place;
 use crate::heads::put_refusal;
@@ -26,13 +30,38 @@ use crate::leaning::NO_WALK;
 use crate::leaning::NONE;
 use crate::leaning::leaning_of;
 use crate::leaning::vote;
-use crate::values::flag;
-use crate::values::pattern;
+use crate::values::HowSure;
+use crate::values::Place;
+use crate::values::place_numbers;
+use crate::values::sure_number;
+use fitter::asking::Asked;
 use fitter::attempts::FitAttempt;
 use fitter::selection::Selected;
 use fitter::selection::select_fit;
+use meaning::flags::byte_of;
 use models::fit::SpectrumFit;
+use routines::bits::pattern;
 use templates::filling::fill;
+
+// What is made of the selected fit.
+pub struct Chosen {
+    pub cutoffs: Cutoffs,
+    pub answer: Answer,
+    pub leaning: Leaning,
+    pub last: Last,
+}
+
+// At 2: whether the budget is kept, and how many times what 2 removes exceeds it.
+pub struct LeastNumbers {
+    pub kind: u64,
+    pub times: u64,
+}
+
+// How many bytes the record takes in the lent ones, and its last line.
+pub struct Recorded {
+    pub size: usize,
+    pub last: Last,
+}
 
 // 0 for a count, 1 for none, 2 where no valid attempt has a walk.
 fn end_part(l: Leaning, v: u64) -> u64
@@ -41,26 +70,26 @@ fn end_part(l: Leaning, v: u64) -> u64
     if l.least == NO_WALK {
         return 2;
     }
-    flag(v == NONE)
+    byte_of(v == NONE) as u64
 }
 
 fn put_cutoffs(out: &mut [u8], at: usize, share: f64, c: Cutoffs) -> usize
     ensures { λ r. ⌜ r ≡ endAt at (cutoffText share c) (length (now (out .entry))) ⌝ }
     ensures { λ _. ⌜ now (out .exit) ≡ putAt at (cutoffText share c) (now (out .entry)) ⌝ }
 {
-    let hole = c.hole;
-    let place = hole.place;
-    let crossover = c.crossover;
-    let floor = c.floor;
+    let n = cutoff_numbers(c);
+    let hole = n.hole;
+    let over = n.crossover;
+    let under = n.floor;
     let values = [
-        place.part,
-        place.at,
-        hole.kind,
+        hole.part,
+        hole.at,
+        n.how,
         pattern(share),
-        crossover.part,
-        crossover.at,
-        floor.part,
-        floor.at,
+        over.part,
+        over.at,
+        under.part,
+        under.at,
     ];
     fill(
         out,
@@ -74,28 +103,28 @@ error_floor {none|#|-}
     )
 }
 
-// `kind` is the hole's: how sure it is.
-fn put_answer(
-    out: &mut [u8],
-    at: usize,
-    fit: SpectrumFit,
-    budget: f64,
-    kind: u64,
-    a: Answer,
-) -> usize
-    ensures { λ r. ⌜ r ≡ endAt at (answerText fit budget kind a) (length (now (out .entry))) ⌝ }
-    ensures { λ _. ⌜ now (out .exit) ≡ putAt at (answerText fit budget kind a) (now (out .entry)) ⌝ }
+fn least_numbers(fit: SpectrumFit, budget: f64, answer: Place) -> LeastNumbers
+    ensures { λ r. ⌜ r ≡ leastNumbers fit budget answer ⌝ }
 {
-    let place = a.place;
     let share = budget / fit.genome_kmers;
     let removed = least_removed(fit);
+    LeastNumbers {
+        kind: least_kind(answer, share, removed),
+        times: pattern(removed / share),
+    }
+}
+
+fn put_answer(out: &mut [u8], at: usize, fit: SpectrumFit, budget: f64, a: Answer) -> usize
+    ensures { λ r. ⌜ r ≡ endAt at (answerText fit budget a) (length (now (out .entry))) ⌝ }
+    ensures { λ _. ⌜ now (out .exit) ≡ putAt at (answerText fit budget a) (now (out .entry)) ⌝ }
+{
+    let place = a.place;
+    let least = least_numbers(fit, budget, place);
     let values = [
-        flag(a.hole),
-        flag(a.below),
-        least_kind(place, share, removed),
-        pattern(removed / share),
-        kind,
-        flag(is_low(a)),
+        byte_of(a.hole) as u64,
+        byte_of(a.below) as u64,
+        least.kind,
+        least.times,
     ];
     fill(
         out,
@@ -103,12 +132,25 @@ fn put_answer(
         b"answer {valley|hole}{|
 below floor}{|
 least_cutoff kept|
-least_cutoff broken ~}{|
-doubt.share it is not finite|
-doubt.probability one is not from 0 to 2|
-doubt.walk there is none, so no cutoff is known to keep the budget}{|
-doubt.floor the answer lies under it}
+least_cutoff broken ~}
 ",
+        &values,
+    )
+}
+
+fn put_doubts(out: &mut [u8], at: usize, how: HowSure, a: Answer) -> usize
+    ensures { λ r. ⌜ r ≡ endAt at (doubtsText how a) (length (now (out .entry))) ⌝ }
+    ensures { λ _. ⌜ now (out .exit) ≡ putAt at (doubtsText how a) (now (out .entry)) ⌝ }
+{
+    let values = [sure_number(how), byte_of(is_low(a)) as u64];
+    fill(
+        out,
+        at,
+        b"{|doubt.share it is not finite
+|doubt.probability one is not from 0 to 2
+|doubt.walk there is none, so no cutoff is known to keep the budget
+}{|doubt.floor the answer lies under it
+}",
         &values,
     )
 }
@@ -141,7 +183,8 @@ fn put_last(out: &mut [u8], at: usize, l: Last) -> usize
     ensures { λ r. ⌜ r ≡ endAt at (lastText l) (length (now (out .entry))) ⌝ }
     ensures { λ _. ⌜ now (out .exit) ≡ putAt at (lastText l) (now (out .entry)) ⌝ }
 {
-    let values = [l.kind, l.part, l.at];
+    let place = place_numbers(last_place(l));
+    let values = [last_number(l), place.part, place.at];
     fill(
         out,
         at,
@@ -151,55 +194,57 @@ fn put_last(out: &mut [u8], at: usize, l: Last) -> usize
     )
 }
 
-// Everything that stands between the fit and the last line.
-fn put_above(
-    out: &mut [u8],
-    at: usize,
+fn choose(
     asked: Asked,
     a: FitAttempt,
     b: FitAttempt,
     c: FitAttempt,
     d: FitAttempt,
     fit: SpectrumFit,
-) -> usize
-    ensures { λ r. ⌜ r ≡ endAt at (aboveLast asked (a ∷ b ∷ c ∷ d ∷ []) fit) (length (now (out .entry))) ⌝ }
-    ensures { λ _. ⌜ now (out .exit) ≡ putAt at (aboveLast asked (a ∷ b ∷ c ∷ d ∷ []) fit) (now (out .entry)) ⌝ }
+) -> Chosen
+    ensures { λ r. ⌜ r ≡ chosenOf asked (a ∷ b ∷ c ∷ d ∷ []) fit ⌝ }
 {
     let budget = asked.budget;
     let cutoffs = cutoffs_of(fit, budget);
     let hole = cutoffs.hole;
+    let how = hole.how;
     let answer = answer_of(asked.valley as u64, cutoffs);
-    let l = leaning_of(budget, vote(hole), a, b, c, d);
-    let first = put_cutoffs(out, at, budget / fit.genome_kmers, cutoffs);
-    let second = put_answer(out, first, fit, budget, hole.kind, answer);
-    put_leaning(out, second, l)
+    Chosen {
+        cutoffs,
+        answer,
+        leaning: leaning_of(budget, vote(hole), a, b, c, d),
+        last: last_in(how, answer),
+    }
 }
 
-// The last line of a selected fit.
-fn chosen_last(asked: Asked, fit: SpectrumFit) -> Last
-    ensures { λ r. ⌜ r ≡ chosenLast asked fit ⌝ }
-{
-    let cutoffs = cutoffs_of(fit, asked.budget);
-    let hole = cutoffs.hole;
-    last_in(hole, answer_of(asked.valley as u64, cutoffs))
-}
-
-fn put_chosen(
+fn put_found(
     out: &mut [u8],
     at: usize,
-    asked: Asked,
-    a: FitAttempt,
-    b: FitAttempt,
-    c: FitAttempt,
-    d: FitAttempt,
+    budget: f64,
     fit: SpectrumFit,
+    c: Cutoffs,
+    a: Answer,
 ) -> usize
-    ensures { λ r. ⌜ r ≡ endAt at (chosenText asked (a ∷ b ∷ c ∷ d ∷ []) fit) (length (now (out .entry))) ⌝ }
-    ensures { λ _. ⌜ now (out .exit) ≡ putAt at (chosenText asked (a ∷ b ∷ c ∷ d ∷ []) fit) (now (out .entry)) ⌝ }
+    ensures { λ r. ⌜ r ≡ endAt at (foundText budget fit c a) (length (now (out .entry))) ⌝ }
+    ensures { λ _. ⌜ now (out .exit) ≡ putAt at (foundText budget fit c a) (now (out .entry)) ⌝ }
 {
+    let hole = c.hole;
+    let how = hole.how;
+    let first = put_cutoffs(out, at, budget / fit.genome_kmers, c);
+    let second = put_answer(out, first, fit, budget, a);
+    put_doubts(out, second, how, a)
+}
+
+// Every line of the selected fit.
+fn put_chosen(out: &mut [u8], at: usize, budget: f64, fit: SpectrumFit, x: Chosen) -> usize
+    ensures { λ r. ⌜ r ≡ endAt at (chosenText budget fit x) (length (now (out .entry))) ⌝ }
+    ensures { λ _. ⌜ now (out .exit) ≡ putAt at (chosenText budget fit x) (now (out .entry)) ⌝ }
+{
+    let last = x.last;
     let first = put_fit(out, at, fit);
-    let second = put_above(out, first, asked, a, b, c, d, fit);
-    put_last(out, second, chosen_last(asked, fit))
+    let second = put_found(out, first, budget, fit, x.cutoffs, x.answer);
+    let third = put_leaning(out, second, x.leaning);
+    put_last(out, third, last)
 }
 
 fn put_selected(
@@ -211,23 +256,24 @@ fn put_selected(
     c: FitAttempt,
     d: FitAttempt,
     s: Selected,
-) -> usize
-    ensures { λ r. ⌜ r ≡ endAt at (selectedText asked (a ∷ b ∷ c ∷ d ∷ []) s) (length (now (out .entry))) ⌝ }
+) -> Recorded
+    ensures { λ r. ⌜ r .size ≡ endAt at (selectedText asked (a ∷ b ∷ c ∷ d ∷ []) s) (length (now (out .entry))) ⌝ }
     ensures { λ _. ⌜ now (out .exit) ≡ putAt at (selectedText asked (a ∷ b ∷ c ∷ d ∷ []) s) (now (out .entry)) ⌝ }
+    ensures { λ r. ⌜ r .last ≡ lastOf asked s ⌝ }
 {
     let fit = s.fit;
     if s.found {
-        return put_chosen(out, at, asked, a, b, c, d, fit);
+        let chosen = choose(asked, a, b, c, d, fit);
+        let last = chosen.last;
+        return Recorded {
+            size: put_chosen(out, at, asked.budget, fit, chosen),
+            last,
+        };
     }
-    put_last(
-        out,
-        at,
-        Last {
-            kind: 2,
-            part: 2,
-            at: 0,
-        },
-    )
+    Recorded {
+        size: put_last(out, at, Last::NoFit),
+        last: Last::NoFit,
+    }
 }
 
 fn put_attempts(
@@ -248,24 +294,16 @@ fn put_attempts(
     put_attempt(out, third, 4, d, budget)
 }
 
-// The last line of their record.
-pub fn last_line(asked: Asked, a: FitAttempt, b: FitAttempt, c: FitAttempt, d: FitAttempt) -> Last
-    ensures { λ r. ⌜ r ≡ lastOf asked (selectOf (a ∷ b ∷ c ∷ d ∷ [])) ⌝ }
+fn put_head(out: &mut [u8], at: usize, asked: Asked, bins: usize) -> usize
+    ensures { λ r. ⌜ r ≡ endAt at (headText asked bins) (length (now (out .entry))) ⌝ }
+    ensures { λ _. ⌜ now (out .exit) ≡ putAt at (headText asked bins) (now (out .entry)) ⌝ }
 {
-    let selected = select_fit([a, b, c, d]);
-    let fit = selected.fit;
-    if selected.found {
-        return chosen_last(asked, fit);
-    }
-    Last {
-        kind: 2,
-        part: 2,
-        at: 0,
-    }
+    let first = put_asked(out, at, asked);
+    put_spectrum(out, first, asked, bins)
 }
 
-// The record of four attempts at a spectrum of so many bins, into the lent bytes, as far as there is room. The answer is how
-// many bytes that is: where it is less than there are, the record is whole (`whole-text`).
+// The record of four attempts at a spectrum of so many bins, into the lent bytes, as far as there is room. The size is
+// how many bytes that is: where it is less than there are, the record is whole (`whole-text`).
 pub fn write_record(
     asked: Asked,
     bins: usize,
@@ -274,52 +312,45 @@ pub fn write_record(
     c: FitAttempt,
     d: FitAttempt,
     out: &mut [u8],
-) -> usize
-    ensures { λ r. ⌜ r ≡ endAt 0 (recordOf asked bins a b c d) (length (now (out .entry))) ⌝ }
+) -> Recorded
+    ensures { λ r. ⌜ (
+        let last = lastOf asked (selectOf (a ∷ b ∷ c ∷ d ∷ [])) in
+        r ≡ recordedOf (recordOf asked bins a b c d) last (length (now (out .entry)))
+        ) ⌝ }
     ensures { λ _. ⌜ now (out .exit) ≡ putAt 0 (recordOf asked bins a b c d) (now (out .entry)) ⌝ }
 {
     let budget = asked.budget;
     let selected = select_fit([a, b, c, d]);
-    let first = put_asked(out, 0, asked);
-    let second = put_spectrum(out, first, asked, bins);
-    let third = put_attempts(out, second, a, b, c, d, budget);
-    put_selected(out, third, asked, a, b, c, d, selected)
+    let first = put_head(out, 0, asked, bins);
+    let second = put_attempts(out, first, a, b, c, d, budget);
+    put_selected(out, second, asked, a, b, c, d, selected)
 }
 
 // The record of a spectrum that is refused by number.
-pub fn write_refused(asked: Asked, bins: usize, n: u8, out: &mut [u8]) -> usize
-    ensures { λ r. ⌜ r ≡ endAt 0 (refusedOf asked bins n) (length (now (out .entry))) ⌝ }
+pub fn write_refused(asked: Asked, bins: usize, n: u8, out: &mut [u8]) -> Recorded
+    ensures { λ r. ⌜ r ≡ recordedOf (refusedOf asked bins n) (Last.Refused n) (length (now (out .entry))) ⌝ }
     ensures { λ _. ⌜ now (out .exit) ≡ putAt 0 (refusedOf asked bins n) (now (out .entry)) ⌝ }
 {
-    let first = put_asked(out, 0, asked);
-    let second = put_spectrum(out, first, asked, bins);
-    let third = put_refusal(out, second, n);
-    put_last(
-        out,
-        third,
-        Last {
-            kind: 3,
-            part: 1,
-            at: n as u64,
-        },
-    )
+    let last = Last::Refused(n as u64);
+    let first = put_head(out, 0, asked, bins);
+    let second = put_refusal(out, first, n);
+    Recorded {
+        size: put_last(out, second, last),
+        last,
+    }
 }
 
 // The record of a file that is refused at a place.
-pub fn write_broken(asked: Asked, place: usize, out: &mut [u8]) -> usize
-    ensures { λ r. ⌜ r ≡ endAt 0 (brokenOf asked place) (length (now (out .entry))) ⌝ }
+pub fn write_broken(asked: Asked, place: usize, out: &mut [u8]) -> Recorded
+    ensures { λ r. ⌜ r ≡ recordedOf (brokenOf asked place) (Last.Refused 3) (length (now (out .entry))) ⌝ }
     ensures { λ _. ⌜ now (out .exit) ≡ putAt 0 (brokenOf asked place) (now (out .entry)) ⌝ }
 {
+    let last = Last::Refused(3);
     let first = put_asked(out, 0, asked);
     let second = put_refusal(out, first, 3);
     let third = put_place(out, second, place);
-    put_last(
-        out,
-        third,
-        Last {
-            kind: 3,
-            part: 1,
-            at: 3,
-        },
-    )
+    Recorded {
+        size: put_last(out, third, last),
+        last,
+    }
 }

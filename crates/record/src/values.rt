@@ -4,7 +4,9 @@ ghost use mathlib.Core.Option.{some};
 ghost use Rattle.models.specs.Cutoffs.{allowedOf, cutoffSays, sureSays};
 ghost use Rattle.models.specs.HeightCutoffs.{crossoverOf, errorFloorOf, floorSays};
 ghost use Rattle.models.specs.Walk.{partSays};
-ghost use Rattle.record.specs.Values.{patternOf, flagOf, errorNumber, genomeNumber, reasonNumber, rejectionNumber, noPlace, placeIn, crossoverPlace, floorPlace, whyNot, holeIn, holeOf};
+ghost use Rattle.record.specs.Values.{errorNumber, genomeNumber, reasonNumber, rejectionNumber};
+ghost use Rattle.record.specs.Values.{placeNumbers, sureNumber, placeIn, crossoverPlace, floorPlace, whyNot};
+ghost use Rattle.record.specs.Values.{holeIn, holeOf};
 use fitter::attempts::RejectionPart;
 use fitter::rejections::FitRejection;
 use models::cutoffs::Cutoff;
@@ -19,34 +21,34 @@ use models::height_cutoffs::error_floor_cutoff;
 use models::walk::CutoffPart;
 use routines::pick::is_finite;
 
-// A cutoff: 0 for none, 1 for a count, 2 where there is no fit to ask, or it is refused.
-pub struct Place {
-    pub part: u64,
-    pub at: u64,
+// A cutoff: none, a count, or unknown, where there is no fit to ask, or it is refused.
+pub enum Place {
+    Nothing,
+    At(u64),
+    Unknown,
 }
 
-// The hole cutoff, and how sure it is: 0 sure, 1 the allowed share is not finite, 2 a probability is not from 0 to 2, 3 no
-// walk, 4 refused, 5 no fit to ask; and the number where it is refused.
+// How sure a hole cutoff is, and the number where it is refused.
+pub enum HowSure {
+    Sure,
+    // The allowed share.
+    NotFinite,
+    // A probability that is not from 0 to 2.
+    NotProbable,
+    NoWalk,
+    Refused(u64),
+    NoFit,
+}
+
 pub struct Hole {
     pub place: Place,
-    pub kind: u64,
-    pub number: u64,
+    pub how: HowSure,
 }
 
-// Every NaN has the same pattern.
-pub fn pattern(x: f64) -> u64
-    ensures { λ r. ⌜ r ≡ patternOf x ⌝ }
-{
-    if x != x {
-        return 0x7ff8_0000_0000_0000;
-    }
-    f64::to_bits(x)
-}
-
-pub(crate) fn flag(b: bool) -> u64
-    ensures { λ r. ⌜ r ≡ flagOf b ⌝ }
-{
-    if b { 1 } else { 0 }
+// What the mark `{none|#|-}` takes.
+pub struct PlaceNumbers {
+    pub part: u64,
+    pub at: u64,
 }
 
 pub(crate) fn error_number(error: ErrorModel) -> u64
@@ -94,21 +96,35 @@ pub(crate) fn rejection_number(rejection: RejectionPart) -> u64
     }
 }
 
-fn no_place() -> Place
-    ensures { λ r. ⌜ r ≡ noPlace ⌝ }
+pub(crate) fn place_numbers(place: Place) -> PlaceNumbers
+    ensures { λ r. ⌜ r ≡ placeNumbers place ⌝ }
 {
-    Place { part: 2, at: 0 }
+    match place {
+        Place::Nothing => PlaceNumbers { part: 0, at: 0 },
+        Place::At(c) => PlaceNumbers { part: 1, at: c },
+        Place::Unknown => PlaceNumbers { part: 2, at: 0 },
+    }
+}
+
+pub(crate) fn sure_number(how: HowSure) -> u64
+    ensures { λ r. ⌜ r ≡ sureNumber how ⌝ }
+{
+    match how {
+        HowSure::Sure => 0,
+        HowSure::NotFinite => 1,
+        HowSure::NotProbable => 2,
+        HowSure::NoWalk => 3,
+        HowSure::Refused(_) => 4,
+        HowSure::NoFit => 5,
+    }
 }
 
 fn place_in(found: CutoffPart) -> Place
     ensures { λ r. ⌜ r ≡ placeIn (partSays found) ⌝ }
 {
     match found {
-        CutoffPart::Absent => Place { part: 0, at: 0 },
-        CutoffPart::Present(c) => Place {
-            part: 1,
-            at: c as u64,
-        },
+        CutoffPart::Absent => Place::Nothing,
+        CutoffPart::Present(c) => Place::At(c as u64),
     }
 }
 
@@ -116,12 +132,9 @@ fn crossover_in(answer: Cutoff) -> Place
     ensures { λ r. ⌜ r ≡ crossoverPlace (cutoffSays answer) ⌝ }
 {
     match answer {
-        Cutoff::At(c) => Place {
-            part: 1,
-            at: c as u64,
-        },
-        Cutoff::Nothing => Place { part: 0, at: 0 },
-        Cutoff::Refused(_) => no_place(),
+        Cutoff::At(c) => Place::At(c as u64),
+        Cutoff::Nothing => Place::Nothing,
+        Cutoff::Refused(_) => Place::Unknown,
     }
 }
 
@@ -129,46 +142,40 @@ fn floor_in(answer: FloorAnswer) -> Place
     ensures { λ r. ⌜ r ≡ floorPlace (floorSays answer) ⌝ }
 {
     match answer {
-        FloorAnswer::At(c) => Place {
-            part: 1,
-            at: c as u64,
-        },
-        FloorAnswer::Refused(_) => no_place(),
+        FloorAnswer::At(c) => Place::At(c as u64),
+        FloorAnswer::Refused(_) => Place::Unknown,
     }
 }
 
-fn why_not(allowed: f64) -> u64
+// Why a hole cutoff is not sure, where there is a walk.
+fn why_not(allowed: f64) -> HowSure
     ensures { λ r. ⌜ r ≡ whyNot allowed ⌝ }
 {
     if is_finite(allowed) {
-        return 2;
+        return HowSure::NotProbable;
     }
-    1
+    HowSure::NotFinite
 }
 
-fn hole_in(why: u64, answer: SureCutoff) -> Hole
+fn hole_in(why: HowSure, answer: SureCutoff) -> Hole
     ensures { λ r. ⌜ r ≡ holeIn why (sureSays answer) ⌝ }
 {
     match answer {
         SureCutoff::Sure(found) => Hole {
             place: place_in(found),
-            kind: 0,
-            number: 0,
+            how: HowSure::Sure,
         },
         SureCutoff::NotSure(found) => Hole {
             place: place_in(found),
-            kind: why,
-            number: 0,
+            how: why,
         },
         SureCutoff::NoWalk => Hole {
-            place: Place { part: 0, at: 0 },
-            kind: 3,
-            number: 0,
+            place: Place::Nothing,
+            how: HowSure::NoWalk,
         },
         SureCutoff::Refused(n) => Hole {
-            place: no_place(),
-            kind: 4,
-            number: n as u64,
+            place: Place::Unknown,
+            how: HowSure::Refused(n as u64),
         },
     }
 }

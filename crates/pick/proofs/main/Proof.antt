@@ -11,7 +11,7 @@ use Rattle.os.proofs.fail.Reads as fail-reads
 use Rattle.pick.proofs.asking.read_words.Reads as read-words-reads
 use Rattle.pick.proofs.pick_file.Reads as pick-file-reads
 use Rattle.pick.proofs.progress.seconds.Reads as seconds-reads
-use Rattle.pick.proofs.showing.tell.Reads as tell-reads
+use Rattle.pick.proofs.showing.tell_failed.Reads as tell-failed-reads
 use Rattle.streams.proofs.input.read_input.Reads as read-input-reads
 
 abbrev reading : tie.After-input → tie.After-read-input

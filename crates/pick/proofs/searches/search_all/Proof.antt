@@ -1,3 +1,4 @@
+-- `pick::searches::search_all` meets its contract: the loop keeps every lent slice as long as it was. Assumes nothing.
 use Prim.Native.Nat.{_-_, _≤_}
 use mathlib.Core.Path.{_≡_, refl, _∙_}
 use native.Mathlib.Omega.{arith}
@@ -5,18 +6,6 @@ use lib.ListN.{length}
 use borrow.Author.Needs.{needs}
 use Rattle.pick.proofs.searches.search_all.Statement.{statement}
 use Rattle.pick.proofs.searches.search_all.Tie as tie
-use Rattle.pick.proofs.searches.search_all.Reads as reads
-use Rattle.pick.proofs.searches.search_all.Lts as lts
-use Rattle.pick.proofs.progress.say.Reads as say-reads
-use Rattle.pick.proofs.searches.both.Reads as both-reads
-use Rattle.pick.proofs.searches.first_bytes.Reads as first-bytes-reads
-use Rattle.pick.proofs.searches.first_floats.Reads as first-floats-reads
-use Rattle.pick.proofs.searches.go_on.Reads as go-on-reads
-use Rattle.pick.proofs.searches.least_cost.Reads as least-cost-reads
-use Rattle.pick.proofs.searches.next_slice.Reads as next-slice-reads
-use Rattle.pick.proofs.searches.runs_done.Reads as runs-done-reads
-use Rattle.pick.proofs.showing.is_heard.Reads as is-heard-reads
-use Rattle.record.proofs.values.pattern.Reads as pattern-reads
 
 abbrev Inv-loop : tie.InvT-loop
 Inv-loop bins problem runs k watch rows₀ iterations₀ stopped₀ ready₀ table₀ converged₀ costs₀ places₀ lengths₀ caps₀ whole₀ done₀ slice₀ rows iterations stopped ready table converged costs places lengths caps whole done slice =

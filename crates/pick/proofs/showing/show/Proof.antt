@@ -12,6 +12,7 @@ use Rattle.pick.proofs.showing.complain.Reads as complain-reads
 use Rattle.pick.proofs.showing.is_heard.Reads as is-heard-reads
 use Rattle.pick.proofs.showing.say_unheard.Reads as say-unheard-reads
 use Rattle.pick.proofs.showing.tell.Reads as tell-reads
+use Rattle.pick.proofs.showing.tell_failed.Reads as tell-failed-reads
 use Rattle.streams.proofs.output.write_output.Reads as write-output-reads
 
 -- src/showing.rt:36:18

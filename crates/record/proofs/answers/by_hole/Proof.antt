@@ -1,16 +1,13 @@
 -- `record::answers::by_hole` meets its contract. Assumes nothing.
-use borrow.Author.Tests.{eq-eqb, ne-eqb}
-use Rattle.record.specs.Answers.{byHole}
+use borrow.Author.Needs.{needs}
 use Rattle.record.proofs.answers.by_hole.Statement.{statement}
 use Rattle.record.proofs.answers.by_hole.Tie as tie
 
-returns : tie.Need-returns
-unfolding byHole
-returns c = rw (ne-eqb _ _ (c .if1 .taken))
-
 returns-2 : tie.Need-returns-2
-unfolding byHole
-returns-2 c = rw (eq-eqb _ _ (c .before .if1 .left))
+returns-2 c = cc
 
 pub by-hole-spec : {M : Type 1} → statement M
-by-hole-spec = tie.close (tie.spec returns returns-2)
+by-hole-spec =
+    tie.close
+    (tie.spec (λ c. search needs) (λ c. search needs) (λ c. search needs) (λ c. search needs) returns-2
+    (λ c. search needs))

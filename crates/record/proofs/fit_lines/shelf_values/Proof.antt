@@ -10,7 +10,10 @@ returns : tie.Need-returns
 returns c = rw (c .enum-told .given .1)
 
 returns-2 : tie.Need-returns-2
-returns-2 c = rw (c .before .before .before .before .part .given .1, c .pattern3 .ensures, c .before .pattern2 .ensures, c .before .before .pattern .ensures)
+returns-2 c =
+    let alpha = c .before in
+    let share = alpha .before in
+    rw (share .before .before .part .given .1, c .pattern3 .ensures, alpha .pattern2 .ensures, share .pattern .ensures)
 
 pub shelf-values-spec : {M : Type 1} → statement M
 shelf-values-spec =

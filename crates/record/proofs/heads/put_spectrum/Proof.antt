@@ -4,10 +4,10 @@ use Rattle.record.proofs.heads.put_spectrum.Statement.{statement}
 use Rattle.record.proofs.heads.put_spectrum.Tie as tie
 
 returns : tie.Need-returns
-returns c = rw (c .before .before .before .before .before .before .flag .ensures, c .before .before .before .before .before .before .before .before .window-kind .ensures, c .before .before .before .before .before .before .before .before .before .window-end-of .ensures) at (c .before .before .fill .ensures)
+returns c = (cc, cc)
 
 pub put-spectrum-spec : {M : Type 1} → statement M
 put-spectrum-spec =
     tie.close
-    (tie.spec (λ c κs. search needs) (λ c κs. search needs) (λ c κs. search needs) (λ c. search needs)
-    (λ c. search needs) (λ c κs. search needs) (λ c. search needs) returns)
+    (tie.spec (λ c κs. search needs) (λ c κs. search needs) (λ c κs. search needs) (λ c κs. search needs)
+    (λ c. search needs) (λ c. search needs) (λ c. search needs) (λ c κs. search needs) (λ c. search needs) returns)

@@ -7,7 +7,10 @@ use Rattle.record.proofs.leaning.lean.Tie as tie
 
 returns : tie.Need-returns
 unfolding leanStep
-returns c = rw (sym (c .before .before .before .before .is-valid .ensures) ∙ c .before .before .before .if1 .taken) (rw (c .before .vote .ensures, c .before .before .hole-of .ensures) at (c .lean-on .ensures))
+returns c =
+    let hole = c .before .before in
+    rw (sym (hole .before .before .is-valid .ensures) ∙ hole .before .if1 .taken)
+    (rw (c .before .vote .ensures, hole .hole-of .ensures) at (c .lean-on .ensures))
 
 returns-2 : tie.Need-returns-2
 unfolding leanStep

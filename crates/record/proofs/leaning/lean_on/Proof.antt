@@ -7,11 +7,16 @@ use Rattle.record.proofs.leaning.lean_on.Tie as tie
 
 returns : tie.Need-returns
 unfolding leantOn
-returns c = rw (eq-eqb _ _ (c .before .before .if1 .taken), c .before .before .before .before .least .ensures, c .before .before .before .largest .ensures)
+returns c =
+    let same = c .before .before in
+    let high = same .before in
+    rw (eq-eqb _ _ (same .if1 .taken), high .before .least .ensures, high .largest .ensures)
 
 returns-2 : tie.Need-returns-2
 unfolding leantOn
-returns-2 c = rw (ne-eqb _ _ (c .before .if1 .left), c .before .before .before .least .ensures, c .before .before .largest .ensures)
+returns-2 c =
+    let high = c .before .before in
+    rw (ne-eqb _ _ (c .before .if1 .left), high .before .least .ensures, high .largest .ensures)
 
 pub lean-on-spec : {M : Type 1} → statement M
 lean-on-spec =

@@ -1,20 +1,17 @@
 -- `record::leaning::vote` meets its contract. Assumes nothing.
-use borrow.Author.Tests.{eq-eqb, ne-eqb}
+use mathlib.Core.Path.{sym, _∙_}
 use Rattle.record.specs.Leaning.{voteOf}
+use borrow.Author.Needs.{needs}
 use Rattle.record.proofs.leaning.vote.Statement.{statement}
 use Rattle.record.proofs.leaning.vote.Tie as tie
 
 returns : tie.Need-returns
 unfolding voteOf
-returns c = rw (eq-eqb _ _ (c .if1 .taken))
+returns c = rw (sym (c .before .before .is-walked .ensures) ∙ c .before .if1 .taken) (c .count-vote .ensures)
 
 returns-2 : tie.Need-returns-2
 unfolding voteOf
-returns-2 c = rw (ne-eqb _ _ (c .before .before .if1 .left), eq-eqb _ _ (c .if2 .taken))
-
-returns-3 : tie.Need-returns-3
-unfolding voteOf
-returns-3 c = rw (ne-eqb _ _ (c .before .before .if1 .left), ne-eqb _ _ (c .if2 .left))
+returns-2 c = rw (sym (c .before .is-walked .ensures) ∙ c .if1 .left)
 
 pub vote-spec : {M : Type 1} → statement M
-vote-spec = tie.close (tie.spec returns returns-2 returns-3)
+vote-spec = tie.close (tie.spec (λ c κs. search needs) (λ c κs. search needs) returns returns-2)

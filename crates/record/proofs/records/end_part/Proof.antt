@@ -11,7 +11,7 @@ returns c = rw (eq-eqb _ _ (c .if1 .taken))
 
 returns-2 : tie.Need-returns-2
 unfolding endPart
-returns-2 c = rw (ne-eqb _ _ (c .before .if1 .left)) (c .flag .ensures)
+returns-2 c = rw (ne-eqb _ _ (c .before .if1 .left)) (c .byte-of .ensures)
 
 pub end-part-spec : {M : Type 1} → statement M
-end-part-spec = tie.close (tie.spec returns (λ c κs. search needs) returns-2)
+end-part-spec = tie.close (tie.spec returns (λ c κs. search needs) (λ c. search needs) returns-2)

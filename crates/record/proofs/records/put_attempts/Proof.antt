@@ -1,5 +1,5 @@
 -- `record::records::put_attempts` meets its contract. Assumes nothing.
-use Rattle.templates.proofs.Cuts.{joined}
+use Rattle.templates.proofs.Cuts.{end-join, put-join}
 use Rattle.record.specs.Record.{attemptsText}
 use borrow.Author.Needs.{needs}
 use Rattle.record.proofs.records.put_attempts.Statement.{statement}
@@ -7,10 +7,7 @@ use Rattle.record.proofs.records.put_attempts.Tie as tie
 
 returns : tie.Need-returns
 unfolding attemptsText
-returns c =
-    joined _ _ _ _ _ _ _ _ (c .before .before .before .before .before .before .before .before .before .before .before .before .before .before .put-attempt .ensures)
-    (joined _ _ _ _ _ _ _ _ (c .before .before .before .before .before .before .before .before .before .before .put-attempt2 .ensures)
-    (joined _ _ _ _ _ _ _ _ (c .before .before .before .before .before .before .put-attempt3 .ensures) (c .before .before .put-attempt4 .ensures)))
+returns c = (simp end-join (cc), simp put-join (cc))
 
 pub put-attempts-spec : {M : Type 1} → statement M
 put-attempts-spec =

@@ -3,23 +3,20 @@ use borrow.Author.Needs.{needs}
 use Rattle.record.proofs.values.hole_in.Statement.{statement}
 use Rattle.record.proofs.values.hole_in.Tie as tie
 
-enum-told : tie.Need-enum-told
-enum-told c = search needs
-
 returns : tie.Need-returns
-returns c = rw (c .before .before .answer .given .1, c .place-in .ensures)
+returns c = cc
 
 returns-2 : tie.Need-returns-2
 returns-2 c = rw (c .before .before .answer2 .given .1, c .place-in2 .ensures)
 
 returns-3 : tie.Need-returns-3
-returns-3 c = rw (c .enum-told .given .1)
+returns-3 c = cc
 
 returns-4 : tie.Need-returns-4
-returns-4 c = rw (c .before .before .answer3 .given .1, c .no-place .ensures)
+returns-4 c = cc
 
 pub hole-in-spec : {M : Type 1} → statement M
 hole-in-spec =
     tie.close
-    (tie.spec (λ c. search needs) (λ c κs. search needs) (λ c. search needs) (λ c κs. search needs) enum-told
-    (λ c. search needs) (λ c κs. search needs) (λ c. search needs) returns returns-2 returns-3 returns-4)
+    (tie.spec (λ c. search needs) (λ c κs. search needs) (λ c. search needs) (λ c κs. search needs)
+    (λ c. search needs) (λ c. search needs) (λ c. search needs) returns returns-2 returns-3 returns-4)
