@@ -16,7 +16,7 @@ use Rattle.list.proofs.list.Statement.{statement}
 use Rattle.list.proofs.list.Tie as tie
 
 abbrev start : tie.After-read-histogram → tie.Start
-start h = h .before .before .before .before
+start h = search
 
 abbrev file : tie.After-read-histogram → List ℕ
 file h = start h .args .file .now
@@ -29,7 +29,7 @@ bytes h = below-each 256 (file h) (λ (i : ℕ) (l : i < length (file h)). h .be
 
 -- ---- the bins of an accepted file
 abbrev reader : tie.After-read → tie.After-read-histogram
-reader c = c .before .before .before
+reader c = search
 
 abbrev n : tie.After-read → ℕ
 n c = c .read .given .0 .0
@@ -49,15 +49,16 @@ array-share-prefix-bins : tie.Need-array-share-prefix-bins
 array-share-prefix-bins c = part (c .before) .0
 
 slice-aggregate-list-histogram : tie.Need-slice-aggregate-list-histogram
-slice-aggregate-list-histogram c = let a = c .before .before in sym (length-take-le (n a) (filled (reader a)) (part a .0))
+slice-aggregate-list-histogram c = let a : tie.After-read = search in
+    sym (length-take-le (n a) (filled (reader a)) (part a .0))
 
 enum-told : tie.Need-enum-told
 enum-told c = search needs
 
 returns : tie.Need-returns
 returns c =
-    let p = c .before .before .before in
-    let a = p .before .before .before .before in
+    let p : tie.After-list-histogram = search in
+    let a : tie.After-read = search in
     let h = reader a in
     lists-bins (file h) (start h .args .text .now) (p .list-histogram .last .1 .0) (p .list-histogram .result) (start h .pre) (c .items .result) (c .items .ensures)
     (take (n a) (filled h)) (read a .xs) (part a .1) (read a .is) (holds a) (p .list-histogram .ensures .0) (p .list-histogram .ensures .1)
@@ -65,10 +66,10 @@ returns c =
 returns-2 : tie.Need-returns-2
 unfolding mostBins
 returns-2 c =
-    let p = c .before .before .before in
-    let k = p .before .before in
+    let p : tie.After-list-refusal = search in
+    let k : tie.After-known-told2 = search in
     let a = k .before in
-    let h = a .before .before .before in
+    let h : tie.After-read-histogram = search in
     let place = a .read2 .given .0 .0 in
     let e = place-read (file h) (bytes h) place (sym (ap fileSays (a .read2 .given .1)) ∙ h .read-histogram .ensures .0) in
     lists-place (file h) (start h .args .text .now) (p .list-refusal .last .1 .0) (p .list-refusal .result) (start h .pre) (c .items2 .result) (c .items2 .ensures)
@@ -77,7 +78,7 @@ returns-2 c =
 returns-3 : tie.Need-returns-3
 unfolding mostBins
 returns-3 c =
-    let h = c .before .before .before in
+    let h : tie.After-read-histogram = search in
     absurd (never-other (file h) (bytes h) _ (sym (ap fileSays (c .enum-told .given .1)) ∙ h .read-histogram .ensures .0))
 
 pub list-spec : {M : Type 1} → statement M

@@ -8,7 +8,7 @@ use Rattle.list.proofs.main.Statement.{statement}
 use Rattle.list.proofs.main.Tie as tie
 
 abbrev reading : tie.After-input → tie.After-read-input
-reading c = c .before .before .before
+reading c = search
 
 within : (c : tie.After-input) → Counts (c .input .given .0 .0) (reading c .read-input .last .0)
 within c = subst (λ (r : Input). Within r (reading c .read-input .last .0)) (c .input .given .1) (reading c .read-input .ensures)
@@ -17,7 +17,7 @@ array-share-prefix-file : tie.Need-array-share-prefix-file
 array-share-prefix-file c = within (c .before) .0
 
 slice-aggregate-show : tie.Need-slice-aggregate-show
-slice-aggregate-show c = within (c .before .before) .1
+slice-aggregate-show c = let after-input : tie.After-input = search in within after-input .1
 
 pub main-spec : {M : Type 1} → statement M
 main-spec =

@@ -5,7 +5,8 @@ use Rattle.exports.proofs.costs.fog_prepare_window.Tie as tie
 
 returns : tie.Need-returns
 returns c =
-    let call = c .before .before .before .prepare-window .ensures in
+    let after-prepare-window : tie.After-prepare-window = search in
+    let call = after-prepare-window .prepare-window .ensures in
     (rw (c .flat-written .ensures, call .0), call .1)
 
 pub fog-prepare-window-spec : {M : Type 1} → statement M

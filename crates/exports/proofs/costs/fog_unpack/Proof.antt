@@ -5,9 +5,21 @@ use Rattle.exports.proofs.costs.fog_unpack.Tie as tie
 
 returns : tie.Need-returns
 returns c =
-    let call = c .before .before .before in
-    let families = call .before .before in
-    (rw (c .flat-fit-answer .ensures, call .unpack .ensures .0, families .genome-of .ensures, families .before .error-of .ensures), rw (call .unpack .ensures .1, families .genome-of .ensures, families .before .error-of .ensures))
+    let call : tie.After-unpack = search in
+    let families : tie.After-genome-of = search in
+    let after-error-of : tie.After-error-of = search in (
+      rw (
+        c .flat-fit-answer .ensures,
+        call .unpack .ensures .0,
+        families .genome-of .ensures,
+        after-error-of .error-of .ensures,
+      ),
+      rw (
+        call .unpack .ensures .1,
+        families .genome-of .ensures,
+        after-error-of .error-of .ensures,
+      ),
+    )
 
 pub fog-unpack-spec : {M : Type 1} → statement M
 fog-unpack-spec =

@@ -5,7 +5,7 @@ use Rattle.exports.proofs.files.fog_read_histogram.Tie as tie
 
 returns : tie.Need-returns
 returns c =
-    let call = c .before .before .before in
+    let call : tie.After-read-histogram = search in
     (rw (c .flat-file .ensures, call .read-histogram .ensures .0), call .read-histogram .ensures .1)
 
 pub fog-read-histogram-spec : {M : Type 1} → statement M

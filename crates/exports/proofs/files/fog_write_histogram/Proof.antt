@@ -5,7 +5,7 @@ use Rattle.exports.proofs.files.fog_write_histogram.Tie as tie
 
 returns : tie.Need-returns
 returns c =
-    let call = c .before .before .before in
+    let call : tie.After-write-histogram = search in
     (rw (c .flat-written .ensures, call .write-histogram .ensures .0), call .write-histogram .ensures .1)
 
 pub fog-write-histogram-spec : {M : Type 1} → statement M

@@ -6,7 +6,15 @@ use Rattle.exports.proofs.fits.fit_of.Tie as tie
 
 returns : tie.Need-returns
 unfolding fitOf
-returns c = rw (c .part-of .ensures, c .before .errors-of .ensures, c .before .before .genome-of .ensures, c .before .before .before .error-of .ensures)
+returns c =
+    let after-genome-of : tie.After-genome-of = search in
+    let after-error-of : tie.After-error-of = search in
+    rw (
+      c .part-of .ensures,
+      c .before .errors-of .ensures,
+      after-genome-of .genome-of .ensures,
+      after-error-of .error-of .ensures,
+    )
 
 pub fit-of-spec : {M : Type 1} → statement M
 fit-of-spec =

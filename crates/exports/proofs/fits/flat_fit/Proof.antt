@@ -6,7 +6,17 @@ use Rattle.exports.proofs.fits.flat_fit.Tie as tie
 
 returns : tie.Need-returns
 unfolding ofFit
-returns c = rw (c .shelf-numbers .ensures, c .before .shelf-there .ensures, c .before .before .genome-number .ensures, c .before .before .before .error-number .ensures, c .before .before .before .before .flat-errors .ensures)
+returns c =
+    let genome : tie.After-genome-number = search in
+    let error : tie.After-error-number = search in
+    let errors : tie.After-flat-errors = search in
+    rw (
+      c .shelf-numbers .ensures,
+      c .before .shelf-there .ensures,
+      genome .genome-number .ensures,
+      error .error-number .ensures,
+      errors .flat-errors .ensures,
+    )
 
 pub flat-fit-spec : {M : Type 1} → statement M
 flat-fit-spec =

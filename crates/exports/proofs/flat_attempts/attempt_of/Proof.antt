@@ -7,14 +7,15 @@ use Rattle.exports.proofs.flat_attempts.attempt_of.Tie as tie
 returns : tie.Need-returns
 unfolding attemptOfFlat
 returns c =
-    let rejected = c .before .before in
+    let rejected : tie.After-rejection-of = search in
     let fitted = rejected .before in
+    let after-error-of : tie.After-error-of = search in
     rw (
       c .make-attempt .ensures,
       rejected .rejection-of .ensures,
       fitted .fit-of .ensures,
       fitted .before .genome-of .ensures,
-      fitted .before .before .error-of .ensures,
+      after-error-of .error-of .ensures,
     )
 
 pub attempt-of-spec : {M : Type 1} → statement M

@@ -4,7 +4,9 @@ use Rattle.exports.proofs.flat_attempts.fog_is_valid.Statement.{stateme
 use Rattle.exports.proofs.flat_attempts.fog_is_valid.Tie as tie
 
 returns : tie.Need-returns
-returns c = rw (c .byte-of .ensures, c .before .is-valid .ensures, c .before .before .attempt-of .ensures)
+returns c =
+    let after-attempt-of : tie.After-attempt-of = search in
+    rw (c .byte-of .ensures, c .before .is-valid .ensures, after-attempt-of .attempt-of .ensures)
 
 pub fog-is-valid-spec : {M : Type 1} → statement M
 fog-is-valid-spec = tie.close (tie.spec (λ c κs. search needs) (λ c κs. search needs) (λ c κs. search needs) returns)

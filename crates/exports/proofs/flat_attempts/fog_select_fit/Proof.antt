@@ -5,7 +5,7 @@ use Rattle.exports.proofs.flat_attempts.fog_select_fit.Tie as tie
 
 returns : tie.Need-returns
 returns c =
-    let four = c .before .before in
+    let four : tie.After-attempt-of4 = search in
     let three = four .before in
     let two = three .before in
     rw (

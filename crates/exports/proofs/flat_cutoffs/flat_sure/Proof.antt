@@ -7,10 +7,12 @@ enum-told : tie.Need-enum-told
 enum-told c = search needs
 
 returns : tie.Need-returns
-returns c = rw (c .before .before .answer .given .1, c .or-zero .ensures)
+returns c = let after-answer : tie.After-answer = search in rw (after-answer .answer .given .1, c .or-zero .ensures)
 
 returns-2 : tie.Need-returns-2
-returns-2 c = rw (c .before .before .answer2 .given .1, c .or-zero2 .ensures)
+returns-2 c =
+    let after-answer2 : tie.After-answer2 = search in
+    rw (after-answer2 .answer2 .given .1, c .or-zero2 .ensures)
 
 returns-3 : tie.Need-returns-3
 returns-3 c = rw (c .enum-told .given .1)

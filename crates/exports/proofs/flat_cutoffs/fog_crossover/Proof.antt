@@ -4,7 +4,9 @@ use Rattle.exports.proofs.flat_cutoffs.fog_crossover.Statement.{stateme
 use Rattle.exports.proofs.flat_cutoffs.fog_crossover.Tie as tie
 
 returns : tie.Need-returns
-returns c = rw (c .flat-cutoff .ensures, c .before .crossover .ensures, c .before .before .fit-of .ensures)
+returns c =
+    let after-fit-of : tie.After-fit-of = search in
+    rw (c .flat-cutoff .ensures, c .before .crossover .ensures, after-fit-of .fit-of .ensures)
 
 pub fog-crossover-spec : {M : Type 1} → statement M
 fog-crossover-spec = tie.close (tie.spec (λ c κs. search needs) (λ c κs. search needs) (λ c κs. search needs) returns)

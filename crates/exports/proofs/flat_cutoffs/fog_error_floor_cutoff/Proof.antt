@@ -4,7 +4,9 @@ use Rattle.exports.proofs.flat_cutoffs.fog_error_floor_cutoff.Statement
 use Rattle.exports.proofs.flat_cutoffs.fog_error_floor_cutoff.Tie as tie
 
 returns : tie.Need-returns
-returns c = rw (c .flat-floor .ensures, c .before .error-floor-cutoff .ensures, c .before .before .fit-of .ensures)
+returns c =
+    let after-fit-of : tie.After-fit-of = search in
+    rw (c .flat-floor .ensures, c .before .error-floor-cutoff .ensures, after-fit-of .fit-of .ensures)
 
 pub fog-error-floor-cutoff-spec : {M : Type 1} → statement M
 fog-error-floor-cutoff-spec =

@@ -4,7 +4,9 @@ use Rattle.exports.proofs.flat_cutoffs.fog_hole_cutoff_sure.Statement.{
 use Rattle.exports.proofs.flat_cutoffs.fog_hole_cutoff_sure.Tie as tie
 
 returns : tie.Need-returns
-returns c = rw (c .flat-sure .ensures, c .before .hole-cutoff-sure .ensures .0, c .before .before .fit-of .ensures)
+returns c =
+    let after-fit-of : tie.After-fit-of = search in
+    rw (c .flat-sure .ensures, c .before .hole-cutoff-sure .ensures .0, after-fit-of .fit-of .ensures)
 
 pub fog-hole-cutoff-sure-spec : {M : Type 1} → statement M
 fog-hole-cutoff-sure-spec =

@@ -4,7 +4,9 @@ use Rattle.exports.proofs.masses.fog_single_copy_log_mass.Statement.{st
 use Rattle.exports.proofs.masses.fog_single_copy_log_mass.Tie as tie
 
 returns : tie.Need-returns
-returns c = rw (c .flat-number .ensures, c .before .single-copy-log-mass .ensures, c .before .before .part-of .ensures)
+returns c =
+    let after-part-of : tie.After-part-of = search in
+    rw (c .flat-number .ensures, c .before .single-copy-log-mass .ensures, after-part-of .part-of .ensures)
 
 pub fog-single-copy-log-mass-spec : {M : Type 1} → statement M
 fog-single-copy-log-mass-spec =

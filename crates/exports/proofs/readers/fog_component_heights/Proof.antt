@@ -4,7 +4,9 @@ use Rattle.exports.proofs.readers.fog_component_heights.Statement.{stat
 use Rattle.exports.proofs.readers.fog_component_heights.Tie as tie
 
 returns : tie.Need-returns
-returns c = rw (c .flat-heights .ensures, c .before .component-heights .ensures, c .before .before .fit-of .ensures)
+returns c =
+    let after-fit-of : tie.After-fit-of = search in
+    rw (c .flat-heights .ensures, c .before .component-heights .ensures, after-fit-of .fit-of .ensures)
 
 pub fog-component-heights-spec : {M : Type 1} → statement M
 fog-component-heights-spec =

@@ -5,8 +5,8 @@ use Rattle.exports.proofs.readers.fog_component_heights_to.Tie as tie
 
 returns : tie.Need-returns
 returns c =
-    let call = c .before .before .before in
-    let fit = call .before .before in (
+    let call : tie.After-component-heights-to = search in
+    let fit : tie.After-fit-of = search in (
       rw (c .flat-written .ensures, call .component-heights-to .ensures .0, fit .fit-of .ensures),
       rw (call .component-heights-to .ensures .1, fit .fit-of .ensures),
     )

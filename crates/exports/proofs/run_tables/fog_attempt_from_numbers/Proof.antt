@@ -23,8 +23,8 @@ stands s t k m before after e f h =
 returns : tie.Need-returns
 unfolding sayAttempt
 returns c =
-    let call = c .before .before .before in
-    let made = call .before .before in (
+    let call : tie.After-attempt-from-numbers = search in
+    let made : tie.After-setup-of = search in (
       rw (c .flat-attempt-answer .ensures, call .attempt-from-numbers .ensures .0, made .setup-of .ensures),
       stands _ _ _ _ _ _ (made .setup-of .ensures)
           (ap (λ (a : FlatAttemptAnswer). a .number) (c .flat-attempt-answer .ensures))

@@ -10,7 +10,9 @@ returns : tie.Need-returns
 returns c = rw (c .enum-told .given .1)
 
 returns-2 : tie.Need-returns-2
-returns-2 c = rw (c .before .before .rejection .given .1, c .reason-number .ensures)
+returns-2 c =
+    let after-rejection : tie.After-rejection = search in
+    rw (after-rejection .rejection .given .1, c .reason-number .ensures)
 
 pub rejection-number-spec : {M : Type 1} → statement M
 rejection-number-spec = tie.close (tie.spec enum-told (λ c. search needs) (λ c κs. search needs) returns returns-2)

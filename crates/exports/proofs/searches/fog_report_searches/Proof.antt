@@ -14,13 +14,13 @@ use Rattle.exports.proofs.searches.fog_report_searches.Statement.{state
 use Rattle.exports.proofs.searches.fog_report_searches.Tie as tie
 
 abbrev called : tie.After-flat-written → tie.After-report-searches
-called c = c .before .before .before .before .before .before .before .before .before .before .before
+called c = search
 
 abbrev made : tie.After-flat-written → tie.After-genome-of
-made c = called c .before .before .before .before .before .before
+made c = search
 
 abbrev start : tie.After-flat-written → tie.Start
-start c = made c .before .before .before .before .before .before .before .before .before .before
+start c = search
 
 returns : tie.Need-returns
 returns c =

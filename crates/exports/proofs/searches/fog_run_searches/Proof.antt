@@ -23,13 +23,13 @@ stands answer p q before after e h =
     subst (λ (x : Problem). drop (stoodFrom x (answer x)) after ≡ drop (stoodFrom x (answer x)) before) e h
 
 abbrev called : tie.After-flat-written → tie.After-run-searches
-called c = c .before .before .before .before .before .before .before .before .before .before .before
+called c = search
 
 abbrev made : tie.After-flat-written → tie.After-problem-of
-made c = called c .before .before .before .before .before .before
+made c = search
 
 abbrev start : tie.After-flat-written → tie.Start
-start c = made c .before .before .before .before .before .before .before
+start c = search
 
 returns : tie.Need-returns
 returns c =

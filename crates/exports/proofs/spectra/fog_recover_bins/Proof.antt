@@ -5,7 +5,7 @@ use Rattle.exports.proofs.spectra.fog_recover_bins.Tie as tie
 
 returns : tie.Need-returns
 returns c =
-    let call = c .before .before .before in
+    let call : tie.After-recover-bins = search in
     (rw (c .flat-written .ensures, call .recover-bins .ensures .0), call .recover-bins .ensures .1)
 
 pub fog-recover-bins-spec : {M : Type 1} → statement M

@@ -10,7 +10,9 @@ returns : tie.Need-returns
 returns c = rw (c .enum-told .given .1)
 
 returns-2 : tie.Need-returns-2
-returns-2 c = rw (c .before .before .verdict .given .1, c .reason-number .ensures)
+returns-2 c =
+    let after-verdict : tie.After-verdict = search in
+    rw (after-verdict .verdict .given .1, c .reason-number .ensures)
 
 returns-3 : tie.Need-returns-3
 returns-3 c = rw (c .before .verdict2 .given .1)

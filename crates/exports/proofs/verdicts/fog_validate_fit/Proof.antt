@@ -4,7 +4,9 @@ use Rattle.exports.proofs.verdicts.fog_validate_fit.Statement.{statemen
 use Rattle.exports.proofs.verdicts.fog_validate_fit.Tie as tie
 
 returns : tie.Need-returns
-returns c = rw (c .flat-verdict .ensures, c .before .validate-fit .ensures, c .before .before .fit-of .ensures)
+returns c =
+    let after-fit-of : tie.After-fit-of = search in
+    rw (c .flat-verdict .ensures, c .before .validate-fit .ensures, after-fit-of .fit-of .ensures)
 
 pub fog-validate-fit-spec : {M : Type 1} → statement M
 fog-validate-fit-spec =

@@ -4,7 +4,9 @@ use Rattle.probe.proofs.errors.fog_log_window_mass.Statement.{statement
 use Rattle.probe.proofs.errors.fog_log_window_mass.Tie as tie
 
 returns : tie.Need-returns
-returns c = rw (c .flat-number .ensures, c .before .log-window-mass .ensures, c .before .before .errors-of .ensures)
+returns c =
+    let after-errors-of : tie.After-errors-of = search in
+    rw (c .flat-number .ensures, c .before .log-window-mass .ensures, after-errors-of .errors-of .ensures)
 
 pub fog-log-window-mass-spec : {M : Type 1} → statement M
 fog-log-window-mass-spec =

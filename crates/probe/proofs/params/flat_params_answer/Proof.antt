@@ -4,10 +4,12 @@ use Rattle.probe.proofs.params.flat_params_answer.Statement.{statement}
 use Rattle.probe.proofs.params.flat_params_answer.Tie as tie
 
 returns : tie.Need-returns
-returns c = rw (c .before .before .answer .given .1, c .flat-params .ensures)
+returns c = let after-answer : tie.After-answer = search in rw (after-answer .answer .given .1, c .flat-params .ensures)
 
 returns-2 : tie.Need-returns-2
-returns-2 c = rw (c .before .before .answer2 .given .1, c .no-params .ensures)
+returns-2 c =
+    let after-answer2 : tie.After-answer2 = search in
+    rw (after-answer2 .answer2 .given .1, c .no-params .ensures)
 
 pub flat-params-answer-spec : {M : Type 1} → statement M
 flat-params-answer-spec =
