@@ -9,13 +9,13 @@ ghost use Rattle.arguments.specs.Answers.{decimal_says, whole_says};
 use meaning::bytes::wide;
 use routines::casts::from_u64;
 
-#[derive(Drop)]
+#[derive(Clone, Copy)]
 pub enum Decimal {
     Value(f64),
     Malformed,
 }
 
-#[derive(Drop)]
+#[derive(Clone, Copy)]
 pub enum Whole {
     Value(u64),
     Malformed,

@@ -1,4 +1,6 @@
 // What document 01 has run, and the edges of the routines: `stdout` beside src/ is what it must write.
+#![tactic(auto)]
+
 mod costs;
 mod files;
 mod four;

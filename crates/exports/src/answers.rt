@@ -11,28 +11,28 @@ use meaning::answers::Written;
 use models::heights::HeightsAnswer;
 
 #[repr(C)]
-#[derive(Drop)]
+#[derive(Clone, Copy)]
 pub struct FlatNumber {
     pub number: u8,
     pub value: f64,
 }
 
 #[repr(C)]
-#[derive(Drop)]
+#[derive(Clone, Copy)]
 pub struct FlatWritten {
     pub number: u8,
     pub items: usize,
 }
 
 #[repr(C)]
-#[derive(Drop)]
+#[derive(Clone, Copy)]
 pub struct FlatCount {
     pub number: u8,
     pub count: u64,
 }
 
 #[repr(C)]
-#[derive(Drop)]
+#[derive(Clone, Copy)]
 pub struct FlatHeights {
     pub number: u8,
     pub error: f64,

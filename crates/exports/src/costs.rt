@@ -16,7 +16,7 @@ use models::prepared::prepare_window;
 use models::unpacking::{FitAnswer, unpack};
 
 #[repr(C)]
-#[derive(Drop)]
+#[derive(Clone, Copy)]
 pub struct FlatFitAnswer {
     pub number: u8,
     pub fit: FlatFit,

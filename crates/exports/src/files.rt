@@ -13,7 +13,7 @@ use meaning::refusals::BROKEN_FILE;
 
 // `place` is the place of the first fault where the number is 3, and 0 otherwise.
 #[repr(C)]
-#[derive(Drop)]
+#[derive(Clone, Copy)]
 pub struct FlatFile {
     pub number: u8,
     pub items: usize,

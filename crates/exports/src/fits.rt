@@ -12,7 +12,7 @@ use models::parts::{
 };
 
 #[repr(C)]
-#[derive(Drop)]
+#[derive(Clone, Copy)]
 pub struct FlatErrors {
     pub singleton_probability: f64,
     pub tail_exponent: f64,
@@ -21,7 +21,7 @@ pub struct FlatErrors {
 }
 
 #[repr(C)]
-#[derive(Drop)]
+#[derive(Clone, Copy)]
 pub struct FlatFit {
     pub error_model: u8,
     pub genome_model: u8,

@@ -13,7 +13,7 @@ use meaning::flags::byte_of;
 use models::parts::{error_of, genome_of};
 
 #[repr(C)]
-#[derive(Drop)]
+#[derive(Clone, Copy)]
 pub struct FlatAttempt {
     pub error_model: u8,
     pub genome_model: u8,
@@ -26,7 +26,7 @@ pub struct FlatAttempt {
 }
 
 #[repr(C)]
-#[derive(Drop)]
+#[derive(Clone, Copy)]
 pub struct FlatSelected {
     pub found: u8,
     pub fit: FlatFit,

@@ -13,7 +13,7 @@ use models::walk::CutoffPart;
 
 // A cutoff is 2 at least, so 0 stands for none.
 #[repr(C)]
-#[derive(Drop)]
+#[derive(Clone, Copy)]
 pub struct FlatCutoff {
     pub number: u8,
     pub cutoff: u16,
@@ -21,7 +21,7 @@ pub struct FlatCutoff {
 
 // `walk` is 1 where the walk started, and `sure` is 1 where the guarantee holds of the cutoff.
 #[repr(C)]
-#[derive(Drop)]
+#[derive(Clone, Copy)]
 pub struct FlatSureCutoff {
     pub number: u8,
     pub walk: u8,

@@ -1,4 +1,6 @@
 // The C interface of what users call. include/fogatise.h says each function in C.
+#![tactic(auto)]
+
 pub mod answers;
 pub mod costs;
 pub mod densities;

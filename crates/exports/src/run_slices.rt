@@ -12,7 +12,7 @@ use models::problems::Problem;
 
 // The numbers of an attempt; the families are bytes.
 #[repr(C)]
-#[derive(Drop)]
+#[derive(Clone, Copy)]
 pub struct FlatSetup {
     pub scale: f64,
     pub window_end: usize,

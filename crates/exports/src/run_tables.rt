@@ -15,7 +15,7 @@ use models::parts::{error_number, error_of, genome_number, genome_of};
 use models::problems::Problem;
 
 #[repr(C)]
-#[derive(Drop)]
+#[derive(Clone, Copy)]
 pub struct FlatAttemptAnswer {
     pub number: u8,
     pub attempt: FlatAttempt,

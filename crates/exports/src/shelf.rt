@@ -5,7 +5,7 @@ ghost use Rattle.exports.specs.Flat.{shelf_of, part_of};
 use helpers::shelves::{Shelf, ShelfPart};
 
 #[repr(C)]
-#[derive(Drop)]
+#[derive(Clone, Copy)]
 pub struct FlatShelf {
     pub share: f64,
     pub alpha: f64,

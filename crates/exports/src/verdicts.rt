@@ -9,7 +9,7 @@ use fitter::rejections::reason_number;
 use fitter::validation::{Verdict, validate_fit};
 
 #[repr(C)]
-#[derive(Drop)]
+#[derive(Clone, Copy)]
 pub struct FlatVerdict {
     pub number: u8,
     pub reason: u8,

@@ -10,7 +10,7 @@ pub const SEEDS: [f64; 3] = [2.0, 8.0, 15.0];
 
 pub const SHAPES: [f64; 4] = [0.5, 3.0, 0.75, 4.0];
 
-#[derive(Drop)]
+#[derive(Clone, Copy)]
 pub struct Asked {
     pub valley: usize,
     pub peak: usize,
@@ -24,14 +24,14 @@ pub struct Asked {
 }
 
 // Where the window ends: before the whole of six peaks, at them, or where the caller says.
-#[derive(Drop)]
+#[derive(Clone, Copy)]
 pub enum WindowKind {
     Cut,
     Full,
     Given,
 }
 
-#[derive(Drop)]
+#[derive(Clone, Copy)]
 pub struct Families {
     pub error: ErrorModel,
     pub genome: GenomeModel,

@@ -8,14 +8,14 @@ use crate::rejections::FitRejection;
 use models::families::{ErrorModel, GenomeModel};
 use models::fit::SpectrumFit;
 
-#[derive(Drop)]
+#[derive(Clone, Copy)]
 pub enum RejectionPart {
     Absent,
     Present(FitRejection),
 }
 
 // The Rust's fields, in its order. Where there is no candidate, the fit is the empty one.
-#[derive(Drop)]
+#[derive(Clone, Copy)]
 pub struct FitAttempt {
     pub error_model: ErrorModel,
     pub genome_model: GenomeModel,

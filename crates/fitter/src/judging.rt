@@ -16,14 +16,14 @@ use models::problems::Problem;
 use models::unpacking::unpack;
 
 // A fit, and why it is not used; absent where it is valid.
-#[derive(Drop)]
+#[derive(Clone, Copy)]
 pub struct JudgedFit {
     pub fit: SpectrumFit,
     pub rejection: RejectionPart,
 }
 
 // The run that is kept so far.
-#[derive(Drop)]
+#[derive(Clone, Copy)]
 pub struct Held {
     pub best: Best,
     pub judged: JudgedFit,

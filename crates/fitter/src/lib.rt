@@ -1,6 +1,8 @@
 // Layer 4: from the histogram to the starts, the validator, an attempt and the selection among attempts.
 // Ported from src/preprocessing/spectrum_fitter.rs of bacpop/sparrowhawk-asm, f1f8af1232, Apache-2.0; ported and
 // changed.
+#![tactic(auto)]
+
 pub mod asking;
 pub mod attempting;
 pub mod attempts;

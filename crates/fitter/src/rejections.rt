@@ -5,7 +5,7 @@ ghost use Rattle.std.specs.Prelude.{◌≡◌};
 ghost use Rattle.fitter.specs.Validation.{reason_number};
 
 // The Rust's order: no run converged, or the first of the validator's ten rules that applies.
-#[derive(Drop)]
+#[derive(Clone, Copy)]
 pub enum FitRejection {
     OptimisationFailed,
     NonFiniteLikelihood,

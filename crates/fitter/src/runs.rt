@@ -8,7 +8,7 @@ use meaning::flags::is_set;
 use routines::pick::is_finite;
 
 // One record for each start. Where it did not converge, cost, place and length are not looked at.
-#[derive(Drop)]
+#[derive(Clone, Copy)]
 pub struct Run {
     pub converged: bool,
     pub cost: f64,
@@ -21,7 +21,7 @@ pub struct Run {
 
 // A run as it is lent: a flag is a byte, 0 for no and any other for yes.
 #[repr(C)]
-#[derive(Drop)]
+#[derive(Clone, Copy)]
 pub struct LentRun {
     pub converged: u8,
     pub cost: f64,
@@ -45,7 +45,7 @@ pub(crate) fn run_of(lent: LentRun) -> Run
 }
 
 // A run's answer: its cost and the place of its list.
-#[derive(Drop)]
+#[derive(Clone, Copy)]
 pub enum RunPoint {
     Converged(f64, usize),
     Missing,

@@ -10,7 +10,7 @@ use models::unpacking::empty_fit;
 use routines::pick::max;
 
 // Without one the fit is the empty one.
-#[derive(Drop)]
+#[derive(Clone, Copy)]
 pub struct Selected {
     pub found: bool,
     pub fit: SpectrumFit,

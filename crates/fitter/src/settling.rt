@@ -19,7 +19,7 @@ use models::refusals::{spectrum_refusal, table_refusal};
 use models::unpacking::empty_fit;
 
 // `number` is 0 beside an attempt; beside a number the attempt is the empty one.
-#[derive(Drop)]
+#[derive(Clone, Copy)]
 pub struct AttemptAnswer {
     pub number: u8,
     pub attempt: FitAttempt,
@@ -136,7 +136,7 @@ pub(crate) fn kept_answer(setup: Problem, survey: Survey, held: Held) -> Attempt
 }
 
 // `number` is 0 where nothing is refused. Where it is `unsettled`, the run held is the one of least cost, and rejected.
-#[derive(Drop)]
+#[derive(Clone, Copy)]
 pub struct Settled {
     pub number: u8,
     pub unsettled: bool,

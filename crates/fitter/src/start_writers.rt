@@ -20,14 +20,14 @@ const REPEAT_RATIO_START: f64 = 1.9;
 const LEAST: f64 = 1e-3;
 
 // A row of a table of error starts. The Pareto family reads no shape.
-#[derive(Drop)]
+#[derive(Clone, Copy)]
 pub(crate) struct ErrorStart {
     pub tail: f64,
     pub single: f64,
     pub shape: f64,
 }
 
-#[derive(Drop)]
+#[derive(Clone, Copy)]
 pub(crate) struct ShelfShape {
     pub retained: f64,
     pub concentration: f64,

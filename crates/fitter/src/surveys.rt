@@ -8,13 +8,13 @@ ghost use Rattle.fitter.specs.Surveys.{no_survey, beats, lesser, count_of, weigh
 use crate::runs::{Run, RunPoint, bad_cost, run_point, wrong_place};
 
 // A run and its position in the table; a run that did not converge stands for none.
-#[derive(Drop)]
+#[derive(Clone, Copy)]
 pub struct Best {
     pub run: Run,
     pub position: usize,
 }
 
-#[derive(Drop)]
+#[derive(Clone, Copy)]
 pub struct Survey {
     // A converged run's list is wrong: 7.
     pub wrong: bool,

@@ -17,7 +17,7 @@ use crate::surveys::{Survey, no_survey, survey_run};
 use models::families::list_length;
 use models::problems::Problem;
 
-#[derive(Drop)]
+#[derive(Clone, Copy)]
 pub struct Turns {
     // The position of the run that the next turn takes; `runs` where none is left.
     pub next: usize,

@@ -16,7 +16,7 @@ use meaning::refusals::{NO_WINDOW, TOO_LARGE, TOO_SMALL, WRONG_LIMIT_OR_COST};
 use models::fit::SpectrumFit;
 use routines::pick::is_finite;
 
-#[derive(Drop)]
+#[derive(Clone, Copy)]
 pub enum Verdict {
     Valid,
     Rejected(FitRejection),

@@ -12,7 +12,7 @@ pub const NEARLY_POISSON: f64 = 1.0 + 1e-9;
 
 // What a negative binomial's density has in common at every count: ln(mean); r, its log-gamma, r ln(p); ln(1-p).
 // As a Poisson it reads the mean and its log alone.
-#[derive(Drop)]
+#[derive(Clone, Copy)]
 pub struct Lobe {
     pub poisson: bool,
     pub mean: f64,

@@ -84,7 +84,7 @@ pub fn lse3(a: f64, b: f64, c: f64) -> f64
 }
 
 // The logs of the three softmax weights.
-#[derive(Drop)]
+#[derive(Clone, Copy)]
 pub struct Logs3 {
     pub first: f64,
     pub second: f64,

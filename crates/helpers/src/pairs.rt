@@ -12,7 +12,7 @@ use crate::prepared::log_at;
 use crate::window_ends::WindowEnd;
 use routines::ln::ln;
 
-#[derive(Drop)]
+#[derive(Clone, Copy)]
 pub struct Lobes {
     pub first: Lobe,
     pub second: Lobe,
@@ -46,7 +46,7 @@ fn ratio_with(lobe: Lobe, growth: f64, log: f64) -> f64
     growth - log + lobe.slope
 }
 
-#[derive(Drop)]
+#[derive(Clone, Copy)]
 pub struct LobeMasses {
     pub first: f64,
     pub second: f64,

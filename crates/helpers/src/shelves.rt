@@ -19,7 +19,7 @@ use routines::ln::ln;
 use routines::pick::{max, min};
 use routines::whole::round;
 
-#[derive(Drop)]
+#[derive(Clone, Copy)]
 pub struct Shelf {
     pub share: f64,
     pub alpha: f64,
@@ -27,7 +27,7 @@ pub struct Shelf {
 }
 
 // The Rust's Option<Shelf>. It is never read off a family.
-#[derive(Drop)]
+#[derive(Clone, Copy)]
 pub enum ShelfPart {
     Absent,
     Present(Shelf),
@@ -146,7 +146,7 @@ pub(crate) fn entry_at(count: f64, table: &[f64]) -> f64
 }
 
 // ln(1 - share) and ln(share), which do not change with the count; 0 and -inf where there is no shelf.
-#[derive(Drop)]
+#[derive(Clone, Copy)]
 pub struct ShelfLogs {
     pub rest: f64,
     pub share: f64,

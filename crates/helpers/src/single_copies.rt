@@ -13,7 +13,7 @@ use routines::lgamma::lgamma;
 
 // What a beta-binomial's density has in common at every count: lgamma(trials + 1), lgamma(trials + alpha + beta), and
 // lgamma(alpha) + lgamma(beta) - lgamma(alpha + beta).
-#[derive(Drop)]
+#[derive(Clone, Copy)]
 pub struct BetaBinomial {
     pub trials: f64,
     pub alpha: f64,
@@ -49,7 +49,7 @@ pub fn beta_density(b: BetaBinomial, x: f64, gamma: f64) -> f64
 }
 
 // The beta-binomial of a shelf, where there is one.
-#[derive(Drop)]
+#[derive(Clone, Copy)]
 pub enum BetaPart {
     Absent,
     Present(BetaBinomial),
@@ -67,7 +67,7 @@ fn beta_part(mean: f64, shelf: ShelfPart) -> BetaPart
 }
 
 // What the single-copy component's density has in common at every count.
-#[derive(Drop)]
+#[derive(Clone, Copy)]
 pub struct SingleCopy {
     pub lobe: Lobe,
     pub logs: ShelfLogs,

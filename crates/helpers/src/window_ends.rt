@@ -6,13 +6,13 @@ ghost use Rattle.helpers.specs.WindowEnds.{end_answer_of, window_end_of};
 use meaning::limits::MOST;
 use meaning::refusals::{NO_WINDOW, TOO_LARGE};
 
-#[derive(Drop)]
+#[derive(Clone, Copy)]
 pub struct WindowEnd {
     pub(crate) count: u16,
 }
 
 // `number` is 0 beside a window end; beside a number the window end is 1.
-#[derive(Drop)]
+#[derive(Clone, Copy)]
 pub struct EndAnswer {
     pub number: u8,
     pub end: WindowEnd,

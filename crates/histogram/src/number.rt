@@ -7,7 +7,7 @@ use meaning::bytes::wide;
 
 // What a byte makes of a number: its value so far, with another group to come; the number; or nothing that its range
 // allows.
-#[derive(Drop)]
+#[derive(Clone, Copy)]
 pub enum Taken {
     More(u64),
     Whole(u64),
@@ -15,7 +15,7 @@ pub enum Taken {
 }
 
 // A number and the place behind it, or the place of one at fault, which is where it starts.
-#[derive(Drop)]
+#[derive(Clone, Copy)]
 pub enum Number {
     Is(u64, usize),
     Broken(usize),

@@ -22,7 +22,7 @@ const FEW_BINS: usize = 256;
 const MAX_BIN: u64 = 4294967295;
 
 // How many bins were read, or the place of the file's first fault (number 3), or another number.
-#[derive(Drop)]
+#[derive(Clone, Copy)]
 pub enum FileRead {
     Bins(usize),
     Broken(usize),

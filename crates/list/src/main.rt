@@ -1,4 +1,6 @@
 // Lists the histogram file on standard input: its bins, or the place where it is refused.
+#![tactic(auto)]
+
 mod status;
 
 ghost use Rattle.std.specs.Prelude.{◌≡◌, ◌+◌, ◌≤◌, length, take};

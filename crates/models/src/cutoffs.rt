@@ -17,7 +17,7 @@ use routines::pick::is_finite;
 use routines::whole::round;
 
 // A cutoff, none, or the number that comes back instead.
-#[derive(Drop)]
+#[derive(Clone, Copy)]
 pub enum Cutoff {
     At(u16),
     Nothing,
@@ -25,7 +25,7 @@ pub enum Cutoff {
 }
 
 // What the walk answered, where its guarantee is known to hold and where it is not; no walk; or the number.
-#[derive(Drop)]
+#[derive(Clone, Copy)]
 pub enum SureCutoff {
     Sure(CutoffPart),
     NotSure(CutoffPart),

@@ -14,7 +14,7 @@ use routines::hoists::lgamma_with;
 use routines::ln::ln;
 
 // What a count leaves ready for the next one: that count, its logarithm and its log survival.
-#[derive(Drop)]
+#[derive(Clone, Copy)]
 struct Ready {
     count: u32,
     log: f64,
@@ -22,7 +22,7 @@ struct Ready {
 }
 
 // The sum so far, and what it leaves ready.
-#[derive(Drop)]
+#[derive(Clone, Copy)]
 struct Reached {
     total: f64,
     ready: Ready,

@@ -14,7 +14,7 @@ use routines::expm1::expm1;
 use routines::ln::ln;
 
 // The Rust's Option<f64>: a Weibull shape, or none for the Pareto tail. It is never read off a family.
-#[derive(Drop)]
+#[derive(Clone, Copy)]
 pub enum ShapePart {
     Absent,
     Present(f64),
@@ -22,7 +22,7 @@ pub enum ShapePart {
 
 // Count 1 has the probability `singleton_probability`; from 2 on the tail has survival exp(-l ((x-1)^b - 1)/b), with l
 // the tail exponent and b the shape, and (x-1)^-l without a shape.
-#[derive(Drop)]
+#[derive(Clone, Copy)]
 pub struct ErrorParams {
     pub singleton_probability: f64,
     pub tail_exponent: f64,

@@ -4,13 +4,13 @@ ghost use Rattle.std.specs.Prelude.{◌≡◌};
 ghost use Rattle.models.specs.Families.{parameter_count_of, extra_parameters_of, list_length_of};
 
 // Both give count 1 a free probability, and differ in the tail.
-#[derive(Drop)]
+#[derive(Clone, Copy)]
 pub enum ErrorModel {
     FreeSingletonWeibull,
     SingletonPareto,
 }
 
-#[derive(Drop)]
+#[derive(Clone, Copy)]
 pub enum GenomeModel {
     NegativeBinomial,
     ShelfNegativeBinomial,

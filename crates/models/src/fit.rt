@@ -13,7 +13,7 @@ use routines::exp::exp;
 use routines::ln::ln;
 
 // The Rust's fields, in its order. Three of a kind are the errors', the single copies' and the repeats'.
-#[derive(Drop)]
+#[derive(Clone, Copy)]
 pub struct SpectrumFit {
     pub error_model: ErrorModel,
     pub genome_model: GenomeModel,

@@ -11,7 +11,7 @@ use crate::parts::{
 };
 use helpers::shelves::Shelf;
 
-#[derive(Drop)]
+#[derive(Clone, Copy)]
 pub struct FitWords {
     pub wholes: [u64; 6],
     pub floats: [f64; 27],

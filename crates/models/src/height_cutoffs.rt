@@ -22,7 +22,7 @@ use routines::pick::{is_finite, max};
 use routines::whole::round;
 
 // A cutoff, or the number that comes back instead.
-#[derive(Drop)]
+#[derive(Clone, Copy)]
 pub enum FloorAnswer {
     At(u16),
     Refused(u8),

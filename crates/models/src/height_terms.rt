@@ -14,7 +14,7 @@ use routines::exp::exp;
 use routines::lgamma::lgamma;
 
 // Expected k-mers of each component inside the window.
-#[derive(Drop)]
+#[derive(Clone, Copy)]
 pub struct Heights {
     pub error: f64,
     pub single: f64,
@@ -23,7 +23,7 @@ pub struct Heights {
 
 // The error component's parameters and its tail's log, both lobes; and for each component its k-mers inside the window
 // and its log window mass.
-#[derive(Drop)]
+#[derive(Clone, Copy)]
 pub struct HeightTerms {
     pub error_params: ErrorParams,
     pub ln_tail: f64,

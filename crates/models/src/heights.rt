@@ -12,7 +12,7 @@ use meaning::answers::Written;
 use meaning::limits::MOST;
 use meaning::refusals::{TOO_LARGE, TOO_SHORT};
 
-#[derive(Drop)]
+#[derive(Clone, Copy)]
 pub enum HeightsAnswer {
     At(Heights),
     Refused(u8),

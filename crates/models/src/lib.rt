@@ -1,5 +1,7 @@
 // Layer 3: families, parameters, cost, fit, heights, modes, and the three cutoffs.
 // Ported from src/preprocessing/models.rs of bacpop/sparrowhawk-asm, f1f8af1232, Apache-2.0; ported and changed.
+#![tactic(auto)]
+
 pub mod costs;
 pub mod cutoffs;
 pub mod deviances;

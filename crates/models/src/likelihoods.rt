@@ -18,7 +18,7 @@ use helpers::mixtures::mix_at;
 use helpers::prepared::{gamma_at, ln_at, ln_next};
 
 // What stands ready for a bin: the log of its count, and the error tail's survival from that count.
-#[derive(Drop)]
+#[derive(Clone, Copy)]
 struct Ahead {
     bin: u32,
     log: f64,
@@ -26,7 +26,7 @@ struct Ahead {
 }
 
 // The sum so far, and what it leaves ready.
-#[derive(Drop)]
+#[derive(Clone, Copy)]
 struct Reached {
     total: f64,
     ahead: Ahead,

@@ -17,7 +17,7 @@ use meaning::refusals::{NAN_SCANNED, NO_WINDOW, TOO_LARGE};
 use routines::ln::ln;
 
 // The highest of the counts so far, and whether one of them was NaN.
-#[derive(Drop)]
+#[derive(Clone, Copy)]
 struct Standing {
     count: u32,
     log: f64,

@@ -26,7 +26,7 @@ pub const RATIO_LOW: f64 = 1.5;
 
 pub const RATIO_HIGH: f64 = 2.0;
 
-#[derive(Drop)]
+#[derive(Clone, Copy)]
 pub struct Params {
     // The components' log shares inside the window.
     pub ln_error: f64,
@@ -41,7 +41,7 @@ pub struct Params {
     pub repeat_ratio: f64,
 }
 
-#[derive(Drop)]
+#[derive(Clone, Copy)]
 pub enum ParamsAnswer {
     At(Params),
     Refused(u8),

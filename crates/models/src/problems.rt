@@ -1,7 +1,7 @@
 // What a spectrum is fitted with, beside its bins.
 use crate::families::{ErrorModel, GenomeModel};
 
-#[derive(Drop)]
+#[derive(Clone, Copy)]
 pub struct Problem {
     pub scale: f64,
     // The last count that is fitted.

@@ -33,7 +33,7 @@ pub fn concentration(s: Shelf) -> f64
     s.alpha + s.beta
 }
 
-#[derive(Drop)]
+#[derive(Clone, Copy)]
 pub struct Bounds {
     pub low: f64,
     pub high: f64,

@@ -9,7 +9,7 @@ ghost use Rattle.models.specs.Spectra.{none_recovered_of};
 use crate::recovery::{rounded_quotient, used_scale};
 
 // A window of a spectrum: the scale in use, the window end, and the totals.
-#[derive(Drop)]
+#[derive(Clone, Copy)]
 pub(crate) struct Window {
     pub scale: f64,
     pub end: u16,

@@ -8,7 +8,7 @@ use helpers::hoists::Lobe;
 use helpers::pairs::lobes_of;
 use helpers::shelves::{ShelfLogs, shelf_logs};
 
-#[derive(Drop)]
+#[derive(Clone, Copy)]
 pub(crate) struct Steady {
     pub lobe: Lobe,
     pub second: Lobe,

@@ -21,7 +21,7 @@ use routines::exp::exp;
 use routines::ln::ln;
 
 // `number` is 0 beside a fit; beside a number the fit is the empty one.
-#[derive(Drop)]
+#[derive(Clone, Copy)]
 pub struct FitAnswer {
     pub number: u8,
     pub fit: SpectrumFit,

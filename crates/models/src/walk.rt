@@ -8,7 +8,7 @@ use helpers::single_copies::{SingleCopy, single_density};
 use routines::exp::exp;
 
 // The Rust's Option<u16>.
-#[derive(Drop)]
+#[derive(Clone, Copy)]
 pub enum CutoffPart {
     Absent,
     Present(u16),

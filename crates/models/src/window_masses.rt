@@ -16,7 +16,7 @@ use routines::pick::is_finite;
 // A log mass may pass 0 by this much: rounding.
 pub const WINDOW_LOG_MASS_TOLERANCE: f64 = 1e-12;
 
-#[derive(Drop)]
+#[derive(Clone, Copy)]
 pub(crate) struct WindowMasses {
     pub error: f64,
     pub single: f64,

@@ -10,7 +10,7 @@ const HINT: f64 = 2.0;
 
 const MASS_LIMIT: f64 = 1.1;
 
-#[derive(Drop)]
+#[derive(Clone, Copy)]
 pub struct Asking {
     pub fine: bool,
     pub quiet: bool,

@@ -1,4 +1,6 @@
 // Picks a coverage cutoff for the histogram file on standard input, and writes the record of how.
+#![tactic(auto)]
+
 mod asking;
 mod options;
 mod progress;

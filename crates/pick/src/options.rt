@@ -6,14 +6,14 @@ use meaning::wholes::least;
 const LONGEST: usize = 64;
 
 // How many words have the option's name, the number of the last, and whether that is malformed.
-#[derive(Drop)]
+#[derive(Clone, Copy)]
 pub struct WholeOption {
     pub words: usize,
     pub value: usize,
     pub wrong: bool,
 }
 
-#[derive(Drop)]
+#[derive(Clone, Copy)]
 pub struct DecimalOption {
     pub words: usize,
     pub value: f64,

@@ -2,7 +2,7 @@
 use libc::STDERR_FILENO;
 use templates::filling::fill;
 
-#[derive(Drop)]
+#[derive(Clone, Copy)]
 pub struct Watch {
     pub quiet: bool,
     // Whether `fogatise` listens for the word by which the program ends.

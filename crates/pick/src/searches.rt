@@ -33,7 +33,7 @@ const TURNS: u64 = 100;
 const SLICES: u64 = 20;
 
 // What the search of a configuration came to, where every call answered and every run was searched to its end.
-#[derive(Drop)]
+#[derive(Clone, Copy)]
 pub struct Attempted {
     pub whole: bool,
     pub attempt: FitAttempt,

@@ -1,4 +1,6 @@
 // The C interface of what no user calls: the rest of layers 1 to 3, for oracle/ only.
+#![tactic(auto)]
+
 pub mod errors;
 pub mod lobes;
 pub mod log_sums;

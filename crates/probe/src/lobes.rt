@@ -9,7 +9,7 @@ use helpers::lobes::ln_dpois;
 use meaning::flags::{byte_of, is_set};
 
 #[repr(C)]
-#[derive(Drop)]
+#[derive(Clone, Copy)]
 pub struct FlatLobe {
     // 0, or any other byte.
     pub poisson: u8,

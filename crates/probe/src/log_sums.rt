@@ -6,7 +6,7 @@ ghost use Rattle.probe.specs.Flat.{of_logs3};
 use helpers::log_sums::{ln_softmax3, ln_sub_exp, lse2, lse3, sigmoid};
 
 #[repr(C)]
-#[derive(Drop)]
+#[derive(Clone, Copy)]
 pub struct FlatLogs3 {
     pub first: f64,
     pub second: f64,

@@ -10,7 +10,7 @@ use models::params::{Params, ParamsAnswer, params_from};
 use models::parts::{error_of, genome_of, shelf_there};
 
 #[repr(C)]
-#[derive(Drop)]
+#[derive(Clone, Copy)]
 pub struct FlatParams {
     pub ln_error: f64,
     pub ln_single: f64,
@@ -25,7 +25,7 @@ pub struct FlatParams {
 }
 
 #[repr(C)]
-#[derive(Drop)]
+#[derive(Clone, Copy)]
 pub struct FlatParamsAnswer {
     pub number: u8,
     pub params: FlatParams,

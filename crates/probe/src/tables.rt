@@ -9,7 +9,7 @@ use routines::ln_table::{log_at, piece_at};
 use routines::tables::{pareto_starts, power_at, weibull_starts};
 
 #[repr(C)]
-#[derive(Drop)]
+#[derive(Clone, Copy)]
 pub struct FlatPair {
     pub first: f64,
     pub second: f64,

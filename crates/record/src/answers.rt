@@ -11,7 +11,7 @@ use models::fit::SpectrumFit;
 use models::walk::probability;
 
 // The cutoff; whether the hole decides it, and not the valley; whether it is a count under the error floor.
-#[derive(Drop)]
+#[derive(Clone, Copy)]
 pub struct Answer {
     pub place: Place,
     pub hole: bool,
@@ -19,7 +19,7 @@ pub struct Answer {
 }
 
 // The last line, which is a cutoff only where a theorem backs it; a refusal has its number.
-#[derive(Drop)]
+#[derive(Clone, Copy)]
 pub enum Last {
     Cutoff(Place),
     Unsure(Place),

@@ -14,7 +14,7 @@ use models::fit::SpectrumFit;
 use routines::bits::pattern;
 use templates::filling::fill;
 
-#[derive(Drop)]
+#[derive(Clone, Copy)]
 pub struct Cutoffs {
     pub hole: Hole,
     pub crossover: Place,
@@ -50,7 +50,7 @@ pub(crate) fn own_cutoffs(attempt: FitAttempt, budget: f64) -> Cutoffs
 }
 
 // What the marks of the lines `hole`, `crossover` and `error_floor` take.
-#[derive(Drop)]
+#[derive(Clone, Copy)]
 pub struct CutoffNumbers {
     pub hole: PlaceNumbers,
     pub how: u64,

@@ -12,13 +12,13 @@ use models::fit::SpectrumFit;
 use routines::bits::pattern;
 use templates::filling::fill;
 
-#[derive(Drop)]
+#[derive(Clone, Copy)]
 pub struct ShapeValues {
     pub present: u64,
     pub shape: u64,
 }
 
-#[derive(Drop)]
+#[derive(Clone, Copy)]
 pub struct ShelfValues {
     pub present: u64,
     pub share: u64,

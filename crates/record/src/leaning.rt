@@ -11,7 +11,7 @@ pub(crate) const NONE: u64 = 65536;
 
 pub(crate) const NO_WALK: u64 = 65537;
 
-#[derive(Drop)]
+#[derive(Clone, Copy)]
 pub struct Leaning {
     pub valid: u8,
     pub same: u8,

@@ -23,7 +23,7 @@ use routines::bits::pattern;
 use templates::filling::fill;
 
 // What is made of the selected fit.
-#[derive(Drop)]
+#[derive(Clone, Copy)]
 pub struct Chosen {
     pub cutoffs: Cutoffs,
     pub answer: Answer,
@@ -32,14 +32,14 @@ pub struct Chosen {
 }
 
 // At 2: whether the budget is kept, and how many times what 2 removes exceeds it.
-#[derive(Drop)]
+#[derive(Clone, Copy)]
 pub struct LeastNumbers {
     pub kind: u64,
     pub times: u64,
 }
 
 // How many bytes the record takes in the lent ones, and its last line.
-#[derive(Drop)]
+#[derive(Clone, Copy)]
 pub struct Recorded {
     pub size: usize,
     pub last: Last,

@@ -18,7 +18,7 @@ use models::walk::CutoffPart;
 use routines::pick::is_finite;
 
 // A cutoff: none, a count, or unknown, where there is no fit to ask, or it is refused.
-#[derive(Drop)]
+#[derive(Clone, Copy)]
 pub enum Place {
     Nothing,
     At(u64),
@@ -26,7 +26,7 @@ pub enum Place {
 }
 
 // How sure a hole cutoff is, and the number where it is refused.
-#[derive(Drop)]
+#[derive(Clone, Copy)]
 pub enum HowSure {
     Sure,
     // The allowed share.
@@ -38,14 +38,14 @@ pub enum HowSure {
     NoFit,
 }
 
-#[derive(Drop)]
+#[derive(Clone, Copy)]
 pub struct Hole {
     pub place: Place,
     pub how: HowSure,
 }
 
 // What the mark `{none|#|-}` takes.
-#[derive(Drop)]
+#[derive(Clone, Copy)]
 pub struct PlaceNumbers {
     pub part: u64,
     pub at: u64,

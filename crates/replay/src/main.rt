@@ -1,5 +1,7 @@
 // Replays the sample of the oracle's answers on standard input, and says how many rows it read and how many the port
 // answers otherwise.
+#![tactic(auto)]
+
 mod attempts;
 mod fits;
 mod layer1;

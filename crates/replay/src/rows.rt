@@ -6,7 +6,7 @@ use crate::{layer1, layer2, layer3, layer4};
 
 // Where the replay stands: the word of the row that is being read, which lies behind the last where the row has a byte
 // that no row has; whether the row is a comment, the rows and the differences so far, and whether there may be more.
-#[derive(Drop)]
+#[derive(Clone, Copy)]
 pub(crate) struct Replay {
     pub place: usize,
     pub comment: bool,

@@ -1,5 +1,7 @@
 // Layer 1: exp, ln, expm1 and lgamma with their tables, rounding to a whole number, maximum and minimum, saturating
 // casts, a float as its bits.
+#![tactic(auto)]
+
 pub mod bits;
 pub mod casts;
 pub mod exp;

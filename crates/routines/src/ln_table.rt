@@ -4,11 +4,11 @@ ghost use Rattle.std.specs.Prelude.{◌≡◌, ◌%◌};
 ghost use Rattle.routines.specs.LnTable.{piece_of, log_of, piece_parts, log_parts};
 
 // C and B: B is a whole number of 2^-9, and C the f64 nearest to 1/B.
-#[derive(Drop)]
+#[derive(Clone, Copy)]
 pub struct Piece(pub f64, pub f64);
 
 // H and L: H is a whole number of 2^-42, and L the f64 nearest to ln C - H.
-#[derive(Drop)]
+#[derive(Clone, Copy)]
 pub struct LogOfPiece(pub f64, pub f64);
 
 // Piece i, counted modulo 128.

@@ -4,7 +4,7 @@ ghost use Rattle.routines.specs.Starts.{pareto_starts, weibull_starts};
 ghost use Rattle.routines.specs.Tables.{power_of};
 
 // 2^(i/32) in two parts: the nearest `f64`, and what is left of it over that, again the nearest `f64`.
-#[derive(Drop)]
+#[derive(Clone, Copy)]
 pub struct Power {
     pub value: f64,
     pub rest: f64,
@@ -149,7 +149,7 @@ pub fn power_at(i: u64) -> Power
 }
 
 // An error start. Pareto has no shape: its 0 is not read.
-#[derive(Drop)]
+#[derive(Clone, Copy)]
 pub struct Start {
     pub tail_exponent: f64,
     pub singleton_probability: f64,

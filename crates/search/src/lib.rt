@@ -1,4 +1,6 @@
 // Our own simplex search, by Nelder and Mead's rule, over the cost of a parameter list.
+#![tactic(auto)]
+
 pub mod beginning;
 pub mod firsts;
 pub mod order;

@@ -5,7 +5,7 @@ ghost use Rattle.search.specs.Points.{moved_of, moved, centroid_of};
 ghost use Rattle.search.specs.Vertices.{rows_in};
 
 // What is made of a coordinate with the same one of another point.
-#[derive(Drop)]
+#[derive(Clone, Copy)]
 pub enum Move {
     Sum,
     Reflect,

@@ -11,7 +11,7 @@ use models::problems::Problem;
 use models::refusals::{spectrum_refusal, table_refusal};
 
 // The lengths of what is lent.
-#[derive(Drop)]
+#[derive(Clone, Copy)]
 pub(crate) struct Lent {
     pub simplexes: usize,
     pub iterations: usize,

@@ -22,7 +22,7 @@ use models::families::{ErrorModel, GenomeModel, list_length};
 use routines::pick::is_finite;
 
 // What a run has come to: its best cost, and where the list with that cost lies.
-#[derive(Drop)]
+#[derive(Clone, Copy)]
 pub struct Found {
     pub converged: bool,
     pub cost: f64,
@@ -31,7 +31,7 @@ pub struct Found {
 }
 
 // The lengths of what is lent.
-#[derive(Drop)]
+#[derive(Clone, Copy)]
 pub struct Columns {
     pub simplexes: usize,
     pub iterations: usize,

@@ -10,7 +10,7 @@ use crate::steps::step;
 use models::problems::Problem;
 
 // How far a run has come: the iterations made, and whether the test stopped it.
-#[derive(Drop)]
+#[derive(Clone, Copy)]
 pub struct Progress {
     pub iterations: u64,
     pub stopped: bool,

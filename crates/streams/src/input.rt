@@ -4,7 +4,7 @@ ghost use Rattle.streams.specs.Within.{Within};
 use libc::{EINTR, STDIN_FILENO};
 
 // How many bytes were read, or that a read failed.
-#[derive(Drop)]
+#[derive(Clone, Copy)]
 pub enum Input {
     Bytes(usize),
     Failed,

@@ -10,7 +10,7 @@ use crate::floats::put_float;
 use crate::puts::put_text;
 
 // Behind a byte of a template.
-#[derive(Drop)]
+#[derive(Clone, Copy)]
 pub struct State {
     // How many bars are ahead of the part that is shown: 0 where it is shown.
     pub ahead: u64,
