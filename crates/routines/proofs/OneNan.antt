@@ -5,9 +5,9 @@ use lib.Ieee.Bits.{of_bits-to_bits, to_bits-of_bits}
 use lib.Ieee.Compare.{differs_from_itself}
 use Rattle.routines.specs.Bits.{nan_pattern, pattern_of}
 
-pub nan_pattern : (x : Float) → ne x x ≡ true → 0x7ff8000000000000 ≡ pattern_of x
+pub one_pattern : (x : Float) → ne x x ≡ true → 0x7ff8000000000000 ≡ pattern_of x
 unfolding pattern_of is_nan
-nan_pattern x h = sym (ap pattern_of (differs_from_itself x (subst T (sym h) tt)))
+one_pattern x h = sym (ap pattern_of (differs_from_itself x (subst T (sym h) tt)))
 
 pub number-pattern : (x : Float) → T (not (is_nan x)) → to_bits binary64 x ≡ pattern_of x
 unfolding pattern_of is_nan

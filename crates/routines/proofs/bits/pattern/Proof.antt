@@ -1,11 +1,11 @@
 -- `routines::bits::pattern` meets its contract. Assumes nothing.
 use Rattle.routines.proofs.Patterns.{equal_no_nan}
-use Rattle.routines.proofs.OneNan.{nan_pattern, number-pattern}
+use Rattle.routines.proofs.OneNan.{one_pattern, number-pattern}
 use Rattle.routines.proofs.bits.pattern.Statement.{statement}
 use Rattle.routines.proofs.bits.pattern.Tie as tie
 
 returns : tie.Need-returns
-returns c = nan_pattern _ c.if1.true
+returns c = one_pattern _ c.if1.true
 
 float-to-bits-result : tie.Need-float-to-bits-result
 float-to-bits-result c = equal_no_nan _ c.if1.false
