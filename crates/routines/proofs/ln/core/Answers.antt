@@ -1,0 +1,34 @@
+-- `routines::ln::core` meets its contract. Assumes nothing.
+use Rattle.std.proofs.Common.{ℕ, ◌+◌, ◌*◌, ◌/◌, ◌%◌, ◌^◌, ◌≤◌, ap, arith, rules}
+use lib.Ieee.{Float}
+use Rattle.routines.specs.Ln.{ln_core}
+use Rattle.routines.proofs.Patterns.{no_nan}
+use Rattle.routines.proofs.ln.core.Goals as goal
+
+exponent : (q o : ℕ) → o ≤ 290851611872329728
+    → (4841369599423283200 + (q % 9223372036854775808 + o) / 4503599627370496) % 2 ^ 63 ≤ 2047 * 2 ^ 52
+exponent q o h = omega arith
+
+digits : (q : ℕ) → (q % 4503599627370496 + 4604561183079399424) % 2 ^ 63 ≤ 2047 * 2 ^ 52
+digits q = omega arith
+
+pub float_from_bits-k : goal.float_from_bits-k
+float_from_bits-k c = no_nan _ (exponent _ _ c.requires.fact_2)
+
+pub float_from_bits-z : goal.float_from_bits-z
+float_from_bits-z c = no_nan _ (digits _)
+
+pub returns : goal.returns
+unfolding ln_core
+returns c =
+    let made = c in
+    let logs = made.log_at-log.ensures in
+    let pieces = made.piece_at-piece.ensures in
+    rw (
+      c.tail.ensures,
+      ap (λ (t : Float × Float). t.0) logs,
+      ap (λ (t : Float × Float). t.1) logs,
+      ap
+          (λ (t : Float × Float). t.0) pieces,
+      ap (λ (t : Float × Float). t.1) pieces,
+    )

@@ -1,0 +1,17 @@
+-- `routines::pick::max` meets its contract. Each arm returns what `max_of` picks where the tests are as the arm found
+-- them. Assumes nothing.
+use Rattle.routines.specs.Pick.{max_of}
+use Rattle.routines.proofs.Picks.{skips, takes}
+use Rattle.routines.proofs.pick.max.Goals as goal
+
+pub returns-then-a : goal.returns-then-a
+unfolding max_of
+returns-then-a c = skips _ _ _ c.if-a.true
+
+pub returns-then-a-b : goal.returns-then-a-b
+unfolding max_of
+returns-then-a-b c = rw c.if-a-b.true (takes _ _ _ c.if-a.false)
+
+pub returns-else-a-b : goal.returns-else-a-b
+unfolding max_of
+returns-else-a-b c = rw c.if-a-b.false (takes _ _ _ c.if-a.false)

@@ -1,0 +1,17 @@
+-- `routines::pick::min` meets its contract. Each arm returns what `min_of` picks where the tests are as the arm found
+-- them. Assumes nothing.
+use Rattle.routines.specs.Pick.{min_of}
+use Rattle.routines.proofs.Picks.{skips, takes}
+use Rattle.routines.proofs.pick.min.Goals as goal
+
+pub returns-then-a : goal.returns-then-a
+unfolding min_of
+returns-then-a c = skips _ _ _ c.if-a.true
+
+pub returns-then-b-a : goal.returns-then-b-a
+unfolding min_of
+returns-then-b-a c = rw c.if-b-a.true (takes _ _ _ c.if-a.false)
+
+pub returns-else-b-a : goal.returns-else-b-a
+unfolding min_of
+returns-else-b-a c = rw c.if-b-a.false (takes _ _ _ c.if-a.false)
