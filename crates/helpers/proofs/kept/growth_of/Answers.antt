@@ -1,0 +1,12 @@
+-- `helpers::kept::growth_of` meets its contract. Assumes nothing.
+use Rattle.helpers.specs.Kept.{growth_of}
+use borrow.Author.Rules.{rules}
+use Rattle.helpers.proofs.kept.growth_of.Goals as goal
+
+pub returns-then-lobe : goal.returns-then-lobe
+unfolding growth_of
+returns-then-lobe c = rw c.if-lobe.true
+
+pub returns : goal.returns
+unfolding growth_of
+returns c = let else1 = c in rw (else1.if-lobe.false, c.ln.ensures)

@@ -1,0 +1,16 @@
+-- `helpers::log_sums::weights` meets its contract. Assumes nothing.
+use mathlib.Core.Path.{◌∙◌}
+use Rattle.helpers.proofs.Weights.{one-least, first-weight, second-weight}
+use Rattle.helpers.proofs.log_sums.weights.Goals as goal
+
+pub added-requires : goal.added-requires
+added-requires c = one-least
+
+pub added-requires-else-a-b : goal.added-requires-else-a-b
+added-requires-else-a-b c = one-least
+
+pub returns-then-a-b : goal.returns-then-a-b
+returns-then-a-b c = let s = c in c.added.ensures ∙ second-weight _ _ s.requires c.if-a-b.true
+
+pub returns-else-a-b : goal.returns-else-a-b
+returns-else-a-b c = let s = c in c.added-else-a-b.ensures ∙ first-weight _ _ s.requires c.if-a-b.false

@@ -1,0 +1,69 @@
+-- `helpers::pairs::lobe_masses_to` meets its contract: the terms of both lobes are added up side by side, and their
+-- growths are kept. Assumes nothing.
+use borrow.Author.Rules.{rules}
+use mathlib.Core.Path.{◌≡◌, refl, ◌∙◌}
+use Prim.Native.Nat.{◌+◌, ◌-◌}
+use native.Mathlib.Omega.{arith}
+use lib.Ieee.{div, neg, of_bits}
+use lib.ListN.{length}
+use Rattle.meaning.proofs.Loops.{Folded, begins, goes_on, ends}
+use Rattle.routines.specs.Constants.{one}
+use Rattle.helpers.specs.Hoists.{density_of}
+use Rattle.helpers.specs.Kept.{keep_step, kept_after}
+use Rattle.helpers.specs.Pairs.{lobe_ratio, lobe_mass_of}
+use Rattle.helpers.proofs.Recurrences.{Summed, sum-begins, sum-goes-on, sum-ends}
+use Rattle.helpers.proofs.pairs.lobe_masses_to.Goals as goal
+
+pub loop-count-init : goal.loop-count-init
+unfolding div neg of_bits
+loop-count-init c =
+    (sum-begins _ _ _ _ _ refl c.density-term.ensures, sum-begins _ _ _ _ _ refl c.density-other_term.ensures, begins _ _ 1 _ _ (omega arith) refl, refl)
+
+pub overflow_add-count : goal.overflow_add-count
+overflow_add-count c = omega arith
+
+pub overflow_mul-count : goal.overflow_mul-count
+overflow_mul-count c = omega arith
+
+pub overflow_mul-count-in-loop-count : goal.overflow_mul-count-in-loop-count
+overflow_mul-count-in-loop-count c = omega arith
+
+pub overflow_add-count-in-loop-count : goal.overflow_add-count-in-loop-count
+overflow_add-count-in-loop-count c = omega arith
+
+pub overflow_add-count-in-loop-count-2 : goal.overflow_add-count-in-loop-count-2
+overflow_add-count-in-loop-count-2 c = omega arith
+
+pub loop-count-smaller : goal.loop-count-smaller
+loop-count-smaller c = omega arith
+
+pub loop-count-preserved : goal.loop-count-preserved
+loop-count-preserved c =
+    let l = c in
+    let first = c in
+    let sums = first in
+    let kept2 = c in
+    let kept1 = c in
+    let growth2 = c in
+    let growth1 = c in
+    let log = c in
+    let turn = l.loop-count in
+    let inv = turn.invariant in (
+      sum-goes-on _ _ _ inv.0 _ _ (omega arith) sums.lse2-total.ensures
+          (rw (first.ratio_with-term.ensures, growth1.growth_of-growth.ensures, log.log_at-log.ensures)),
+      sum-goes-on _ _ _ inv.1 _ _ (omega arith) sums.lse2-other_total.ensures
+          (rw (c.ratio_with-other_term.ensures, growth2.growth_of-other_growth.ensures, log.log_at-log.ensures)),
+      goes_on _ _ 1 _ inv.2 _ (omega arith)
+          (rw (kept2.keep-in-loop-count.ensures, kept1.keep.ensures, growth1.growth_of-growth.ensures, growth2.growth_of-other_growth.ensures)),
+      kept2.keep-in-loop-count.auto.kept ∙ kept1.keep.auto.kept ∙ inv.3,
+    )
+
+pub shape_of-kept : goal.shape_of-kept
+shape_of-kept c = c.loop-count.invariant.3
+
+pub returns : goal.returns
+unfolding lobe_mass_of kept_after
+returns c =
+    let turn = c in
+    let inv = turn.loop-count.invariant in
+    record { value = rw (sum-ends _ _ _ inv.0 (omega arith), sum-ends _ _ _ inv.1 (omega arith)); kept_after = ends _ _ 1 _ inv.2 (omega arith) }

@@ -1,0 +1,26 @@
+-- `helpers::pairs::lobe_masses_to` meets its contract: the terms of both lobes are added up side by side, and their
+-- growths are kept. Assumes nothing.
+use borrow.Author.Rules.{rules}
+use mathlib.Core.Path.{◌≡◌, refl, ◌∙◌}
+use Prim.Native.Nat.{◌+◌, ◌-◌}
+use native.Mathlib.Omega.{arith}
+use lib.Ieee.{div, neg, of_bits}
+use lib.ListN.{length}
+use Rattle.meaning.proofs.Loops.{Folded, begins, goes_on, ends}
+use Rattle.routines.specs.Constants.{one}
+use Rattle.helpers.specs.Hoists.{density_of}
+use Rattle.helpers.specs.Kept.{keep_step, kept_after}
+use Rattle.helpers.specs.Pairs.{lobe_ratio, lobe_mass_of}
+use Rattle.helpers.proofs.Recurrences.{Summed, sum-begins, sum-goes-on, sum-ends}
+use Rattle.helpers.proofs.pairs.lobe_masses_to.Given as goal
+
+abbrev pub invariant-loop-count : goal.invariant-loop-count
+invariant-loop-count l =
+    Summed (lobe_ratio l.first l.ready) (density_of l.first one) l.top l.total l.term l.count
+    × Summed (lobe_ratio l.second l.ready) (density_of l.second one) l.top l.other_total l.other_term l.count
+    × Folded (keep_step l.first l.second) l.initial.kept 1 (l.top + 1) l.kept l.count
+    × (length l.kept ≡ length l.initial.kept)
+
+abbrev pub decreases-loop-count : goal.decreases-loop-count
+decreases-loop-count l =
+    l.top + 1 - l.count
