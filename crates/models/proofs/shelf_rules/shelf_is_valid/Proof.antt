@@ -32,69 +32,74 @@ six s = five s && lt zero s.beta
 abbrev seven : Shelf → Bool
 seven s = six s && le (min_retained ⊖ slack) (retained_of s)
 
-abbrev of_two : tie.Joined1 → Shelf
+abbrev of_two : tie.Joined-s → Shelf
 of_two c = let s : tie.Start = search in s.args.s
 
-is-two : (c : tie.Joined1) → c.if1.if2 ≡ two (of_two c)
+is-two : (c : tie.Joined-s) → c.if-s.if2 ≡ two (of_two c)
 is-two c =
-    ⊎_elim (λ w. went_on refl w.0.taken refl w.2) (λ w. stopped _ refl w.0.left w.1) c.if1.branch
+    ⊎_elim (λ w. went_on refl w.0.taken refl w.2) (λ w. stopped _ refl w.0.left w.1) c.if-s.branch
 
-abbrev of_three : tie.Joined2 → Shelf
+abbrev of_three : tie.Joined-s-2 → Shelf
 of_three c = of_two c.before
 
-is-three : (c : tie.Joined2) → c.if2.if3 ≡ three (of_three c)
+is-three : (c : tie.Joined-s-2) → c.if-s-2.if3 ≡ three (of_three c)
 is-three c =
     let so = is-two c.before in
-    ⊎_elim (λ w. went_on so w.0.taken w.1.ensures w.2) (λ w. stopped _ so w.0.left w.1) c.if2.branch
+    ⊎_elim (λ w. went_on so w.0.taken w.1.ensures w.2) (λ w. stopped _ so w.0.left w.1) c.if-s-2.branch
 
-abbrev of_four : tie.Joined3 → Shelf
+abbrev of_four : tie.Joined-is_finite → Shelf
 of_four c = of_three c.before
 
-is-four : (c : tie.Joined3) → c.if3.if4 ≡ four (of_four c)
+is-four : (c : tie.Joined-is_finite) → c.if-is_finite.if4 ≡ four (of_four c)
 unfolding round of_bits
 is-four c =
     let so = is-three c.before in
-    ⊎_elim (λ w. went_on so w.0.taken refl w.2) (λ w. stopped _ so w.0.left w.1) c.if3.branch
+    ⊎_elim (λ w. went_on so w.0.taken refl w.2) (λ w. stopped _ so w.0.left w.1) c.if-is_finite.branch
 
-abbrev of-five : tie.Joined4 → Shelf
+abbrev of-five : tie.Joined-s-3 → Shelf
 of-five c = of_four c.before
 
-is-five : (c : tie.Joined4) → c.if4.if5 ≡ five (of-five c)
+is-five : (c : tie.Joined-s-3) → c.if-s-3.if5 ≡ five (of-five c)
 is-five c =
     let so = is-four c.before in
-    ⊎_elim (λ w. went_on so w.0.taken w.1.ensures w.2) (λ w. stopped _ so w.0.left w.1) c.if4.branch
+    ⊎_elim (λ w. went_on so w.0.taken w.1.ensures w.2) (λ w. stopped _ so w.0.left w.1) c.if-s-3.branch
 
-abbrev of-six : tie.Joined5 → Shelf
+abbrev of-six : tie.Joined-is_finite-2 → Shelf
 of-six c = of-five c.before
 
-is-six : (c : tie.Joined5) → c.if5.if6 ≡ six (of-six c)
+is-six : (c : tie.Joined-is_finite-2) → c.if-is_finite-2.if6 ≡ six (of-six c)
 is-six c =
     let so = is-five c.before in
-    ⊎_elim (λ w. went_on so w.0.taken refl w.2) (λ w. stopped _ so w.0.left w.1) c.if5.branch
+    ⊎_elim (λ w. went_on so w.0.taken refl w.2) (λ w. stopped _ so w.0.left w.1) c.if-is_finite-2.branch
 
-abbrev of-seven : tie.Joined6 → Shelf
+abbrev of-seven : tie.Joined-s-4 → Shelf
 of-seven c = of-six c.before
 
-is-seven : (c : tie.Joined6) → c.if6.if7 ≡ seven (of-seven c)
+is-seven : (c : tie.Joined-s-4) → c.if-s-4.if7 ≡ seven (of-seven c)
 unfolding round of_bits
 is-seven c =
     let so = is-six c.before in
     ⊎_elim (λ w. went_on so w.0.taken (ap (le _) w.1.ensures) w.2) (λ w. stopped _ so w.0.left w.1)
-    c.if6.branch
+    c.if-s-4.branch
 
-returns : tie.Need-returns
+returns : tie.Need-returns-then-retained
 unfolding shelf_is_valid_of round of_bits
 returns c =
-    let joined6 : tie.Joined6 = search in
-    went_on (is-seven joined6) c.before.if7.true
+    let joined6 : tie.Joined-s-4 = search in
+    went_on (is-seven joined6) c.if-retained.true
     (ap (λ (x : Float). le x (max_concentration ⊕ slack)) c.concentration.ensures) refl
 
-returns-2 : tie.Need-returns-2
+returns-2 : tie.Need-returns-else-retained
 unfolding shelf_is_valid_of
-returns-2 c = stopped _ (is-seven c.before) c.if7.false refl
+returns-2 c = stopped _ (is-seven c.before) c.if-retained.false refl
 
-pub shelf-is-valid-spec : {M : Type 1} → statement M
-shelf-is-valid-spec =
+pub shelf_is_valid_spec : {M : Type 1} → statement M
+shelf_is_valid_spec =
     tie.close
-    (tie.spec (λ c κs. search rules) (λ c κs. search rules) (λ c κs. search rules) (λ c κs. search rules) returns
+    (tie.spec
+    (λ c κs. search rules)
+    (λ c κs. search rules)
+    (λ c κs. search rules)
+    (λ c κs. search rules)
+    returns
     returns-2)

@@ -22,39 +22,45 @@ three p = two p && le zero p.singleton_probability
 abbrev four : ErrorParams → Bool
 four p = three p && lt p.singleton_probability one
 
-abbrev of_two : tie.Joined1 → ErrorParams
+abbrev of_two : tie.Joined-is_finite → ErrorParams
 of_two c = let s : tie.Start = search in s.args.p
 
-is-two : (c : tie.Joined1) → c.if1.if2 ≡ two (of_two c)
+is-two : (c : tie.Joined-is_finite) → c.if-is_finite.if2 ≡ two (of_two c)
 is-two c =
-    let so = c.before.is_finite.ensures in
-    ⊎_elim (λ w. went_on so w.0.taken refl w.2) (λ w. stopped _ so w.0.left w.1) c.if1.branch
+    let so = c.is_finite.ensures in
+    ⊎_elim (λ w. went_on so w.0.taken refl w.2) (λ w. stopped _ so w.0.left w.1) c.if-is_finite.branch
 
-abbrev of_three : tie.Joined2 → ErrorParams
+abbrev of_three : tie.Joined-not-p → ErrorParams
 of_three c = of_two c.before
 
-is-three : (c : tie.Joined2) → c.if2.if3 ≡ three (of_three c)
+is-three : (c : tie.Joined-not-p) → c.if-not-p.if3 ≡ three (of_three c)
 is-three c =
     let so = is-two c.before in
-    ⊎_elim (λ w. went_on so w.0.taken refl w.2) (λ w. stopped _ so w.0.left w.1) c.if2.branch
+    ⊎_elim (λ w. went_on so w.0.taken refl w.2) (λ w. stopped _ so w.0.left w.1) c.if-not-p.branch
 
-abbrev of_four : tie.Joined3 → ErrorParams
+abbrev of_four : tie.Joined-p → ErrorParams
 of_four c = of_three c.before
 
-is-four : (c : tie.Joined3) → c.if3.if4 ≡ four (of_four c)
+is-four : (c : tie.Joined-p) → c.if-p.if4 ≡ four (of_four c)
 is-four c =
     let so = is-three c.before in
-    ⊎_elim (λ w. went_on so w.0.taken refl w.2) (λ w. stopped _ so w.0.left w.1) c.if3.branch
+    ⊎_elim (λ w. went_on so w.0.taken refl w.2) (λ w. stopped _ so w.0.left w.1) c.if-p.branch
 
-returns : tie.Need-returns
+returns : tie.Need-returns-then-p-2
 unfolding error_usable
 returns c =
-    let joined3 : tie.Joined3 = search in
-    went_on (is-four joined3) c.before.if4.true c.shape-usable.ensures refl
+    let joined3 : tie.Joined-p = search in
+    went_on (is-four joined3) c.if-p-2.true c.shape_usable.ensures refl
 
-returns-2 : tie.Need-returns-2
+returns-2 : tie.Need-returns-else-p-2
 unfolding error_usable
-returns-2 c = stopped _ (is-four c.before) c.if4.false refl
+returns-2 c = stopped _ (is-four c.before) c.if-p-2.false refl
 
-pub error-usable-spec : {M : Type 1} → statement M
-error-usable-spec = tie.close (tie.spec (λ c κs. search rules) (λ c κs. search rules) returns returns-2)
+pub error_usable_spec : {M : Type 1} → statement M
+error_usable_spec =
+    tie.close
+    (tie.spec
+    (λ c κs. search rules)
+    (λ c κs. search rules)
+    returns
+    returns-2)
