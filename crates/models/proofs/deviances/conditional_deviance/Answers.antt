@@ -28,7 +28,7 @@ from-terms bins scale top fit =
 pub loop-i-init : goal.loop-i-init
 unfolding neg of_bits
 loop-i-init c =
-    let first = c.Ready-of.ensures in
+    let first = c.ready_of.ensures in
     let p = c.height_terms-t.result.error_params in (
       first ∙ ap (λ (r : Ready). ready_of p r.count) (sym first),
       begins _ _ _ _ _ (omega arith) refl,

@@ -10,4 +10,4 @@ returns-then-ready-count c =
     start.requires ∙ ap (ready_of start.args.p) c.if-ready-count.true
 
 pub returns : goal.returns
-returns c = c.Ready-of.ensures
+returns c = c.ready_of.ensures

@@ -54,7 +54,7 @@ tested : (c : tie.After-single_height invariant-loop decreases-loop) (b : Bool)
 tested c b h =
     let after-error-height-from : tie.After-error_height_from-error invariant-loop decreases-loop = search in
     let t = (start c).args.t in
-    let turn = (at c).loop in
+    let turn = (at c).loop-count in
     let error = after-error-height-from.error_height_from-error.ensures ∙ error-from-is turn.count (few c) _ _ t
     turn.invariant.0 (survives c) in
     outgrows-is t turn.count _ _ b error c.single_height.ensures h
@@ -65,7 +65,7 @@ loop-holds c = (first-survival _ _ c.log_survival_from_two-here.ensures, crossin
 returns : tie.Need-returns-then-single_height-error invariant-loop decreases-loop
 returns c =
     let compared : tie.After-single_height invariant-loop decreases-loop = search in
-    let turn = (at compared).loop in
+    let turn = (at compared).loop-count in
     sym
     (turn.invariant.1
     ∙ crossing-hits _ _ turn.count (omega arith) (tested compared _ c.if-single_height-error.true)
@@ -80,7 +80,7 @@ loop-less c = omega arith
 loop-again : tie.Need-loop-count-preserved invariant-loop decreases-loop
 loop-again c =
     let compared = c.before in
-    let turn = (at compared).loop in
+    let turn = (at compared).loop-count in
     (survives compared, turn.invariant.1 ∙ crossing-goes _ _ turn.count (omega arith) (tested compared _ c.if-single_height-error.false))
 
 returns-2 : tie.Need-returns invariant-loop decreases-loop

@@ -35,7 +35,7 @@ loop-i-preserved c =
     let turn = test.loop-i in
     let start = c in
     let a = start.args in
-    let few : turn.i + 1 ≤ 65535 = omega (arith, test.loop-i-test.true, start.fits) in
+    let few : turn.i + 1 ≤ 65535 = omega (arith, test.loop-i-test.true, start.ranges) in
     let survives = next-survival (turn.i + 1) few _ _ _ next.survival_with-next.ensures next.ln.ensures in (
       survives,
       goes_on _ _ _ _ turn.invariant.1 _ (omega arith)

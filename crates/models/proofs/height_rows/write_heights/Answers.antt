@@ -18,21 +18,8 @@ use Rattle.models.specs.declared.height_terms.Heights.{Heights}
 use Rattle.models.proofs.HeightRows.{rows_more}
 use Rattle.models.proofs.Survivals.{first-survival, first-log, with-log, next-survival, heights-from-is}
 use borrow.Author.Rules.{rules}
+use Rattle.models.proofs.height_rows.write_heights.Invariants.{heights-in, Written}
 use Rattle.models.proofs.height_rows.write_heights.Goals as goal
-
--- The first i rows are written, and what the next count needs is at hand.
-abbrev heights-in : HeightTerms → ℕ → Heights
-heights-in t k = heights_of t (of_count k)
-
-record Written (t : HeightTerms) (last : ℕ) (held : List Float) (p : ErrorParams) (log here : Float) (out : List Float)
-    (i : ℕ) : Type 0 where
-  pub upto : i ≤ last
-  pub params : p ≡ t.error_params
-  pub lengths : length out ≡ length held
-  pub room : 3 * last ≤ length held
-  pub logged : log ≡ ln_of (of_count (i + 1))
-  pub survives : here ≡ survival_of t.error_params (of_count (i + 1))
-  pub rows : out ≡ over (height_rows (heights-in t) i) held
 
 pub loop-i-init : goal.loop-i-init
 unfolding height_rows
@@ -99,7 +86,7 @@ loop-i-preserved c =
     let turn = test.loop-i in
     let start = c in
     let so = turn.invariant in
-    let few : turn.i + 1 ≤ 65535 = omega (arith, test.loop-i-test.true, start.fits) in
+    let few : turn.i + 1 ≤ 65535 = omega (arith, test.loop-i-test.true, start.ranges) in
     let survival = next-survival (turn.i + 1) few _ _ _ next.survival_with-next.ensures so.logged in
     record {
       upto = omega arith;

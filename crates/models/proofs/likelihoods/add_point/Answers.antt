@@ -12,10 +12,10 @@ use Rattle.models.proofs.likelihoods.add_point.Goals as goal
 
 pub returns-then-n-eq0 : goal.returns-then-n-eq0
 unfolding seen_term
-returns-then-n-eq0 c = let s = c in record { total_value = simp (eq-eqb _ _ c.if-n-eq0.true); ahead_value_2 = s.requires.kept.1 }
+returns-then-n-eq0 c = let s = c in record { total_value = simp (eq-eqb _ _ c.if-n-eq0.true); ahead_value_2 = s.requires.ahead_value }
 
 pub ahead_at-here-requires : goal.ahead_at-here-requires
-ahead_at-here-requires c = let s = c in s.requires.kept.1
+ahead_at-here-requires c = let s = c in s.requires.ahead_value
 
 pub ahead_after-next-requires : goal.ahead_after-next-requires
 ahead_after-next-requires c = let s = c in s.requires.i_lt_most
@@ -28,7 +28,7 @@ overflow_add-count c =
 pub point-term-requires : goal.point-term-requires
 point-term-requires c =
     let start = c in
-    record { le_count = omega arith; kept = kept-fewer start.requires.kept.0 _ (omega arith) }
+    record { le_count = omega arith; kept = kept-fewer start.requires.kept _ (omega arith) }
 
 pub returns : goal.returns
 unfolding seen_term
@@ -40,8 +40,8 @@ returns c =
     let left = c in
     let start = c in
     let a = start.args in
-    let few = start.fits.i in
+    let few = start.ranges.i in
     let here = at.ahead_at-here.ensures in
-    let next = after.Ahead-after.ensures in
+    let next = after.ahead_after-next.ensures in
     let term = pointed.point-term.ensures
     ∙ step_is a.p a.m a.steady a.ready.now a.table.now a.i _ _ _ (omega (arith, few)) here next gamma.gamma_at-gamma.ensures in record { total_value = simp (ne_eqb _ _ left.if-n-eq0.false) (ap (λ (x : Float). a.reached.total ⊕ of_count a.n ⊗ x) term); ahead_value_2 = next-stands a.p.error_params a.ready.now a.i _ _ here next }

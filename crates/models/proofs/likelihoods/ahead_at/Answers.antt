@@ -10,4 +10,4 @@ returns-then-ahead-i c =
     start.requires ∙ ap (ahead_of start.args.error start.args.ready.now) c.if-ahead-i.true
 
 pub returns : goal.returns
-returns c = c.ahead_of_lem.ensures
+returns c = c.ahead_of.ensures

@@ -14,13 +14,13 @@ use Rattle.models.proofs.likelihoods.likelihood.Goals as goal
 
 pub loop-i-init : goal.loop-i-init
 unfolding neg of_bits
-loop-i-init c = (standing _ _ c.ahead_of_lem.ensures, begins _ _ _ _ _ (omega arith) refl)
+loop-i-init c = (standing _ _ c.ahead_of.ensures, begins _ _ _ _ _ (omega arith) refl)
 
 pub add_point-reached-requires : goal.add_point-reached-requires
 add_point-reached-requires c =
     let turn = c in
     let start = c in
-    (omega (arith, start.fits.top), (kept-fewer start.requires _ (omega arith), turn.loop-i.invariant.0))
+    record { i_lt_most = omega (arith, start.ranges.top); kept = kept-fewer start.requires _ (omega arith); ahead_value = turn.loop-i.invariant.0 }
 
 pub overflow_add-i : goal.overflow_add-i
 overflow_add-i c = omega arith
@@ -33,7 +33,7 @@ loop-i-preserved c =
     let l = c in
     let inv = l.loop-i.invariant in
     let added = c.add_point-reached.ensures in
-    (added.1, goes_on _ _ _ _ inv.1 _ (omega arith) (rw (sym c.recovered_at-n.ensures) added.0))
+    (added.ahead_value_2, goes_on _ _ _ _ inv.1 _ (omega arith) (rw (sym c.recovered_at-n.ensures) added.total_value))
 
 pub returns : goal.returns
 unfolding likelihood_at over_observed

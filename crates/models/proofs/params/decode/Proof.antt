@@ -11,8 +11,8 @@ use Rattle.models.proofs.params.decode.Tie as tie
 abbrev based : tie.After-error_params_at → tie.After-parameter_count-base
 based c = search
 
-base-few : (c : tie.After-error_params_at) → (based c).parameter_count.result ≤ 7
-base-few c = let s : tie.Start = search in omega (arith, (based c).parameter_count.ensures, count-few s.args.error)
+base-few : (c : tie.After-error_params_at) → (based c).parameter_count-base.result ≤ 7
+base-few c = let s : tie.Start = search in omega (arith, (based c).parameter_count-base.ensures, count-few s.args.error)
 
 add_at : tie.Need-overflow_add-base
 add_at c = record { fits = omega (arith, base-few c) }

@@ -13,8 +13,8 @@ use Rattle.models.proofs.prepared.prepare_window.Goals as goal
 
 -- a refusal leaves the slice as it is
 kept : (n end : ℕ) (held : List Float) → prepare_of end (length held) ≡ refuse n
-    → (refuse n ≡ counted (prepare_of end (length held))) × (held ≡ laid (prepare_of end (length held)) held)
-kept n end held e = (ap counted (sym e), ap (λ (r : Reply (List Float)). laid r held) (sym e))
+    → record { result_value : refuse n ≡ counted (prepare_of end (length held)); out_after : held ≡ laid (prepare_of end (length held)) held }
+kept n end held e = record { result_value = ap counted (sym e); out_after = ap (λ (r : Reply (List Float)). laid r held) (sym e) }
 
 pub returns-then-window_end-gt-MOST : goal.returns-then-window_end-gt-MOST
 returns-then-window_end-gt-MOST c =

@@ -17,10 +17,9 @@ start c = search
 
 returns-2 : tie.Need-returns-in-Items
 returns-2 c =
-    let after-shelf : tie.In-Present-2 = search in
     let call : tie.After-shelf_log_table-written = search in
     let a = (start call).args in
-    let told = after-shelf.in-Present.is in
+    let told = c.in-Present.is in
     let said = call.shelf_log_table-written.ensures in (
       filled-items a.mean a.top a.table.now a.shelf _ told _ _ said.0 c.in-Items.is,
       filled-table a.mean a.top a.table.now a.shelf _ told _ said.1,
@@ -28,10 +27,9 @@ returns-2 c =
 
 returns-3 : tie.Need-returns-in-Refused
 returns-3 c =
-    let after-shelf : tie.In-Present-2 = search in
     let call : tie.After-shelf_log_table-written = search in
     let a = (start call).args in
-    let told = after-shelf.in-Present.is in
+    let told = c.in-Present.is in
     let said = call.shelf_log_table-written.ensures in (
       filled_none a.mean a.top a.table.now a.shelf _ told _ _ said.0 c.in-Refused.is,
       filled-table a.mean a.top a.table.now a.shelf _ told _ said.1,

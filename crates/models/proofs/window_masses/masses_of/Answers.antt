@@ -12,4 +12,4 @@ returns c =
     let start = c in
     let a = start.args in
     at.masses_at.ensures.value
-    ∙ plain-masses a.p _ a.table.now a.top (omega (arith, start.fits.top)) steady.steady_of.ensures
+    ∙ plain-masses a.p _ a.table.now a.top (omega (arith, start.ranges.top)) steady.steady_of.ensures
