@@ -30,8 +30,7 @@ fn problem_of(scale: f64, window_end: usize, peak: usize, error: u8, genome: u8)
     setup_of(scale, window_end, 2, peak, error, genome, 1.0)
 }
 
-#[unsafe(no_mangle)]
-pub extern "C" fn fog_begin_searches(
+pub fn fog_begin_searches(
     bins: &[u32],
     scale: f64,
     window_end: usize,
@@ -80,8 +79,7 @@ pub extern "C" fn fog_begin_searches(
     flat_written(answer)
 }
 
-#[unsafe(no_mangle)]
-pub extern "C" fn fog_run_searches(
+pub fn fog_run_searches(
     bins: &[u32],
     scale: f64,
     window_end: usize,
@@ -136,8 +134,7 @@ pub extern "C" fn fog_run_searches(
     flat_written(answer)
 }
 
-#[unsafe(no_mangle)]
-pub extern "C" fn fog_report_searches(
+pub fn fog_report_searches(
     error: u8,
     genome: u8,
     runs: usize,
