@@ -25,33 +25,33 @@ use Rattle.search.proofs.beginning.begin_searches.Statement.{statement}
 use Rattle.search.proofs.beginning.begin_searches.Tie as tie
 
 -- ---- the numbers of a start
-module _ (w : tie.After-width) where
+module _ (w : tie.After-width-w) where
   abbrev start : tie.Start
   start = search
 
-  long-is : w.width.result - 1 ≡ size_of start.args.problem
-  long-is = omega (arith, w.width.ensures)
+  long-is : w.width-w.result - 1 ≡ size_of start.args.problem
+  long-is = omega (arith, w.width-w.ensures)
 
-  long-some : 0 < w.width.result - 1
-  long-some = let p = start.args.problem in omega (arith, w.width.ensures, some-wide p.error p.genome)
+  long-some : 0 < w.width-w.result - 1
+  long-some = let p = start.args.problem in omega (arith, w.width-w.ensures, some-wide p.error p.genome)
 
   abbrev lent : Lent
   lent = let a = start.args in lent_of a.simplexes.now a.iterations.now a.stopped.now a.ready.now a.table.now
 
-div-runs : tie.Need-nonzero-div-runs
+div-runs : tie.Need-nonzero_div-runs
 div-runs c = long-some c
 
-rem-wrong : tie.Need-nonzero-rem-wrong
+rem-wrong : tie.Need-nonzero_rem-wrong
 rem-wrong c = long-some c
 
 -- ---- what is refused
-refused-is : (r : tie.After-search-refusal) → let a = (start r.before).args in
-    r.search-refusal.result ≡ first_test a.bins.now a.problem a.starts.now (lent r.before)
+refused-is : (r : tie.After-search_refusal-refused) → let a = (start r.before).args in
+    r.search_refusal-refused.result ≡ first_test a.bins.now a.problem a.starts.now (lent r.before)
 refused-is r =
     let after-width = r.before in
     let a = (start r.before).args in
     let n = length a.starts.now in
-    r.search-refusal.ensures
+    r.search_refusal-refused.ensures
     ∙ ap (λ (d : ℕ). first_of (search_tests a.bins.now a.problem (n / d) (not (eqb (n % d) 0)) (lent after-width)))
     (long-is after-width)
 
@@ -74,22 +74,22 @@ module _ (s : tie.Start) where
   abbrev ready_by : Reply ℕ → List Float
   ready_by x = ready_after s.args.problem x s.args.ready.now
 
-returns : tie.Need-returns
+returns : tie.Need-returns-then-refused-ne0
 returns c =
     let r = c.before in
     let b = start r.before in
     let a = b.args in
-    let answer = begun-refused a.bins.now a.problem a.starts.now (lent r.before) _ (refused-is r) (omega (arith, c.if1.true)) in (
+    let answer = begun-refused a.bins.now a.problem a.starts.now (lent r.before) _ (refused-is r) (omega (arith, c.if-refused-ne0.true)) in (
       answer,
       (ap (rows_by b) answer, (ap (counts_by b) answer, (ap (ends_by b) answer, (ap (ready_by b) answer, refl)))),
     )
 
 -- ---- what is known once nothing is refused
-module _ (q : tie.After-prepare-window) where
-  abbrev r : tie.After-search-refusal
+module _ (q : tie.After-prepare_window) where
+  abbrev r : tie.After-search_refusal-refused
   r = search
 
-  abbrev w : tie.After-width
+  abbrev w : tie.After-width-w
   w = r.before
 
   abbrev s : tie.Start
@@ -97,8 +97,8 @@ module _ (q : tie.After-prepare-window) where
 
   none : let a = s.args in 0 ≡ first_test a.bins.now a.problem a.starts.now (lent w)
   none =
-      let else1 : tie.Else1 = search in
-      let z : 0 ≡ r.search-refusal.result = omega (arith, else1.if1.left) in z ∙ refused-is r
+      let else1 : tie.Else-refused-ne0 = search in
+      let z : 0 ≡ r.search_refusal-refused.result = omega (arith, else1.if-refused-ne0.false) in z ∙ refused-is r
 
   let_through : let a = s.args in
       SearchPassed a.bins.now a.problem (runs_in a.problem a.starts.now) (ragged a.problem a.starts.now) (lent w)
@@ -112,17 +112,17 @@ module _ (q : tie.After-prepare-window) where
 
   -- the cost that the runs go by
   price-is : let a = s.args in
-      ready_price_of a.bins.now a.problem q.prepare-window.last.1.0 (length a.table.now)
+      ready_price_of a.bins.now a.problem q.prepare_window.new.out (length a.table.now)
       ≡ price_of a.bins.now a.problem (length a.table.now)
   price-is =
       let a = s.args in
       let t = let_through in
-      ap (λ (x : List Float). ready_price_of a.bins.now a.problem x (length a.table.now)) q.prepare-window.ensures.1
+      ap (λ (x : List Float). ready_price_of a.bins.now a.problem x (length a.table.now)) q.prepare_window.ensures.1
       ∙ ready-is-cost a.bins.now a.problem a.ready.now t.end-some t.end-few t.ready-room (length a.table.now)
 
-begin-all-requires : tie.Need-begin-all-requires
+begin-all-requires : tie.Need-begin_all-requires
 begin-all-requires c κs =
-    let q : tie.After-prepare-window = search in
+    let q : tie.After-prepare_window = search in
     let t = let_through q in
     let a = (s q).args in
     let n = length a.starts.now in
@@ -139,10 +139,10 @@ begin-all-requires c κs =
       rw d t.each-run.stopped-room,
     )
 
-returns-2 : tie.Need-returns-2
+returns-2 : tie.Need-returns
 returns-2 c =
-    let k : tie.After-begin-all = search in
-    let q : tie.After-prepare-window = search in
+    let k : tie.After-begin_all = search in
+    let q : tie.After-prepare_window = search in
     let a = (s q).args in
     let X = a.starts.now in
     let n = length X in
@@ -151,25 +151,37 @@ returns-2 c =
     let answer = begun-given a.bins.now a.problem X (lent (w q)) (none q) in (
       ap (λ (x : ℕ). give (n / x)) d ∙ answer,
       (
-        k.begin-all.ensures.0 ∙ (λ j. simplexes_begun (ep j) (d j) X (n / d j) a.simplexes.now) ∙ ap (rows_by (s q)) answer,
+        k.begin_all.ensures.0 ∙ (λ j. simplexes_begun (ep j) (d j) X (n / d j) a.simplexes.now) ∙ ap (rows_by (s q)) answer,
         (
-          k.begin-all.ensures.1.0 ∙ (λ j. iterations_begun (n / d j) a.iterations.now) ∙ ap (counts_by (s q)) answer,
+          k.begin_all.ensures.1.0 ∙ (λ j. iterations_begun (n / d j) a.iterations.now) ∙ ap (counts_by (s q)) answer,
           (
-            k.begin-all.ensures.1.1.0 ∙ (λ j. stopped_begun (n / d j) a.stopped.now) ∙ ap (ends_by (s q)) answer,
+            k.begin_all.ensures.1.1.0 ∙ (λ j. stopped_begun (n / d j) a.stopped.now) ∙ ap (ends_by (s q)) answer,
             (
-              q.prepare-window.ensures.1 ∙ ap (ready_by (s q)) answer,
+              q.prepare_window.ensures.1 ∙ ap (ready_by (s q)) answer,
               subst
-                  (λ (x : Reply ℕ). drop (stood_from a.problem x) k.begin-all.last.1.1.1.1.1.1.1.1.1.0
-                  ≡ drop (stood_from a.problem x) a.table.now) answer k.begin-all.ensures.1.1.1,
+                  (λ (x : Reply ℕ). drop (stood_from a.problem x) k.begin_all.new.table
+                  ≡ drop (stood_from a.problem x) a.table.now) answer k.begin_all.ensures.1.1.1,
             ),
           ),
         ),
       ),
     )
 
-pub begin-searches-spec : {M : Type 1} → statement M
-begin-searches-spec =
+pub begin_searches_spec : {M : Type 1} → statement M
+begin_searches_spec =
     tie.close
-    (tie.spec (λ c κs. search rules) (λ c. search rules) div-runs rem-wrong (λ c κs. search rules) returns
-    (λ c κs. search rules) begin-all-requires (λ c. search rules) (λ c. search rules) (λ c. search rules)
-    (λ c. search rules) (λ c. search rules) returns-2)
+    (tie.spec
+    (λ c κs. search rules)
+    (λ c. search rules)
+    div-runs
+    rem-wrong
+    (λ c κs. search rules)
+    returns
+    (λ c κs. search rules)
+    begin-all-requires
+    (λ c. search rules)
+    (λ c. search rules)
+    (λ c. search rules)
+    (λ c. search rules)
+    (λ c. search rules)
+    returns-2)

@@ -64,27 +64,27 @@ module _ (s : tie.Start) where
   Number rows = (n : ℕ) → n ≡ first_of (in_order rows) → n ≡ first_of all
 
 -- ---- 1
-abbrev start-low : tie.Else2 → tie.Start
+abbrev start-low : tie.Else-bins-lt2 → tie.Start
 start-low c = search
 
-returns : tie.Need-returns
+returns : tie.Need-returns-then-problem-lt2
 unfolding search_tests
 returns c =
     let s : tie.Start = search in
     let which : Some (λ (n : ℕ). n < 2) (lows s) =
-    ⊎_elim (λ t. inl t.taken) (λ t. inr (inl (ltb-true _ _ t.1.taken))) c.if1.branch in
+    ⊎_elim (λ t. inl t.taken) (λ t. inr (inl (ltb-true _ _ t.1.taken))) c.if-problem-lt2.branch in
     stops (below_two (lows s)) (in_order (above_most (highs s) ∷ after-high s)) 1 (below-two-found (lows s) which)
     (omega arith)
 
-past-low : (c : tie.Else2) → Number (start-low c) (above_most (highs (start-low c)) ∷ after-high (start-low c))
+past-low : (c : tie.Else-bins-lt2) → Number (start-low c) (above_most (highs (start-low c)) ∷ after-high (start-low c))
 unfolding search_tests
 past-low c =
     let s = start-low c in
-    let none = below-two-clear (lows s) (c.before.if1.false, (ltb-false _ _ c.if2.false, tt)) in
+    let none = below-two-clear (lows s) (c.if-problem-lt2.false, (ltb-false _ _ c.if-bins-lt2.false, tt)) in
     goes_on (below_two (lows s)) (in_order (above_most (highs s) ∷ after-high s)) refl none
 
 -- ---- 2
-returns-2 : tie.Need-returns-2
+returns-2 : tie.Need-returns-then-bins-gt-MOST
 returns-2 c =
     let s = start-low c.before in
     let which : Some (λ (n : ℕ). most < n) (highs s) =
@@ -92,53 +92,53 @@ returns-2 c =
     (⊎_elim (λ t. inr (inl (ltb-true _ _ t.2.taken)))
     (⊎_elim (λ t. inr (inr (inl (ltb-true _ _ t.4.taken))))
     (λ t. inr (inr (inr (inl (ltb-true _ _ t.5.taken)))))))
-    c.if3.branch in
+    c.if-bins-gt-MOST.branch in
     past-low c.before 2
     (stops (above_most (highs s)) (in_order (after-high s)) 2 (above-most-found (highs s) which) (omega arith))
 
-abbrev low : tie.Else6 → tie.Else2
+abbrev low : tie.Else-runs-gt-MOST → tie.Else-bins-lt2
 low c = search
 
-abbrev start-high : tie.Else6 → tie.Start
+abbrev start-high : tie.Else-runs-gt-MOST → tie.Start
 start-high c = start-low (low c)
 
-past-high : (c : tie.Else6) → Number (start-high c) (after-high (start-high c))
+past-high : (c : tie.Else-runs-gt-MOST) → Number (start-high c) (after-high (start-high c))
 past-high c n h =
     let s = start-high c in
     let e5 = c.before in
-    let e4 : tie.Else4 = search in
-    let e3 : tie.Else3 = search in
+    let e4 : tie.Else-problem-gt-MOST = search in
+    let e3 : tie.Else-bins-gt-MOST = search in
     let none = above-most-clear (highs s)
-    (e3.if3.left, (ltb-false _ _ e4.if4.left, (ltb-false _ _ e5.if5.false, (ltb-false _ _ c.if6.false, tt)))) in
+    (e3.if-bins-gt-MOST.false, (ltb-false _ _ e4.if-problem-gt-MOST.false, (ltb-false _ _ e5.if-problem-gt-MOST-2.false, (ltb-false _ _ c.if-runs-gt-MOST.false, tt)))) in
     past-low (low c) n (goes_on (above_most (highs s)) (in_order (after-high s)) refl none n h)
 
 -- ---- 4, 5 and 6
 -- behind 1 and 2 it says the number of these
-spectrum-says : (c : tie.After-spectrum-refusal) → c.spectrum-refusal.result ≡ first_of (spectrum (start-high c.before))
+spectrum-says : (c : tie.After-spectrum_refusal-spectrum) → c.spectrum_refusal-spectrum.result ≡ first_of (spectrum (start-high c.before))
 spectrum-says c =
-    let e5 : tie.Else5 = search in
-    let e3 : tie.Else3 = search in
+    let e5 : tie.Else-problem-gt-MOST-2 = search in
+    let e3 : tie.Else-bins-gt-MOST = search in
     let a = (start-high c.before).args in
     spectrum-number a.bins.now a.problem.scale a.problem.window_end
-    (ltb-false _ _ (low c.before).if2.false) e3.if3.left (ltb-false _ _ e5.if5.left) _
-    c.spectrum-refusal.ensures
+    (ltb-false _ _ (low c.before).if2.false) e3.if-bins-gt-MOST.false (ltb-false _ _ e5.if-problem-gt-MOST-2.false) _
+    c.spectrum_refusal-spectrum.ensures
 
-returns-3 : tie.Need-returns-3
+returns-3 : tie.Need-returns-then-spectrum-ne0
 returns-3 c =
-    let else6 : tie.Else6 = search in
+    let else6 : tie.Else-runs-gt-MOST = search in
     let s : tie.Start = search in
     let first = spectrum-says c.before in
     past-high else6 _
-    (stops (spectrum s) (in_order (after-spectrum s)) _ first (omega (arith, c.if7.true)))
+    (stops (spectrum s) (in_order (after-spectrum s)) _ first (omega (arith, c.if-spectrum-ne0.true)))
 
-abbrev start-spectrum : tie.Else7 → tie.Start
+abbrev start-spectrum : tie.Else-spectrum-ne0 → tie.Start
 start-spectrum c = search
 
-past-spectrum : (c : tie.Else7) → Number (start-spectrum c) (after-spectrum (start-spectrum c))
+past-spectrum : (c : tie.Else-spectrum-ne0) → Number (start-spectrum c) (after-spectrum (start-spectrum c))
 past-spectrum c n h =
-    let else6 : tie.Else6 = search in
+    let else6 : tie.Else-runs-gt-MOST = search in
     let s = start-spectrum c in
-    let none = sym c.if7.false ∙ spectrum-says c.before in
+    let none = sym c.if-spectrum-ne0.false ∙ spectrum-says c.before in
     past-high else6 n
     (goes_on (spectrum s) (in_order (after-spectrum s)) (unfold spectrum_tests in refl) none n h)
 
@@ -149,77 +149,88 @@ starts-wrong wrong e = rw e
 starts-right : (wrong : Bool) → wrong ≡ false → 0 ≡ first_of (wrong_starts wrong)
 starts-right wrong e = rw e
 
-returns-4 : tie.Need-returns-4
+returns-4 : tie.Need-returns-then-wrong
 returns-4 c =
     let s = start-spectrum c.before in
     past-spectrum c.before 7
-    (stops (wrong_starts s.args.wrong) (in_order (after-wrong s)) 7 (starts-wrong _ c.if8.true) (omega arith))
+    (stops (wrong_starts s.args.wrong) (in_order (after-wrong s)) 7 (starts-wrong _ c.if-wrong.true) (omega arith))
 
-past-wrong : (c : tie.Else8) → let s : tie.Start = search in Number s (after-wrong s)
+past-wrong : (c : tie.Else-wrong) → let s : tie.Start = search in Number s (after-wrong s)
 past-wrong c n h =
     let s = start-spectrum c.before in
     past-spectrum c.before n
-    (goes_on (wrong_starts s.args.wrong) (in_order (after-wrong s)) refl (starts-right _ c.if8.false) n h)
+    (goes_on (wrong_starts s.args.wrong) (in_order (after-wrong s)) refl (starts-right _ c.if-wrong.false) n h)
 
 -- ---- 10
-abbrev start-table : tie.Else9 → tie.Start
+abbrev start-table : tie.Else-table-ne0 → tie.Start
 start-table c = search
 
 -- behind 2 and 5 it says the number of this
-table-says : (c : tie.After-table-refusal) → let s : tie.Start = search in c.table-refusal.result ≡ first_of (table s)
+table-says : (c : tie.After-table_refusal-table) → let s : tie.Start = search in c.table_refusal-table.result ≡ first_of (table s)
 table-says c =
-    let e7 : tie.Else7 = search in
-    let e5 : tie.Else5 = search in
+    let e7 : tie.Else-spectrum-ne0 = search in
+    let e5 : tie.Else-problem-gt-MOST-2 = search in
     let a = (start-spectrum e7).args in
     let p = a.problem in
     let inside = spectrum-passed a.bins.now p.scale p.window_end
-    (sym e7.if7.left ∙ spectrum-says e7.before) in
-    table-number p.genome p.window_end a.lent.table inside.end-some (ltb-false _ _ e5.if5.left) _
-    c.table-refusal.ensures
+    (sym e7.if-spectrum-ne0.false ∙ spectrum-says e7.before) in
+    table-number p.genome p.window_end a.lent.table inside.end-some (ltb-false _ _ e5.if-problem-gt-MOST-2.false) _
+    c.table_refusal-table.ensures
 
-returns-5 : tie.Need-returns-5
+returns-5 : tie.Need-returns-then-table-ne0
 returns-5 c =
-    let else8 : tie.Else8 = search in
+    let else8 : tie.Else-wrong = search in
     let s : tie.Start = search in
     let first = table-says c.before in
     past-wrong else8 _
-    (stops (table s) (in_order (after_table s)) _ first (omega (arith, c.if9.true)))
+    (stops (table s) (in_order (after_table s)) _ first (omega (arith, c.if-table-ne0.true)))
 
-past-table : (c : tie.Else9) → Number (start-table c) (after_table (start-table c))
+past-table : (c : tie.Else-table-ne0) → Number (start-table c) (after_table (start-table c))
 past-table c n h =
-    let else8 : tie.Else8 = search in
+    let else8 : tie.Else-wrong = search in
     let s = start-table c in
-    let none = sym c.if9.false ∙ table-says c.before in
+    let none = sym c.if-table-ne0.false ∙ table-says c.before in
     past-wrong else8 n (goes_on (table s) (in_order (after_table s)) refl none n h)
 
 -- the window end is within the limits
-abbrev high : tie.Else9 → tie.Else6
+abbrev high : tie.Else-table-ne0 → tie.Else-runs-gt-MOST
 high c = search
 
-end-few : (c : tie.Else9) → (start-table c).args.problem.window_end ≤ most
+end-few : (c : tie.Else-table-ne0) → (start-table c).args.problem.window_end ≤ most
 end-few c = ltb-false _ _ (high c).before.if5.false
 
-add-if10 : tie.Need-overflow-add-if10
+add-if10 : tie.Need-overflow_add-problem
 add-if10 c = omega (arith, end-few c.before)
 
-mul-if10 : tie.Need-overflow-mul-if10
+mul-if10 : tie.Need-overflow_mul-problem
 mul-if10 c = omega (arith, end-few c.before)
 
-returns-6 : tie.Need-returns-6
-returns-6 c = let else9 : tie.Else9 = search in past-table else9 10 (rw (lt-ltb _ _ c.if10.true))
+returns-6 : tie.Need-returns-then-lent-problem
+returns-6 c = let else9 : tie.Else-table-ne0 = search in past-table else9 10 (rw (lt-ltb _ _ c.if-lent-problem.true))
 
-runs-refusal-requires : tie.Need-runs-refusal-requires
-runs-refusal-requires c κs = let else6 : tie.Else6 = search in ltb-false _ _ else6.if6.left
+runs-refusal-requires : tie.Need-runs_refusal-requires
+runs-refusal-requires c κs = let else6 : tie.Else-runs-gt-MOST = search in ltb-false _ _ else6.if-runs-gt-MOST.false
 
-returns-7 : tie.Need-returns-7
+returns-7 : tie.Need-returns
 unfolding short_runs
 returns-7 c =
-    let else9 : tie.Else9 = search in
+    let else9 : tie.Else-table-ne0 = search in
     let e = c.before in
-    past-table else9 _ (rw (le-ltb _ _ e.if10.false) c.runs-refusal.ensures)
+    past-table else9 _ (rw (le-ltb _ _ e.if-lent-problem.false) c.runs_refusal.ensures)
 
-pub search-refusal-spec : {M : Type 1} → statement M
-search-refusal-spec =
+pub search_refusal_spec : {M : Type 1} → statement M
+search_refusal_spec =
     tie.close
-    (tie.spec returns returns-2 (λ c κs. search rules) returns-3 returns-4 (λ c κs. search rules) returns-5 add-if10
-    mul-if10 returns-6 runs-refusal-requires returns-7)
+    (tie.spec
+    returns
+    returns-2
+    (λ c κs. search rules)
+    returns-3
+    returns-4
+    (λ c κs. search rules)
+    returns-5
+    add-if10
+    mul-if10
+    returns-6
+    runs-refusal-requires
+    returns-7)
