@@ -10,11 +10,7 @@ use Rattle.fitter.proofs.start_writers.put_shelf.Goals as goal
 
 pub returns : goal.returns
 unfolding over
-returns c = record {
-  value = refl;
-  out_after = sets-eq (c.args.share ∷ c.args.retained ∷ c.args.concentration ∷ [])
-      c.args.rest.now 0 (search rules);
-}
+returns c = (refl, sets-eq (c.args.share ∷ c.args.retained ∷ c.args.concentration ∷ []) c.args.rest.now 0 (search rules))
 
 pub bounds-rest-1 : goal.bounds-rest-1
 bounds-rest-1 c = simp length-set (omega arith)

@@ -21,15 +21,15 @@ start c = search
 
 -- what is put is the shelf's part
 list-is : (c : tie.After-logit-narrow)
-    → (first c).logit.result ∷ (second c).logit2.result ∷ c.logit-narrow.result ∷ []
+    → (first c).logit-part.result ∷ (second c).logit-kept.result ∷ c.logit-narrow.result ∷ []
     ≡ shelf_list (start c).args.share (start c).args.shape
 unfolding round of_bits
 list-is c =
     let after-shelf-concentration-bounds : tie.After-shelf_concentration_bounds-bounds = search in
     let a = (start c).args in
     shelf-part a.share a.shape after-shelf-concentration-bounds.shelf_concentration_bounds-bounds.result _ _ _
-    after-shelf-concentration-bounds.shelf_concentration_bounds-bounds.ensures (first c).logit.ensures
-    (second c).logit2.ensures c.logit-narrow.ensures
+    after-shelf-concentration-bounds.shelf_concentration_bounds-bounds.ensures (first c).logit-part.ensures
+    (second c).logit-kept.ensures c.logit-narrow.ensures
 
 put-shelf-requires : tie.Need-put_shelf-requires
 unfolding shelf_list

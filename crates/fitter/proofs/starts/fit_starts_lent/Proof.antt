@@ -54,7 +54,7 @@ abbrev even : tie.After-too_short → tie.Else-shapes-ne0
 even y = search
 
 fine-at : (y : tie.After-too_short) → 0 ≡ first_of (wrong_tables (length (p (read y))) (length (w (read y))))
-fine-at y = fine (read y) (even y).before.if1.false
+fine-at y = fine (read y) (even y).before.if-table-eq0.false
 
 is-table : (y : tie.After-too_short) → table (read y) ≡ table_of (start (read y)).args.error (p (read y)) (w (read y))
 is-table y = took (read y) (fine-at y)
@@ -114,7 +114,7 @@ returns-3 c =
     let a = (start t).args in
     rw
     (room-refused a.error a.genome (p t) (w t) a.seeds.now a.hint a.share a.shapes.now (length a.out.now)
-    (fine-at y) (even y).if2.false (sym (short-is y) ∙ c.if-too_short.true))
+    (fine-at y) (even y).if-shapes-ne0.false (sym (short-is y) ∙ c.if-too_short.true))
     (refl, refl)
 
 write-starts-requires : tie.Need-write_starts-written-requires
@@ -134,7 +134,7 @@ returns-4 c =
     let a = (start t).args in
     rw
     (given a.error a.genome (p t) (w t) a.seeds.now a.hint a.share a.shapes.now (length a.out.now)
-    (fine-at y) (even y).if2.left (sym (short-is y) ∙ h.if-too_short.false)) (
+    (fine-at y) (even y).if-shapes-ne0.false (sym (short-is y) ∙ h.if-too_short.false)) (
       ap give (k.write_starts-written.ensures.0 ∙ ap length (writes h)),
       k.write_starts-written.ensures.1 ∙ ap (λ (l : List Float). over l a.out.now) (writes h),
     )
