@@ -67,8 +67,8 @@ returns c =
     r.retry_columns-held.ensures.0
     ∙ ap (λ (m : ℕ). retried_of a.bins.now a.setup a.lists.now m (at t) (n t) s.held)
     t.settle-first.auto.table in
-    let done : c.finish.result ≡ finish_of (first t).survey_columns.result (with_held s r.retry_columns-held.result) =
-    c.finish.ensures ∙ ap (finish_of (first t).survey_columns.result) w.with_held-second.ensures in (
+    let done : c.finish.result ≡ finish_of (first t).survey_columns-survey.result (with_held s r.retry_columns-held.result) =
+    c.finish.ensures ∙ ap (finish_of (first t).survey_columns-survey.result) w.with_held-second.ensures in (
       done
           ∙ two-passes a.bins.now a.setup a.lists.now (room t) (at t) (n t) _ _ (surveyed-so t) (settled-so t)
           _ u.if-first.true held,

@@ -26,7 +26,7 @@ returns c =
 returns-2 : tie.Need-returns-then-not-could_win
 returns-2 c =
     let w = c in
-    let k : tie.In-Converged-2 = search in
+    let k : tie.In-Converged = search in
     let p : tie.After-run_point-point = search in
     let a = (start p).args in (
       looked-at a.bins.now a.setup a.lists.now _ a.position a.run a.held k.in-Converged.cost k.in-Converged.field-1
@@ -45,7 +45,7 @@ module _ (u : tie.After-is_unrejected) where
   abbrev win : tie.After-could_win
   win = search
 
-  abbrev point : tie.In-Converged-2
+  abbrev point : tie.In-Converged
   point = search
 
   abbrev from : tie.Start
@@ -61,15 +61,15 @@ module _ (u : tie.After-is_unrejected) where
 returns-3 : tie.Need-returns-then-not-is_unrejected
 returns-3 c =
     let else1 : tie.Else-not-could_win = search in
-    let u = c in
-    let g = (point u).point.given in
+    let u : tie.After-is_unrejected = search in
+    let g = (point u).in-Converged in
     let p : tie.After-run_point-point = search in
     let a = (from u).args in (
-      looked-at a.bins.now a.setup a.lists.now _ a.position a.run a.held g.0.0 g.0.1.0
-          true false (sym g.1 ∙ p.run_point-point.ensures)
+      looked-at a.bins.now a.setup a.lists.now _ a.position a.run a.held g.cost g.field-1
+          true false (sym g.is ∙ p.run_point-point.ensures)
           (sym (win u).could_win.ensures ∙ else1.if-not-could_win.false)
           (verdict u false (c.if-not-is_unrejected.true)),
-      (judged u).judge_run.ensures.1,
+      (judged u).judge_run-judged.ensures.1,
     )
 
 same-length-2 : tie.Need-shape_of-table
@@ -78,16 +78,16 @@ same-length-2 c = let j : tie.After-judge_run-judged = search in j.judge_run-jud
 returns-4 : tie.Need-returns
 returns-4 c =
     let else1 : tie.Else-not-could_win = search in
-    let u = c in
-    let g = (point u).point.given in
+    let u : tie.After-is_unrejected = search in
+    let g = (point u).in-Converged in
     let p : tie.After-run_point-point = search in
     let a = (from u).args in (
-      ap (λ (j : JudgedFit). record { best = best_of a.position a.run; judged = j }) (judged u).judge_run.ensures.0
-          ∙ looked-at a.bins.now a.setup a.lists.now _ a.position a.run a.held g.0.0 g.0.1.0
-          true true (sym g.1 ∙ p.run_point-point.ensures)
+      ap (λ (j : JudgedFit). record { best = best_of a.position a.run; judged = j }) (judged u).judge_run-judged.ensures.0
+          ∙ looked-at a.bins.now a.setup a.lists.now _ a.position a.run a.held g.cost g.field-1
+          true true (sym g.is ∙ p.run_point-point.ensures)
           (sym (win u).could_win.ensures ∙ else1.if-not-could_win.false)
           (verdict u true (c.if-not-is_unrejected.false)),
-      (judged u).judge_run.ensures.1,
+      (judged u).judge_run-judged.ensures.1,
     )
 
 pub retry_run_spec : {M : Type 1} → statement M

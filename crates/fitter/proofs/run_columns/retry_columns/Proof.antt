@@ -69,7 +69,7 @@ add-i : tie.Need-overflow_add-i invariant-loop decreases-loop
 add-i c =
     let after-run-count : tie.After-run_count-n invariant-loop decreases-loop = search in
     let t : tie.In-loop-i invariant-loop decreases-loop = search in
-    omega (arith, t.loop-i-test.true, after-run-count.run_count-n.ok)
+    omega (arith, t.loop-i-test.true, after-run-count.run_count-n.type_inv)
 
 loop-less : tie.Need-loop-i-smaller invariant-loop decreases-loop
 loop-less c = let t : tie.In-loop-i invariant-loop decreases-loop = search in omega (arith, t.loop-i-test.true)
@@ -78,7 +78,7 @@ loop-again : tie.Need-loop-i-preserved invariant-loop decreases-loop
 loop-again c =
     let r : tie.After-retry_run-kept invariant-loop decreases-loop = search in
     let i = (loop r).loop-i.invariant in (
-      goes_on _ _ _ _ i.0 _ (turn r).loop-test.taken (next r),
+      goes_on _ _ _ _ i.0 _ (turn r).loop-i-test.true (next r),
       r.retry_run-kept.auto.table ∙ i.1,
       r.retry_run-kept.ensures.1 ∙ i.2,
     )

@@ -67,7 +67,7 @@ add-i : tie.Need-overflow_step-i invariant-loop decreases-loop
 add-i c =
     let after-run-count : tie.After-run_count-n invariant-loop decreases-loop = search in
     let t : tie.In-loop-i invariant-loop decreases-loop = search in
-    omega (arith, t.loop-i-test.true, after-run-count.run_count-n.ok)
+    omega (arith, t.loop-i-test.true, after-run-count.run_count-n.type_inv)
 
 loop-less : tie.Need-loop-i-smaller-in_default invariant-loop decreases-loop
 loop-less c = let t : tie.In-loop-i invariant-loop decreases-loop = search in omega (arith, t.loop-i-test.true)
@@ -75,25 +75,25 @@ loop-less c = let t : tie.In-loop-i invariant-loop decreases-loop = search in om
 loop-again : tie.Need-loop-i-preserved-in_default invariant-loop decreases-loop
 loop-again c =
     let p : tie.After-run_point-point invariant-loop decreases-loop = search in
-    goes_on _ _ _ _ (loop p).loop-i.invariant _ (turn p).loop-test.taken
+    goes_on _ _ _ _ (loop p).loop-i.invariant _ (turn p).loop-i-test.true
     (counted p ∙ point-is p RunPoint.Missing c.in_default.is)
 
 add-i-2 : tie.Need-overflow_step-i-in-loop-i invariant-loop decreases-loop
 add-i-2 c =
     let after-run-count : tie.After-run_count-n invariant-loop decreases-loop = search in
     let t : tie.In-loop-i invariant-loop decreases-loop = search in
-    omega (arith, t.loop-i-test.true, after-run-count.run_count-n.ok)
+    omega (arith, t.loop-i-test.true, after-run-count.run_count-n.type_inv)
 
 loop-less-2 : tie.Need-loop-i-smaller invariant-loop decreases-loop
 loop-less-2 c = let t : tie.In-loop-i invariant-loop decreases-loop = search in omega (arith, t.loop-i-test.true)
 
 loop-again-2 : tie.Need-loop-i-preserved invariant-loop decreases-loop
 loop-again-2 c =
-    let k : tie.In-Converged-2 invariant-loop decreases-loop = search in
+    let k : tie.In-Converged invariant-loop decreases-loop = search in
     let p : tie.After-run_point-point invariant-loop decreases-loop = search in
     let a = (start p).args in
     let i = (loop p).loop-i.i in
-    goes_on _ _ _ _ (loop p).loop-i.invariant _ (turn p).loop-test.taken
+    goes_on _ _ _ _ (loop p).loop-i.invariant _ (turn p).loop-i-test.true
     (c.weigh_run-s.ensures
     ∙ ap (λ (r : Run). weigh_of a.lent a.wanted i r k.in-Converged.cost k.in-Converged.place p.count_run-s.result)
     (run_is p)

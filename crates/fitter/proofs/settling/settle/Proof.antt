@@ -28,7 +28,7 @@ returns-2 c =
     let a = (start r).args in (
       rw c.no_held-then-not-run.ensures
           (settled-none a.bins.now a.setup a.runs a.survey a.lists.now _ _
-          r.attempt_refusal-number.ensures e.if-number-ne0.false (t.if-not-run.true)),
+          r.attempt_refusal-number.ensures e.if-number-ne0.false (from-not t.if-not-run.true)),
       refl,
     )
 
@@ -44,7 +44,7 @@ returns-3 c =
     let a = (start r).args in (
       rw (c.is_unrejected-valid.ensures, j.judge_run-judged.ensures.0)
           (settled-some a.bins.now a.setup a.runs a.survey a.lists.now _ _
-          r.attempt_refusal-number.ensures e.if-number-ne0.false (t.if-not-run.false)),
+          r.attempt_refusal-number.ensures e.if-number-ne0.false (from-not-not t.if-not-run.false)),
       j.judge_run-judged.ensures.1,
     )
 

@@ -7,12 +7,6 @@ use Rattle.fitter.proofs.Surveyed.{point-step}
 use borrow.Author.Rules.{rules}
 use Rattle.fitter.proofs.surveys.survey_run.Goals as goal
 
-pub enum_known-point : goal.enum_known-point
-enum_known-point c = c.in-Converged.keys1
-
-pub enum_told-1 : goal.enum_told-1
-enum_told-1 c = c.in-Converged.keys2
-
 pub returns-in_default : goal.returns-in_default
 returns-in_default c =
     let s = c in

@@ -15,7 +15,7 @@ returns-then-t c =
     let run = t.run_of-run in
     let a = s.args in
     let room = length a.table.now in record {
-      result_after = r.retry_turn.ensures.value
+      value = r.retry_turn.ensures.value
           ∙ turn-second a.bins.now a.setup a.lists.now room run.result a.t t.if-t.true
           ∙ ap (λ (x : Run). turn_of a.bins.now a.setup a.lists.now room x a.t) run.ensures;
       table_unchanged = rw t.if-t.true r.retry_turn.ensures.table_unchanged;
@@ -29,7 +29,7 @@ returns c =
     let run = t.run_of-run in
     let a = s.args in
     let room = length a.table.now in record {
-      result_after = r.survey_turn.ensures.value
+      value = r.survey_turn.ensures.value
           ∙ turn-first a.bins.now a.setup a.lists.now room run.result a.t t.if-t.false
           ∙ ap (λ (x : Run). turn_of a.bins.now a.setup a.lists.now room x a.t) run.ensures;
       table_unchanged = rw t.if-t.false r.survey_turn.ensures.table_unchanged;
