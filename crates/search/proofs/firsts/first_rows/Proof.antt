@@ -31,7 +31,7 @@ begun l = search
 abbrev turn : tie.After-first_point invariant-loop decreases-loop → tie.In-loop-i invariant-loop decreases-loop
 turn p = search
 
-abbrev priced : tie.After-put-arg2 invariant-loop decreases-loop → tie.After-price-cost invariant-loop decreases-loop
+abbrev priced : tie.After-put-arg-1 invariant-loop decreases-loop → tie.After-price-cost invariant-loop decreases-loop
 priced k = search
 
 abbrev pointed : tie.After-price-cost invariant-loop decreases-loop → tie.After-first_point invariant-loop decreases-loop
@@ -68,7 +68,7 @@ put-requires c κs =
     let s = begun l in (
       l.loop-i.invariant.1 ∙ s.requires.0,
       t.loop-i-test.true,
-      ap (λ (n : ℕ). n + 1) (p.first_point.kept.1.1.0 ∙ l.loop-i.invariant.0) ∙ s.requires.2,
+      ap (λ (n : ℕ). n + 1) (p.first_point.auto.point ∙ l.loop-i.invariant.0) ∙ s.requires.2,
     )
 
 add-i : tie.Need-overflow_add-i invariant-loop decreases-loop
@@ -93,9 +93,9 @@ more k =
     subst (λ (us : List Vertex). Passed (first_at (price s) a.start.now) [] (rows s) us (l.loop-i.i + 1))
     (sym k.put.ensures)
     (first-goes-on (price s) a.start.now l.loop-i.invariant.4
-    (rw (rows-length a.w a.w a.rows.now) t.loop-i-test.true) point q.price.result
+    (rw (rows-length a.w a.w a.rows.now) t.loop-i-test.true) point q.price-cost.result
     p.first_point.ensures
-    (q.price.ensures.0
+    (q.price-cost.ensures.0
     ∙ ap (λ (n : ℕ). ready_price_of a.bins.now a.problem a.ready.now n point) l.loop-i.invariant.2))
 
 loop-again : tie.Need-loop-i-preserved invariant-loop decreases-loop
@@ -104,10 +104,10 @@ loop-again c =
     let q = priced k.before in
     let p = pointed q in
     let l = (turn p).before in (
-      p.first_point.auto.point ∙ l.loop.invariant.0,
-      k.put.auto.rows ∙ l.loop.invariant.1,
-      q.price.kept.1.1.1.1.0 ∙ l.loop.invariant.2,
-      q.price.ensures.1 ∙ l.loop.invariant.3,
+      p.first_point.auto.point ∙ l.loop-i.invariant.0,
+      k.put.auto.rows ∙ l.loop-i.invariant.1,
+      q.price-cost.auto.table ∙ l.loop-i.invariant.2,
+      q.price-cost.ensures.1 ∙ l.loop-i.invariant.3,
       more k,
     )
 

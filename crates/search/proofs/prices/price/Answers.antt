@@ -14,8 +14,8 @@ returns c =
     let k = after-cost-prepared.cost_prepared-answer in
     let a = s.args in
     let p = a.problem in record {
-      value = c.price_said.ensures ∙ ap price_said k.ensures.0;
-      table_unchanged = ap (drop (stands_from p)) k.ensures.1
+      value = c.price_said.ensures ∙ ap price_said k.ensures.result_value;
+      table_unchanged = ap (drop (stands_from p)) k.ensures.table_after
           ∙ prepared-stands a.bins.now p.scale p.window_end p.peak p.error p.genome a.list.now
           a.ready.now a.table.now;
     }

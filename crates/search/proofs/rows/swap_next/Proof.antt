@@ -87,7 +87,7 @@ mul-copy-4 : tie.Need-offset_bounds-rows-mid-2
 mul-copy-4 c = let s : tie.Start = search in omega (arith, inside s)
 
 part-copy-end-5 : tie.Need-slice_bounds-copy-end-5
-part-copy-end-5 c = let s : tie.Start = search in rw c.rows3.given.1 (inside s)
+part-copy-end-5 c = let s : tie.Start = search in rw c.rows-1.given.1 (inside s)
 
 part-copy-end-6 : tie.Need-slice_bounds-copy-end-6
 part-copy-end-6 c =
@@ -96,18 +96,18 @@ part-copy-end-6 c =
 
 copy-requires-4 : tie.Need-copy-requires-4
 copy-requires-4 c κs =
-    let after-rows3 : tie.After-rows3 = search in
+    let after-rows : tie.After-rows-1 = search in
     let k : tie.After-copy = search in
     let s = start k in
     let a = s.args in
-    let inner = after-rows3.rows3.given.1 in
+    let inner = after-rows.rows-1.given.1 in
     let e : a.i * a.w + a.w + a.w - (a.i * a.w + a.w) ≡ a.w = omega arith in
     mid_len (a.i * a.w + a.w) (a.i * a.w + a.w + a.w) _ (rw inner (inside s))
     ∙ e
     ∙ sym (ap length (front-is a.w k.copy.new.to _ (first-long k)) ∙ first-long k)
 
 same_length : tie.Need-shape_of-rows
-same_length c = let after-rows3 : tie.After-rows3 = search in c.rows4.given.1 ∙ after-rows3.rows3.given.1
+same_length c = let after-rows : tie.After-rows-1 = search in c.rows-2-1.given.1 ∙ after-rows.rows-1.given.1
 
 returns : tie.Need-returns
 returns c =

@@ -41,7 +41,7 @@ add-to : tie.Need-overflow_add-to
 add-to c = omega (arith, last_fits c)
 
 mul-try-point : tie.Need-offset_bounds-rows-from
-mul-try-point c = omega (arith, last_fits c.before)
+mul-try-point c = let k : tie.After-slice_known-4-1 = search in omega (arith, last_fits k)
 
 part-try-point-end : tie.Need-slice_bounds-try_point-end
 part-try-point-end c =

@@ -37,7 +37,7 @@ mul-try-point : tie.Need-offset_bounds-rows-from
 mul-try-point c = omega (arith, last_fits c)
 
 part-try-point-end : tie.Need-slice_bounds-try_point-end
-part-try-point-end c = omega (arith, last_fits c.before)
+part-try-point-end c = let k : tie.After-slice_known-3-1 = search in omega (arith, last_fits k)
 
 -- what is put into the last row is what the rule has
 module _ (t : tie.After-try_point-cost) where

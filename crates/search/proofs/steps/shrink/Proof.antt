@@ -41,7 +41,7 @@ start k = search
 abbrev begun : tie.At-loop-i invariant-loop decreases-loop → tie.Start invariant-loop decreases-loop
 begun l = search
 
-abbrev tried : tie.After-put-arg2 invariant-loop decreases-loop → tie.After-try_point-cost invariant-loop decreases-loop
+abbrev tried : tie.After-put-arg-1 invariant-loop decreases-loop → tie.After-try_point-cost invariant-loop decreases-loop
 tried k = search
 
 abbrev turn : tie.After-try_point-cost invariant-loop decreases-loop → tie.In-loop-i invariant-loop decreases-loop
@@ -72,7 +72,7 @@ part-copy-start : tie.Need-slice_bounds-copy-start invariant-loop decreases-loop
 part-copy-start c = omega arith
 
 part-copy-end : tie.Need-slice_bounds-copy-end invariant-loop decreases-loop
-part-copy-end c = first-in (start c.before)
+part-copy-end c = let s : tie.Start invariant-loop decreases-loop = search in first-in s
 
 copy-requires : tie.Need-copy-requires invariant-loop decreases-loop
 copy-requires c κs =
@@ -115,7 +115,7 @@ part-try-point-start : tie.Need-slice_bounds-try_point-start invariant-loop decr
 part-try-point-start c = omega arith
 
 part-try-point-end : tie.Need-slice_bounds-try_point-end invariant-loop decreases-loop
-part-try-point-end c = omega (arith, inside c.before)
+part-try-point-end c = let t : tie.In-loop-i invariant-loop decreases-loop = search in omega (arith, inside t)
 
 try-point-requires : tie.Need-try_point-cost-requires invariant-loop decreases-loop
 try-point-requires c κs =
@@ -128,7 +128,7 @@ try-point-requires c κs =
     let e : length l.loop-i.point ≡ from + (a.w - 1) - from = omega (arith, p, s.requires.2) in
     let g : from + (a.w - 1) ≤ length l.loop-i.rows = omega (arith, inside t, s.requires.2) in
     let b : length a.point.now ≡ length a.best.now = omega (arith, s.requires.1, s.requires.2) in
-    (e ∙ sym (mid_len from (from + (a.w - 1)) l.loop-i.rows g), p ∙ b ∙ sym (copied l).copy.kept.0)
+    (e ∙ sym (mid_len from (from + (a.w - 1)) l.loop-i.rows g), p ∙ b ∙ sym (copied l).copy.auto.to)
 
 put-requires : tie.Need-put-requires invariant-loop decreases-loop
 put-requires c κs =
@@ -158,14 +158,14 @@ more k =
     let s = begun l in
     let a = s.args in
     let i = l.loop-i.i in
-    let b = (copied l).copy.last.0 in
+    let b = (copied l).copy.new.to in
     let y = mid_of (i * a.w + 1) (i * a.w + 1 + (a.w - 1) - (i * a.w + 1)) l.loop-i.rows in
     subst (λ (us : List Vertex). Passed (shrunk_at (price s) (rows s)) [] (rows s) us (i + 1)) (sym k.put.ensures)
     (shrink-goes-on (price s) (rows s) l.loop-i.invariant.5 l.loop-i.invariant.0
-    (rw (rows-length a.w a.w a.rows.now) t.loop-i-test.true) b y p.try_point.last.1.1.1.1.1.0
-    p.try_point.result ((copied l).copy.ensures ∙ first-lent a.w a.rows.now s.requires.0 (omega (arith, s.requires.1)))
-    (point-lent a.w l.loop-i.rows (l.loop-i.invariant.2 ∙ s.requires.0) i t.loop-i-test.true) p.try_point.ensures.0
-    (p.try_point.ensures.1.0
+    (rw (rows-length a.w a.w a.rows.now) t.loop-i-test.true) b y p.try_point-cost.new.point
+    p.try_point-cost.result ((copied l).copy.ensures ∙ first-lent a.w a.rows.now s.requires.0 (omega (arith, s.requires.1)))
+    (point-lent a.w l.loop-i.rows (l.loop-i.invariant.2 ∙ s.requires.0) i t.loop-i-test.true) p.try_point-cost.ensures.0
+    (p.try_point-cost.ensures.1.0
     ∙ ap (λ (n : ℕ). ready_price_of a.bins.now a.problem a.ready.now n (moved Half y b)) l.loop-i.invariant.3))
 
 loop-again : tie.Need-loop-i-preserved invariant-loop decreases-loop
@@ -174,15 +174,15 @@ loop-again c =
     let p = tried k.before in
     let l = (turn p).before in (
       omega arith,
-      p.try_point.kept.1.1.1.1.1.0 ∙ l.loop.invariant.1,
-      k.put.auto.rows ∙ l.loop.invariant.2,
-      p.try_point.kept.1.1.1.1.1.1.1.0 ∙ l.loop.invariant.3,
-      p.try_point.ensures.1.1 ∙ l.loop.invariant.4,
+      p.try_point-cost.auto.point ∙ l.loop-i.invariant.1,
+      k.put.auto.rows ∙ l.loop-i.invariant.2,
+      p.try_point-cost.auto.table ∙ l.loop-i.invariant.3,
+      p.try_point-cost.ensures.1.1 ∙ l.loop-i.invariant.4,
       more k,
     )
 
 same_length : tie.Need-shape_of-best invariant-loop decreases-loop
-same_length c = (copied c.before).copy.kept.0
+same_length c = let l : tie.At-loop-i invariant-loop decreases-loop = search in (copied l).copy.auto.to
 
 same-length-2 : tie.Need-shape_of-point invariant-loop decreases-loop
 same-length-2 c = c.loop-i.invariant.1

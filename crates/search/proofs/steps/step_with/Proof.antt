@@ -81,12 +81,12 @@ returns c =
     let a = (s t).args in (
       k.expand.ensures.0
           ∙ ap (λ (n : ℕ). expanded (ready_price_of a.bins.now a.problem a.ready.now n) (rows_in a.w a.w a.rows.now) (middle t) (reflected t))
-          t.try_point.kept.1.1.1.1.1.1.1.0
+          t.try_point-cost.auto.table
           ∙ below-best (price t) a.w a.rows.now (s t).requires.0 (some t) (s t).requires.1 _ _
           after-centroid.centroid.ensures
-          (last-part (price t) a.w a.rows.now (s t).requires.0 (some t)) _ _ _ t.try_point.ensures.0
-          t.try_point.ensures.1.0 then.if-cost-rows.true,
-      k.expand.ensures.1 ∙ t.try_point.ensures.1.1,
+          (last-part (price t) a.w a.rows.now (s t).requires.0 (some t)) _ _ _ t.try_point-cost.ensures.0
+          t.try_point-cost.ensures.1.0 then.if-cost-rows.true,
+      k.expand.ensures.1 ∙ t.try_point-cost.ensures.1.1,
     )
 
 mul-if2 : tie.Need-offset_bounds-rows-second
@@ -107,9 +107,9 @@ returns-2 c =
     let a = (s t).args in (
       k.put.ensures ∙ below-second (price t) a.w a.rows.now (s t).requires.0 (some t) (s t).requires.1 _ _
           after-centroid.centroid.ensures
-          (last-part (price t) a.w a.rows.now (s t).requires.0 (some t)) _ _ _ t.try_point.ensures.0
-          t.try_point.ensures.1.0 else.if-cost-rows.false then.if-cost-rows-2.true,
-      t.try_point.ensures.1.1,
+          (last-part (price t) a.w a.rows.now (s t).requires.0 (some t)) _ _ _ t.try_point-cost.ensures.0
+          t.try_point-cost.ensures.1.0 else.if-cost-rows.false then.if-cost-rows-2.true,
+      t.try_point-cost.ensures.1.1,
     )
 
 mul-if3 : tie.Need-offset_bounds-rows-worst
@@ -134,12 +134,12 @@ returns-3 c =
     let a = (s t).args in (
       k.contract_out.ensures.0
           ∙ ap (λ (n : ℕ). contracted_out (ready_price_of a.bins.now a.problem a.ready.now n) (rows_in a.w a.w a.rows.now) (middle t) (reflected t))
-          t.try_point.kept.1.1.1.1.1.1.1.0
+          t.try_point-cost.auto.table
           ∙ below-worst (price t) a.w a.rows.now (s t).requires.0 (some t) (s t).requires.1 _ _
           after-centroid.centroid.ensures
-          (last-part (price t) a.w a.rows.now (s t).requires.0 (some t)) _ _ _ t.try_point.ensures.0
-          t.try_point.ensures.1.0 else.if-cost-rows.false second.if-cost-rows-2.false then.if-cost-rows-3.true,
-      k.contract_out.ensures.1 ∙ t.try_point.ensures.1.1,
+          (last-part (price t) a.w a.rows.now (s t).requires.0 (some t)) _ _ _ t.try_point-cost.ensures.0
+          t.try_point-cost.ensures.1.0 else.if-cost-rows.false second.if-cost-rows-2.false then.if-cost-rows-3.true,
+      k.contract_out.ensures.1 ∙ t.try_point-cost.ensures.1.1,
     )
 
 returns-4 : tie.Need-returns
@@ -153,12 +153,12 @@ returns-4 c =
     let a = (s t).args in (
       k.contract_in.ensures.0
           ∙ ap (λ (n : ℕ). contracted_in (ready_price_of a.bins.now a.problem a.ready.now n) (rows_in a.w a.w a.rows.now) (middle t))
-          t.try_point.kept.1.1.1.1.1.1.1.0
+          t.try_point-cost.auto.table
           ∙ not-below (price t) a.w a.rows.now (s t).requires.0 (some t) (s t).requires.1 _ _
           after-centroid.centroid.ensures
-          (last-part (price t) a.w a.rows.now (s t).requires.0 (some t)) _ _ _ t.try_point.ensures.0
-          t.try_point.ensures.1.0 else.if-cost-rows.false second.if-cost-rows-2.false third.if-cost-rows-3.false,
-      k.contract_in.ensures.1 ∙ t.try_point.ensures.1.1,
+          (last-part (price t) a.w a.rows.now (s t).requires.0 (some t)) _ _ _ t.try_point-cost.ensures.0
+          t.try_point-cost.ensures.1.0 else.if-cost-rows.false second.if-cost-rows-2.false third.if-cost-rows-3.false,
+      k.contract_in.ensures.1 ∙ t.try_point-cost.ensures.1.1,
     )
 
 pub step_with_spec : {M : Type 1} → statement M
