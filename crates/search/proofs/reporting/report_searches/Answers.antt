@@ -3,11 +3,10 @@ use Prim.Native.Nat.{ℕ, ◌+◌, ◌≤◌, ◌<◌}
 use mathlib.Core.Path.{◌≡◌, sym, ap, ◌∙◌}
 use native.Mathlib.Omega.{arith}
 use Rattle.meaning.specs.Flags.{byte_of}
-use Rattle.meaning.specs.Reply.{first_of}
 use Rattle.models.specs.Families.{list_length_of}
 use Rattle.models.specs.declared.families.ErrorModel.{ErrorModel}
 use Rattle.models.specs.declared.families.GenomeModel.{GenomeModel}
-use Rattle.search.specs.Reporting.{columns_of, report_tests}
+use Rattle.search.specs.Reporting.{columns_of}
 use Rattle.search.specs.declared.reporting.Columns.{Columns}
 use Rattle.search.specs.declared.reporting.Found.{Found}
 use Rattle.search.proofs.ReportSaid.{report-refused, report-given, stands, column-left, lengths-left}
