@@ -8,7 +8,6 @@ use native.Mathlib.Omega.{arith}
 use lib.ListN.{length, get_or, drop}
 use borrow.Author.Rules.{rules}
 use Rattle.histogram.specs.declared.number.Taken.{Taken}
-use Rattle.histogram.specs.declared.number.Taken.TheVariants as Taken
 use Rattle.histogram.specs.Number.{between, found_by, number_from, number_at_of}
 use Rattle.histogram.proofs.Weights.{weight-suc}
 use Rattle.histogram.proofs.Takes.{tells}

@@ -4,7 +4,6 @@ use mathlib.Core.Path.{◌≡◌, sym, ◌∙◌, ap}
 use native.Mathlib.Omega.{arith}
 use borrow.Author.Rules.{rules}
 use Rattle.histogram.specs.declared.number.Taken.{Taken}
-use Rattle.histogram.specs.declared.number.Taken.TheVariants as Taken
 use Rattle.histogram.specs.Number.{between, with_group, take_byte_of}
 use Rattle.histogram.proofs.Weights.{weight-suc, weight-mono, ten-groups, group-fits}
 use Rattle.histogram.proofs.Takes as takes

@@ -3,7 +3,6 @@ use Prim.Native.Nat.{ℕ, ◌+◌, ◌^◌, ◌≤◌, ◌<◌}
 use mathlib.Core.Path.{◌≡◌, sym, ◌∙◌, ap}
 use mathlib.Core.Logic.{⊎_elim}
 use native.Mathlib.Omega.{arith}
-use borrow.Author.Rules.{rules}
 use Rattle.histogram.specs.declared.number.Taken.TheVariants as Taken
 use Rattle.histogram.specs.Number.{between, with_group, take_byte_of}
 use Rattle.histogram.proofs.Tests.{below_or}

@@ -3,7 +3,6 @@ use Prim.Native.Nat.{◌≤◌}
 use mathlib.Core.Path.{sym}
 use native.Mathlib.Omega.{arith}
 use lib.ListN.{get_or}
-use borrow.Author.Rules.{rules}
 use Rattle.histogram.proofs.Numbers.{one_byte}
 use Rattle.histogram.proofs.reader.bin_at.Goals as goal
 

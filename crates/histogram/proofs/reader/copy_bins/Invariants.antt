@@ -1,14 +1,8 @@
 -- `histogram::reader::copy_bins` meets its contract. Assumes nothing.
-use Prim.Native.Nat.{ℕ, ◌-◌, ◌≤◌}
-use mathlib.Core.Path.{◌≡◌, refl, sym, ◌∙◌, ap}
-use mathlib.Core.List.{List}
-use native.Mathlib.Numerals.{add-one}
-use native.Mathlib.Omega.{arith}
-use lib.ListN.{length, take, get_or, set, length-set}
-use lib.Seq.{take-suc, length-take-le}
-use borrow.Author.Rules.{rules}
+use Prim.Native.Nat.{◌-◌, ◌≤◌}
+use mathlib.Core.Path.{◌≡◌}
+use lib.ListN.{length, take}
 use Rattle.meaning.specs.Over.{over}
-use Rattle.meaning.proofs.Overs.{over_none, over-next}
 use Rattle.histogram.proofs.reader.copy_bins.Given as goal
 
 abbrev pub invariant-loop-k : goal.invariant-loop-k

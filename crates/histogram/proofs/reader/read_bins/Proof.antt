@@ -10,7 +10,6 @@ use lib.ListN.{length, take, set, length-set}
 use lib.Seq.{take-suc-set}
 use borrow.Author.Rules.{rules}
 use Rattle.histogram.specs.declared.number.Number.{Number}
-use Rattle.histogram.specs.declared.number.Number.TheVariants as Number
 use Rattle.histogram.specs.Number.{between, number_at_of, number_says}
 use Rattle.histogram.specs.File.{bins, read_from}
 use Rattle.histogram.proofs.Steps.{all_read, trailing}

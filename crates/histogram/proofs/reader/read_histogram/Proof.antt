@@ -7,7 +7,6 @@ use lib.ListN.{length}
 use borrow.Author.Rules.{rules}
 use Rattle.meaning.specs.Reply.{Reply}
 use Rattle.histogram.specs.declared.number.Number.{Number}
-use Rattle.histogram.specs.declared.number.Number.TheVariants as Number
 use Rattle.histogram.specs.File.{most_bins, count, bins as Bins, read_from, read_of}
 use Rattle.meaning.specs.Lent.{laid, counted}
 use Rattle.histogram.specs.Number.{between, number_at_of, number_says}
@@ -47,7 +46,7 @@ on m =
 returns-2 : tie.Need-returns-in_default-count
 unfolding most_bins
 returns-2 c =
-    let after-form : tie.In-Is-2 = search in
+    let after-form : tie.In-Is = search in
     let s : tie.Start = search in
     let m : tie.After-number_at-count = search in
     let a = s.args in
@@ -58,13 +57,13 @@ returns-2 c =
 abbrev start : tie.In-Is-count → tie.Start
 start c = search
 
-abbrev after-form : tie.In-Is-count → tie.In-Is-2
+abbrev after-form : tie.In-Is-count → tie.In-Is
 after-form c = search
 
 -- the bin count
 number : (m : tie.In-Is-count) →
     (let a = (start m).args in
-    number_at_of (between 2 most_bins) a.file.now (after-form m).form.given.0.1.0
+    number_at_of (between 2 most_bins) a.file.now (after-form m).in-Is.second
     ≡ number_says (Number.Is m.in-Is-count.n m.in-Is-count.first))
 unfolding most_bins
 number m =
@@ -74,7 +73,7 @@ number m =
 few : (m : tie.In-Is-count) → m.in-Is-count.n ≤ most_bins
 few m =
     let a = (start m).args in
-    count_fits a.file.now (after-form m).form.given.0.1.0 (record { value = m.in-Is-count.n; next = m.in-Is-count.first })
+    count_fits a.file.now (after-form m).in-Is.second (record { value = m.in-Is-count.n; next = m.in-Is-count.first })
     (number m)
 
 -- and what the file reads as behind it
@@ -84,7 +83,7 @@ behind : (m : tie.In-Is-count) →
 behind m =
     let after-known-told : tie.In-Is = search in
     let a = (start m).args in
-    on after-known-told ∙ count-read a.file.now (after-form m).form.given.0.1.0
+    on after-known-told ∙ count-read a.file.now (after-form m).in-Is.second
     (record { value = m.in-Is-count.n; next = m.in-Is-count.first }) (number m)
 
 returns-3 : tie.Need-returns-then-n

@@ -1,7 +1,6 @@
 -- `histogram::writer::write_histogram` meets its contract. Assumes nothing.
 use Prim.Native.Nat.{ℕ, ◌^◌, ◌≤◌, ◌<◌}
 use mathlib.Core.Path.{refl, ap}
-use mathlib.Core.Logic.{⊎_elim}
 use native.Mathlib.Omega.{arith}
 use lib.ListN.{length}
 use borrow.Author.Rules.{rules}
@@ -12,6 +11,7 @@ use Rattle.histogram.proofs.Sizes.{file-within}
 use Rattle.histogram.proofs.Refusals.{too_few, too_many, too_short, writes}
 use Rattle.histogram.proofs.writer.write_histogram.Statement.{statement}
 use Rattle.histogram.proofs.writer.write_histogram.Tie as tie
+use Rattle.histogram.proofs.writer.write_histogram.Lts.{then-out-bins+else-out-file_size, else-out-bins}
 
 returns : tie.Need-returns-then-bins-lt2
 returns c =
@@ -47,7 +47,10 @@ room c =
     let a = k.args in
     let b = below_each (2 ^ 32) a.bins.now (λ (i : ℕ) (h : i < length a.bins.now). (k.shared_slice_known-1.given i).fits) in
     let l = file-within a.bins.now c.if-bins-gt-MAX_FILE_BINS.false b in
-    ⊎_elim (λ w. rw w.1.ensures at w.2.left) (λ w. omega arith) c.if-out-bins.branch
+    elim c.if-out-bins.branch [
+      | then-out-bins+else-out-file_size w ↦ (rw w.file_size.ensures at w.if-out-file_size.false)
+      | else-out-bins w ↦ omega arith
+    ]
 
 put-file-requires : tie.Need-put_file-requires
 put-file-requires c κs = room c.before
