@@ -12,20 +12,15 @@ loop-k-init c = (omega arith, omega arith)
 
 pub returns-then-word-k-eq46 : goal.returns-then-word-k-eq46
 returns-then-word-k-eq46 c =
-    let i = c in
-    let l = i in
-    let e = ap length (found l.args.word.now l.loop-k.k i.loop-k-test.true c.if-word-k-eq46.true) in
+    let e = ap length (found c.args.word.now c.loop-k.k c.loop-k-test.true c.if-word-k-eq46.true) in
     omega arith
 
 pub loop-k-preserved : goal.loop-k-preserved
 loop-k-preserved c =
-    let i = c in
-    let l = i in
-    let e = ap length (passed l.args.word.now l.loop-k.k i.loop-k-test.true c.if-word-k-eq46.false) in
-    (omega arith, rw (add-one l.loop-k.k) (omega arith))
+    let e = ap length (passed c.args.word.now c.loop-k.k c.loop-k-test.true c.if-word-k-eq46.false) in
+    (omega arith, rw (add-one c.loop-k.k) (omega arith))
 
 pub returns : goal.returns
 returns c =
-    let l = c in
-    let e = ap length (not_found l.args.word.now l.loop-k.k c.loop-k-test.false) in
+    let e = ap length (not_found c.args.word.now c.loop-k.k c.loop-k-test.false) in
     omega arith

@@ -15,9 +15,8 @@ overflow_mul-power c = omega (arith, power_small c.loop-k.k 14 (omega arith))
 
 pub loop-k-preserved : goal.loop-k-preserved
 loop-k-preserved c =
-    let l = c in
-    let p = pow-suc 10 l.loop-k.k in
-    (omega arith, rw (add-one l.loop-k.k) (omega arith))
+    let p = pow-suc 10 c.loop-k.k in
+    (omega arith, rw (add-one c.loop-k.k) (omega arith))
 
 pub returns : goal.returns
-returns c = let l = c in l.loop-k.invariant.1 ∙ ap (λ k. 10 ^ k) (omega arith)
+returns c = c.loop-k.invariant.1 ∙ ap (λ k. 10 ^ k) (omega arith)

@@ -12,22 +12,18 @@ use Rattle.arguments.proofs.numbers.read_decimal.Goals as goal
 pub returns-then-point-word : goal.returns-then-point-word
 unfolding read_decimal_of
 returns-then-point-word c =
-    let t = c in
-    let p = t in
-    let word = p.args.word.now in
-    let k = p.point_at-point.result in
-    let e = p.point_at-point.ensures in
-    let whole = ap (λ (j : ℕ). take j word) (sub-zero k) ∙ front word k e t.if-point-word.true in
-    let places = rest word (k + 1) ∙ back word k e t.if-point-word.true in
+    let word = c.args.word.now in
+    let k = c.point_at-point.result in
+    let e = c.point_at-point.ensures in
+    let whole = ap (λ (j : ℕ). take j word) (sub-zero k) ∙ front word k e c.if-point-word.true in
+    let places = rest word (k + 1) ∙ back word k e c.if-point-word.true in
     c.quotient.ensures ∙ (λ i. quotient_of (whole i) (places i))
 
 pub returns : goal.returns
 unfolding read_decimal_of
 returns c =
-    let l = c in
-    let p = l in
-    let word = p.args.word.now in
-    let e = p.point_at-point.ensures in
+    let word = c.args.word.now in
+    let e = c.point_at-point.ensures in
     let h : length word ≤ length (before word) = omega arith in
     let no-point = plain word h in
     let places = rest word (length word) ∙ drop-length word ∙ sym no-point.1 in

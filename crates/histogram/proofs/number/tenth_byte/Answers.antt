@@ -27,26 +27,22 @@ returns-then-most-lt-TOP c = let a = c.args in sym (only_one a.least a.most a.va
 
 pub returns-then-byte-ne1 : goal.returns-then-byte-ne1
 returns-then-byte-ne1 c =
-    let s = c in
-    let a = s.args in sym (only_one a.least a.most a.value a.byte (omega arith)
+    let a = c.args in sym (only_one a.least a.most a.value a.byte (omega arith)
     (λ (e : a.byte ≡ 1). absurd (c.if-byte-ne1.true e)))
 
 pub returns-then-most-value-lt-TOP : goal.returns-then-most-value-lt-TOP
 returns-then-most-value-lt-TOP c =
-    let s = c in
-    let a = s.args in sym (only_one a.least a.most a.value a.byte (omega arith)
+    let a = c.args in sym (only_one a.least a.most a.value a.byte (omega arith)
     (λ (_ : a.byte ≡ 1). omega arith))
 
 -- ---- a 1
 pub returns-then-value-least : goal.returns-then-value-least
 returns-then-value-least c =
-    let s = c in
-    let a = s.args in sym (takes.below-range (between a.least a.most) a.value 9 a.byte (omega arith)
+    let a = c.args in sym (takes.below-range (between a.least a.most) a.value 9 a.byte (omega arith)
     (omega arith))
 
 pub returns : goal.returns
 returns c =
-    let s = c in
-    let a = s.args in
+    let a = c.args in
     let e : a.value + 2 ^ 63 ≡ with_group a.value 9 a.byte = omega arith in
     ap Taken.Whole e ∙ sym (takes.ends (between a.least a.most) a.value 9 a.byte (omega arith) (λ (z : a.byte ≡ 0) (_ : 0 < 9). omega arith) (omega arith) (omega arith))

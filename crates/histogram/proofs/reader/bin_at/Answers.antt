@@ -8,8 +8,6 @@ use Rattle.histogram.proofs.reader.bin_at.Goals as goal
 
 pub returns-then-byte-lt128 : goal.returns-then-byte-lt128
 returns-then-byte-lt128 c =
-    let s = c in
-    let o = c in
-    let a = s.args in
+    let a = c.args in
     let h : get_or a.file.now a.at 0 ≤ 4294967295 = omega arith in
-    sym (one_byte 4294967295 a.file.now a.at o.if-at-file.true c.if-byte-lt128.true h)
+    sym (one_byte 4294967295 a.file.now a.at c.if-at-file.true c.if-byte-lt128.true h)

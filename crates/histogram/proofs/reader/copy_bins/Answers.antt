@@ -34,20 +34,18 @@ loop-k-smaller c = omega arith
 
 pub loop-k-preserved : goal.loop-k-preserved
 loop-k-preserved c =
-    let l = c in
-    let a = l.args in
-    let k = l.loop-k.k in
+    let a = c.args in
+    let k = c.loop-k.k in
     let v = get_or a.held.now k 0 in (
       omega arith,
-      length-set l.loop-k.bins k v ∙ l.loop-k.invariant.1,
-      ap (λ (b : List ℕ). set b k v) l.loop-k.invariant.2
+      length-set c.loop-k.bins k v ∙ c.loop-k.invariant.1,
+      ap (λ (b : List ℕ). set b k v) c.loop-k.invariant.2
           ∙ over-next (take k a.held.now) a.bins.now k v (length-take-le k a.held.now (omega arith)) (omega arith)
           ∙ ap (λ (xs : List ℕ). over xs a.bins.now) (sym (take-suc a.held.now k 0 (omega arith)) ∙ ap (λ (j : ℕ). take j a.held.now) (sym (add-one k))),
     )
 
 pub returns : goal.returns
 returns c =
-    let l = c in
-    let a = l.args in
-    let e : l.loop-k.k ≡ a.n = omega arith in
-    l.loop-k.invariant.2 ∙ ap (λ (j : ℕ). over (take j a.held.now) a.bins.now) e
+    let a = c.args in
+    let e : c.loop-k.k ≡ a.n = omega arith in
+    c.loop-k.invariant.2 ∙ ap (λ (j : ℕ). over (take j a.held.now) a.bins.now) e

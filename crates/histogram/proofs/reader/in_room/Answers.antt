@@ -13,21 +13,17 @@ enum_told-1 c = search rules
 
 pub returns-then-room-n : goal.returns-then-room-n
 returns-then-room-n c =
-    let after_read = c in
-    let s = c in
-    rw after_read.in-Bins.is record {
+    rw c.in-Bins.is record {
       result_bound = zero-le;
-      by_index = λ (held : List ℕ) (h : after_read.in-Bins.n ≤ length held). sym (no_room s.args.room after_read.in-Bins.n held h
+      by_index = λ (held : List ℕ) (h : c.in-Bins.n ≤ length held). sym (no_room c.args.room c.in-Bins.n held h
           c.if-room-n.true);
     }
 
 pub returns-else-room-n : goal.returns-else-room-n
 returns-else-room-n c =
-    let after_read = c in
-    let s = c in
-    rw after_read.in-Bins.is record {
-      result_bound = le_refl after_read.in-Bins.n;
-      by_index = λ (held : List ℕ) (h : after_read.in-Bins.n ≤ length held). sym (has_room s.args.room after_read.in-Bins.n
+    rw c.in-Bins.is record {
+      result_bound = le_refl c.in-Bins.n;
+      by_index = λ (held : List ℕ) (h : c.in-Bins.n ≤ length held). sym (has_room c.args.room c.in-Bins.n
           held h c.if-room-n.false);
     }
 

@@ -11,14 +11,13 @@ loop-left-init c = refl
 
 pub overflow_add-size : goal.overflow_add-size
 overflow_add-size c =
-    let s = c in
-    omega (arith, twenty s.args.n s.well_formed.0.1)
+    omega (arith, twenty c.args.n c.well_formed.0.1)
 
 pub loop-left-smaller : goal.loop-left-smaller
 loop-left-smaller c = omega arith
 
 pub loop-left-preserved : goal.loop-left-preserved
-loop-left-preserved c = let l = c in let e = longer l.loop-left.left c.loop-left-test.true in omega arith
+loop-left-preserved c = let e = longer c.loop-left.left c.loop-left-test.true in omega arith
 
 pub returns : goal.returns
-returns c = let l = c in let e = ap length (digits-one l.loop-left.left c.loop-left-test.false) in omega arith
+returns c = let e = ap length (digits-one c.loop-left.left c.loop-left-test.false) in omega arith

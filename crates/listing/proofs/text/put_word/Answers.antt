@@ -14,7 +14,7 @@ pub loop-k-init : goal.loop-k-init
 loop-k-init c = (omega arith, begins _ _)
 
 pub bounds-out-k : goal.bounds-out-k
-bounds-out-k c = let l = c in omega (arith, l.loop-k.invariant.1.same, l.requires)
+bounds-out-k c = omega (arith, c.loop-k.invariant.1.same, c.requires)
 
 pub overflow_add-k : goal.overflow_add-k
 overflow_add-k c = omega arith
@@ -24,13 +24,11 @@ loop-k-smaller c = omega arith
 
 pub loop-k-preserved : goal.loop-k-preserved
 loop-k-preserved c =
-    let s = c in
-    let l = c in
-    let a = s.args in
-    let k = l.loop-k.k in
-    let p = subst (λ (rest : List ℕ). Putting a.word.now a.out.now l.loop-k.out rest k) (drop-cons a.word.now k 0 c.loop-k-test.true) l.loop-k.invariant.1 in
-    let q = puts a.word.now a.out.now l.loop-k.out k (get_or a.word.now k 0) (drop (suc k) a.word.now) p
-    s.requires in
+    let a = c.args in
+    let k = c.loop-k.k in
+    let p = subst (λ (rest : List ℕ). Putting a.word.now a.out.now c.loop-k.out rest k) (drop-cons a.word.now k 0 c.loop-k-test.true) c.loop-k.invariant.1 in
+    let q = puts a.word.now a.out.now c.loop-k.out k (get_or a.word.now k 0) (drop (suc k) a.word.now) p
+    c.requires in
     (omega arith, rw (add-one k) (rw (add-one k) at q))
 
 pub shape_of-out : goal.shape_of-out
@@ -38,7 +36,6 @@ shape_of-out c = c.loop-k.invariant.1.same
 
 pub returns : goal.returns
 returns c =
-    let l = c in
-    let a = l.args in
-    let p = subst (λ (rest : List ℕ). Putting a.word.now a.out.now l.loop-k.out rest l.loop-k.k) (drop_of_length-le a.word.now c.loop-k-test.false) l.loop-k.invariant.1 in
-    ends a.word.now a.out.now l.loop-k.out l.loop-k.k p
+    let a = c.args in
+    let p = subst (λ (rest : List ℕ). Putting a.word.now a.out.now c.loop-k.out rest c.loop-k.k) (drop_of_length-le a.word.now c.loop-k-test.false) c.loop-k.invariant.1 in
+    ends a.word.now a.out.now c.loop-k.out c.loop-k.k p

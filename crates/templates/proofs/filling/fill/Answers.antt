@@ -27,14 +27,12 @@ loop-k-smaller c = omega arith
 
 pub loop-k-preserved : goal.loop-k-preserved
 loop-k-preserved c =
-    let q = c in
-    let l = q in
-    let a = l.args in
-    let k = l.loop-k.k in
+    let a = c.args in
+    let k = c.loop-k.k in
     let b = get_or a.template.now k 0 in
     let rest = drop (suc k) a.template.now in
-    let p = subst (λ (r : List ℕ). ToCome a.at a.template.now a.values.now a.out.now l.loop-k.end l.loop-k.s r l.loop-k.out) (drop-cons a.template.now k 0 q.loop-k-test.true) l.loop-k.invariant.1 in
-    let n = goes_by _ _ _ l.loop-k.end l.loop-k.out _ _ _ _ (rw (text-more a.values.now l.loop-k.s b rest) at p) (q.put_shown-end.ensures.value, q.put_shown-end.ensures.out_after) in
+    let p = subst (λ (r : List ℕ). ToCome a.at a.template.now a.values.now a.out.now c.loop-k.end c.loop-k.s r c.loop-k.out) (drop-cons a.template.now k 0 c.loop-k-test.true) c.loop-k.invariant.1 in
+    let n = goes_by _ _ _ c.loop-k.end c.loop-k.out _ _ _ _ (rw (text-more a.values.now c.loop-k.s b rest) at p) (c.put_shown-end.ensures.value, c.put_shown-end.ensures.out_after) in
     (omega arith, rw (add-one k, c.state_after-s.ensures) n)
 
 pub shape_of-out : goal.shape_of-out
@@ -42,8 +40,7 @@ shape_of-out c = c.loop-k.invariant.1.same
 
 pub returns : goal.returns
 returns c =
-    let l = c in
-    let a = l.args in
-    let p = subst (λ (rest : List ℕ). ToCome a.at a.template.now a.values.now a.out.now l.loop-k.end l.loop-k.s rest l.loop-k.out) (drop_of_length-le a.template.now c.loop-k-test.false) l.loop-k.invariant.1 in
-    let r = ends _ _ _ l.loop-k.end l.loop-k.out (rw (text-none a.values.now l.loop-k.s) at p) in
+    let a = c.args in
+    let p = subst (λ (rest : List ℕ). ToCome a.at a.template.now a.values.now a.out.now c.loop-k.end c.loop-k.s rest c.loop-k.out) (drop_of_length-le a.template.now c.loop-k-test.false) c.loop-k.invariant.1 in
+    let r = ends _ _ _ c.loop-k.end c.loop-k.out (rw (text-none a.values.now c.loop-k.s) at p) in
     record { value = r.0; out_after = r.1 }

@@ -11,21 +11,17 @@ returns-then-c-eq35 c =
 
 pub returns-then-c-eq126 : goal.returns-then-c-eq126
 returns-then-c-eq126 c =
-    let float = c in
-    let r = put_same _ _ _ _ _ _ (sym (piece-float _ _ float.if-c-eq35.false float.if-c-eq126.true)) (c.put_float.ensures.value, c.put_float.ensures.out_after) in
+    let r = put_same _ _ _ _ _ _ (sym (piece-float _ _ c.if-c-eq35.false c.if-c-eq126.true)) (c.put_float.ensures.value, c.put_float.ensures.out_after) in
     record { value = r.0; out_after = r.1 }
 
 pub returns-then-is_bracket : goal.returns-then-is_bracket
 returns-then-is_bracket c =
-    let bracket = c in
-    let none = piece-bracket _ _ bracket.if-c-eq35.false bracket.if-c-eq126.false (sym bracket.is_bracket.ensures ∙ c.if-is_bracket.true) in
+    let none = piece-bracket _ _ c.if-c-eq35.false c.if-c-eq126.false (sym c.is_bracket.ensures ∙ c.if-is_bracket.true) in
     let r = put_same _ _ _ _ _ _ (sym none) (no_text _ _) in
     record { value = r.0; out_after = r.1 }
 
 pub returns : goal.returns
 returns c =
-    let other = c in
-    let bracket = other in
-    let byte = piece_byte _ _ bracket.if-c-eq35.false bracket.if-c-eq126.false (sym bracket.is_bracket.ensures ∙ other.if-is_bracket.false) in
+    let byte = piece_byte _ _ c.if-c-eq35.false c.if-c-eq126.false (sym c.is_bracket.ensures ∙ c.if-is_bracket.false) in
     let r = put_same _ _ _ _ _ _ (sym byte) (c.put_text.ensures.value, c.put_text.ensures.out_after) in
     record { value = r.0; out_after = r.1 }

@@ -12,7 +12,5 @@ returns-then-s-ne0 c =
 
 pub returns : goal.returns
 returns c =
-    let v = c in
-    let s = v in
-    let r = put_same _ _ _ _ _ _ (ap (piece_of s.args.c) v.value_at.ensures ∙ sym (shown _ _ _ v.if-s-ne0.false)) (c.put_piece.ensures.value, c.put_piece.ensures.out_after) in
+    let r = put_same _ _ _ _ _ _ (ap (piece_of c.args.c) c.value_at.ensures ∙ sym (shown _ _ _ c.if-s-ne0.false)) (c.put_piece.ensures.value, c.put_piece.ensures.out_after) in
     record { value = r.0; out_after = r.1 }

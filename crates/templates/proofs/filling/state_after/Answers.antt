@@ -19,11 +19,9 @@ returns-then-c-eq125 c = rw (ne_eqb _ _ c.if-c-eq123.false, ne_eqb _ _ c.if-c-eq
 pub returns-then-takes_value : goal.returns-then-takes_value
 unfolding after
 returns-then-takes_value c =
-    let t = c in
-    rw (ne_eqb _ _ t.if-c-eq123.false, ne_eqb _ _ t.if-c-eq124.false, ne_eqb _ _ t.if-c-eq125.false, sym t.takes_value.ensures ∙ c.if-takes_value.true, c.next_place-then-takes_value.ensures)
+    rw (ne_eqb _ _ c.if-c-eq123.false, ne_eqb _ _ c.if-c-eq124.false, ne_eqb _ _ c.if-c-eq125.false, sym c.takes_value.ensures ∙ c.if-takes_value.true, c.next_place-then-takes_value.ensures)
 
 pub returns : goal.returns
 unfolding after
 returns c =
-    let t = c in
-    rw (ne_eqb _ _ t.if-c-eq123.false, ne_eqb _ _ t.if-c-eq124.false, ne_eqb _ _ t.if-c-eq125.false, sym t.takes_value.ensures ∙ c.if-takes_value.false)
+    rw (ne_eqb _ _ c.if-c-eq123.false, ne_eqb _ _ c.if-c-eq124.false, ne_eqb _ _ c.if-c-eq125.false, sym c.takes_value.ensures ∙ c.if-takes_value.false)

@@ -9,6 +9,5 @@ returns-then-rest c =
 
 pub returns : goal.returns
 returns c =
-    let r = c in
-    let r = kept _ _ _ r.floor-whole.ensures r.round-rest.ensures c.if-rest.false _ _ c.to_u64-2.ensures c.to_u64-3.ensures in
-    record { whole_value = r.0; millionths_value = r.1 }
+    let c = kept _ _ _ c.floor-whole.ensures c.round-rest.ensures c.if-rest.false _ _ c.to_u64-2.ensures c.to_u64-3.ensures in
+    record { whole_value = c.0; millionths_value = c.1 }

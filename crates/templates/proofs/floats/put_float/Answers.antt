@@ -11,14 +11,11 @@ use Rattle.templates.proofs.floats.put_float.Goals as goal
 pub returns : goal.returns
 unfolding float_of
 returns c =
-    let space = c in
-    let pattern = space in
-    let h = pattern in
-    let bits = h.args.bits in
+    let bits = c.args.bits in
     let r = joined _ _ _ _ _ _ _ _
     (put_same _ _ _ _ _ _
-    (h.hex-n.ensures.digits ∙ ap (λ (k : ℕ). last_digits 16 k bits) (sixteen _ bits (search rules) h.hex-n.ensures.len))
-    (pattern.put_text-space.ensures.value, pattern.put_text-space.ensures.out_after))
-    (joined _ _ _ _ _ _ _ _ (space.put_text-behind.ensures.value, space.put_text-behind.ensures.out_after)
+    (c.hex-n.ensures.digits ∙ ap (λ (k : ℕ). last_digits 16 k bits) (sixteen _ bits (search rules) c.hex-n.ensures.len))
+    (c.put_text-space.ensures.value, c.put_text-space.ensures.out_after))
+    (joined _ _ _ _ _ _ _ _ (c.put_text-behind.ensures.value, c.put_text-behind.ensures.out_after)
     (put_same _ _ _ _ _ _ (ap eyes_of c.float.ensures) (c.put_eyes.ensures.value, c.put_eyes.ensures.out_after))) in
     record { value = r.0; out_after = r.1 }

@@ -8,12 +8,9 @@ use Rattle.templates.proofs.floats.put_places.Goals as goal
 pub returns : goal.returns
 unfolding places_of
 returns c =
-    let six = c in
-    let point = six in
-    let whole = point in
-    let p = whole.parts_of-p.ensures in
+    let p = c.parts_of-p.ensures in
     let r = joined _ _ _ _ _ _ _ _
-    (put_same _ _ _ _ _ _ (ap decimal_of p.whole_value) (whole.put_decimal-point.ensures.value, whole.put_decimal-point.ensures.out_after))
-    (joined _ _ _ _ _ _ _ _ (point.put_text-behind.ensures.value, point.put_text-behind.ensures.out_after)
-    (put_same _ _ _ _ _ _ (six.six-tail.ensures ∙ ap six_of p.millionths_value) (c.put_text.ensures.value, c.put_text.ensures.out_after))) in
+    (put_same _ _ _ _ _ _ (ap decimal_of p.whole_value) (c.put_decimal-point.ensures.value, c.put_decimal-point.ensures.out_after))
+    (joined _ _ _ _ _ _ _ _ (c.put_text-behind.ensures.value, c.put_text-behind.ensures.out_after)
+    (put_same _ _ _ _ _ _ (c.six-tail.ensures ∙ ap six_of p.millionths_value) (c.put_text.ensures.value, c.put_text.ensures.out_after))) in
     record { value = r.0; out_after = r.1 }

@@ -17,8 +17,7 @@ shape_of-out-then-end-out c = c.loop-k.invariant.1.same
 
 pub returns-then-end-out : goal.returns-then-end-out
 returns-then-end-out c =
-    let l = c in
-    let r = fills _ _ _ l.loop-k.end l.loop-k.out _ c.if-end-out.true l.loop-k.invariant.1 in
+    let r = fills _ _ _ c.loop-k.end c.loop-k.out _ c.if-end-out.true c.loop-k.invariant.1 in
     record { value = r.0; out_after = r.1 }
 
 pub bounds-text-k : goal.bounds-text-k
@@ -38,20 +37,18 @@ loop-k-smaller c = omega arith
 
 pub loop-k-preserved : goal.loop-k-preserved
 loop-k-preserved c =
-    let l = c in
-    let a = l.args in
-    let k = l.loop-k.k in
-    let p = subst (λ (rest : List ℕ). Putting a.at a.text.now a.out.now l.loop-k.end rest l.loop-k.out) (drop-cons a.text.now k 0 c.loop-k-test.true) l.loop-k.invariant.1 in
-    let q = goes_on _ _ _ l.loop-k.end l.loop-k.out (get_or a.text.now k 0) (drop (suc k) a.text.now) (omega arith) p in
-    (omega arith, rw (add-one k, add-one l.loop-k.end) q)
+    let a = c.args in
+    let k = c.loop-k.k in
+    let p = subst (λ (rest : List ℕ). Putting a.at a.text.now a.out.now c.loop-k.end rest c.loop-k.out) (drop-cons a.text.now k 0 c.loop-k-test.true) c.loop-k.invariant.1 in
+    let q = goes_on _ _ _ c.loop-k.end c.loop-k.out (get_or a.text.now k 0) (drop (suc k) a.text.now) (omega arith) p in
+    (omega arith, rw (add-one k, add-one c.loop-k.end) q)
 
 pub shape_of-out : goal.shape_of-out
 shape_of-out c = c.loop-k.invariant.1.same
 
 pub returns : goal.returns
 returns c =
-    let l = c in
-    let a = l.args in
-    let r = ends _ _ _ l.loop-k.end l.loop-k.out
-    (subst (λ (rest : List ℕ). Putting a.at a.text.now a.out.now l.loop-k.end rest l.loop-k.out) (drop_of_length-le a.text.now c.loop-k-test.false) l.loop-k.invariant.1) in
+    let a = c.args in
+    let r = ends _ _ _ c.loop-k.end c.loop-k.out
+    (subst (λ (rest : List ℕ). Putting a.at a.text.now a.out.now c.loop-k.end rest c.loop-k.out) (drop_of_length-le a.text.now c.loop-k-test.false) c.loop-k.invariant.1) in
     record { value = r.0; out_after = r.1 }
