@@ -25,122 +25,122 @@ fn list(file: &[u8], text: &mut [u8]) -> Written {
     }
 }
 
-fn listing_of(file: &[u8]) {
+fn listing_of<R: Print>(rt: &R, file: &[u8]) {
     let mut text = [0u8; LONGEST_LISTING];
     let written = list(file, &mut text);
     match written {
-        Written::Items(n) => show::text(&text, n),
-        Written::Refused(number) => show::refused(number),
+        Written::Items(n) => show::text(rt, &text, n),
+        Written::Refused(number) => show::refused(rt, number),
     }
 }
 
-fn file(bytes: &[u8]) {
-    show::bytes(b"file", bytes);
-    listing_of(bytes);
+fn file<R: Print>(rt: &R, bytes: &[u8]) {
+    show::bytes(rt, b"file", bytes);
+    listing_of(rt, bytes);
 }
 
 // The first number, the form.
-fn forms() {
-    file(b"");
-    file(b"\x00");
-    file(b"\x02");
-    file(b"\x81");
-    file(b"\x81\x00");
-    file(b"\x01");
+fn forms<R: Print>(rt: &R) {
+    file(rt, b"");
+    file(rt, b"\x00");
+    file(rt, b"\x02");
+    file(rt, b"\x81");
+    file(rt, b"\x81\x00");
+    file(rt, b"\x01");
 }
 
 // The second, the bin count: 0, 1, 2 and 2,048.
-fn counts() {
-    file(b"\x01\x80");
-    file(b"\x01\x00");
-    file(b"\x01\x01\x00");
-    file(b"\x01\x82\x00\x00\x00");
-    file(b"\x01\x02\x00\x00");
-    file(b"\x01\x80\x10");
-    file(b"\x01\x80\x80\x01");
+fn counts<R: Print>(rt: &R) {
+    file(rt, b"\x01\x80");
+    file(rt, b"\x01\x00");
+    file(rt, b"\x01\x01\x00");
+    file(rt, b"\x01\x82\x00\x00\x00");
+    file(rt, b"\x01\x02\x00\x00");
+    file(rt, b"\x01\x80\x10");
+    file(rt, b"\x01\x80\x80\x01");
 }
 
 // The bins: missing, cut short, too long.
-fn bins() {
-    file(b"\x01\x03\xAC\x02\x00\x05");
-    file(b"\x01\x02");
-    file(b"\x01\x02\x05");
-    file(b"\x01\x02\x05\x80");
-    file(b"\x01\x02\x80\x00\x00");
-    file(b"\x01\x02\x05\x80\x00");
+fn bins<R: Print>(rt: &R) {
+    file(rt, b"\x01\x03\xAC\x02\x00\x05");
+    file(rt, b"\x01\x02");
+    file(rt, b"\x01\x02\x05");
+    file(rt, b"\x01\x02\x05\x80");
+    file(rt, b"\x01\x02\x80\x00\x00");
+    file(rt, b"\x01\x02\x05\x80\x00");
 }
 
 // The largest bin and one above it, and bytes behind the last.
-fn largest() {
-    file(b"\x01\x02\xFF\xFF\xFF\xFF\x0F\x00");
-    file(b"\x01\x02\x00\xFF\xFF\xFF\xFF\x0F");
-    file(b"\x01\x02\x80\x80\x80\x80\x10\x00");
-    file(b"\x01\x02\x00\x80\x80\x80\x80\x10");
-    file(b"\x01\x02\x00\x80\x80\x80\x80\x00");
-    file(b"\x01\x02\x00\x80\x80\x80\x80\x80\x01");
-    file(b"\x01\x02\x00\x00\x00");
-    file(b"\x01\x02\x00\x00\x80");
+fn largest<R: Print>(rt: &R) {
+    file(rt, b"\x01\x02\xFF\xFF\xFF\xFF\x0F\x00");
+    file(rt, b"\x01\x02\x00\xFF\xFF\xFF\xFF\x0F");
+    file(rt, b"\x01\x02\x80\x80\x80\x80\x10\x00");
+    file(rt, b"\x01\x02\x00\x80\x80\x80\x80\x10");
+    file(rt, b"\x01\x02\x00\x80\x80\x80\x80\x00");
+    file(rt, b"\x01\x02\x00\x80\x80\x80\x80\x80\x01");
+    file(rt, b"\x01\x02\x00\x00\x00");
+    file(rt, b"\x01\x02\x00\x00\x80");
 }
 
-fn first(file: &[u8], n: usize) {
-    show::number(b"file, first bytes", n as u64);
+fn first<R: Print>(rt: &R, file: &[u8], n: usize) {
+    show::number(rt, b"file, first bytes", n as u64);
     if n < file.len() {
-        listing_of(&file[..n]);
+        listing_of(rt, &file[..n]);
     } else {
-        listing_of(file);
+        listing_of(rt, file);
     }
 }
 
 // 2,047 bins as the writer writes them, of so many bytes; then one byte fewer and one more.
-fn most(value: u32, size: usize) {
+fn most<R: Print>(rt: &R, value: u32, size: usize) {
     let bins = [value; MAX_FILE_BINS];
     let mut file = [0u8; ENOUGH];
     let written = write_histogram(&bins, &mut file);
-    show::written(b"write 2047 bins of", value as u64, written);
-    first(&file, size);
+    show::written(rt, b"write 2047 bins of", value as u64, written);
+    first(rt, &file, size);
     if size > 0 {
-        first(&file, size - 1);
+        first(rt, &file, size - 1);
     }
     if size < ENOUGH {
-        first(&file, size + 1);
+        first(rt, &file, size + 1);
     }
 }
 
-fn write(bins: &[u32], out: &mut [u8]) {
+fn write<R: Print>(rt: &R, bins: &[u32], out: &mut [u8]) {
     let written = write_histogram(bins, out);
-    show::written(b"write zero bins", bins.len() as u64, written);
+    show::written(rt, b"write zero bins", bins.len() as u64, written);
 }
 
 // The bin counts beside the writer's limits, and one byte too few.
-fn writing() {
+fn writing<R: Print>(rt: &R) {
     let mut out = [0u8; ENOUGH];
-    write(&[0u32; 1], &mut out);
-    write(&[0u32; 2], &mut out);
-    write(&[0u32; 2047], &mut out);
-    write(&[0u32; 2048], &mut out);
+    write(rt, &[0u32; 1], &mut out);
+    write(rt, &[0u32; 2], &mut out);
+    write(rt, &[0u32; 2047], &mut out);
+    write(rt, &[0u32; 2048], &mut out);
     let mut three = [0u8; 3];
-    write(&[0u32; 2], &mut three);
+    write(rt, &[0u32; 2], &mut three);
 }
 
-fn read(bins: &mut [u32]) {
+fn read<R: Print>(rt: &R, bins: &mut [u32]) {
     let read = read_histogram(b"\x01\x02\x05\x06", bins);
-    show::read(b"read 2 bins into", bins.len() as u64, read);
+    show::read(rt, b"read 2 bins into", bins.len() as u64, read);
 }
 
-fn reading() {
+fn reading<R: Print>(rt: &R) {
     let mut one = [0u32; 1];
     let mut two = [0u32; 2];
-    read(&mut one);
-    read(&mut two);
+    read(rt, &mut one);
+    read(rt, &mut two);
 }
 
-pub(crate) fn all() {
-    forms();
-    counts();
-    bins();
-    largest();
-    most(0, 2050);
-    most(4294967295, 10238);
-    writing();
-    reading();
+pub(crate) fn all<R: Print>(rt: &R) {
+    forms(rt);
+    counts(rt);
+    bins(rt);
+    largest(rt);
+    most(rt, 0, 2050);
+    most(rt, 4294967295, 10238);
+    writing(rt);
+    reading(rt);
 }

@@ -7,9 +7,9 @@ mod four;
 mod show;
 mod whole;
 
-fn main() {
-    whole::all();
-    four::all();
-    costs::all();
-    files::all();
+fn main(rt: HostRuntime) {
+    whole::all(&rt);
+    four::all(&rt);
+    costs::all(&rt);
+    files::all(&rt);
 }

@@ -1,114 +1,121 @@
 // A line for a case: the call's name, its arguments and its answer, floats as 16 hexadecimal digits of their bits.
 use histogram::reader::FileRead;
-use libc::STDOUT_FILENO;
 use meaning::answers::Written;
 
-pub(crate) fn bits(x: f64) {
+// A failed write is seen by whoever compares what was written.
+fn put<R: Print>(rt: &R, text: &[u8]) {
+    let _ = rt.write_all(text);
+}
+
+fn decimal<R: Print>(rt: &R, n: u64) {
+    let _ = print!(rt; "{n}");
+}
+
+pub(crate) fn bits<R: Print>(rt: &R, x: f64) {
     if x != x {
-        io::write_all(STDOUT_FILENO, b"nan");
+        put(rt, b"nan");
     } else {
-        io::print_hex(STDOUT_FILENO, f64::to_bits(x), 16);
+        let pattern = f64::to_bits(x);
+        let _ = print!(rt; "{pattern:016x}");
     }
 }
 
-fn space() {
-    io::write_all(STDOUT_FILENO, b" ");
+fn space<R: Print>(rt: &R) {
+    put(rt, b" ");
 }
 
-fn end() {
-    io::write_all(STDOUT_FILENO, b"\n");
+fn end<R: Print>(rt: &R) {
+    put(rt, b"\n");
 }
 
-pub(crate) fn one(text: &[u8], x: f64, answer: f64) {
-    name(text);
-    bits(x);
-    space();
-    value(answer);
+pub(crate) fn one<R: Print>(rt: &R, text: &[u8], x: f64, answer: f64) {
+    name(rt, text);
+    bits(rt, x);
+    space(rt);
+    value(rt, answer);
 }
 
-pub(crate) fn two(text: &[u8], a: f64, b: f64, answer: f64) {
-    name(text);
-    bits(a);
-    space();
-    bits(b);
-    space();
-    value(answer);
+pub(crate) fn two<R: Print>(rt: &R, text: &[u8], a: f64, b: f64, answer: f64) {
+    name(rt, text);
+    bits(rt, a);
+    space(rt);
+    bits(rt, b);
+    space(rt);
+    value(rt, answer);
 }
 
-pub(crate) fn cast(text: &[u8], x: f64, answer: u64) {
-    name(text);
-    bits(x);
-    space();
-    io::print_decimal(STDOUT_FILENO, answer);
-    end();
+pub(crate) fn cast<R: Print>(rt: &R, text: &[u8], x: f64, answer: u64) {
+    name(rt, text);
+    bits(rt, x);
+    space(rt);
+    decimal(rt, answer);
+    end(rt);
 }
 
-pub(crate) fn name(text: &[u8]) {
-    io::write_all(STDOUT_FILENO, text);
-    space();
+pub(crate) fn name<R: Print>(rt: &R, text: &[u8]) {
+    put(rt, text);
+    space(rt);
 }
 
 // A name that ends in a number.
-pub(crate) fn label(text: &[u8], n: u64) {
-    name(text);
-    io::print_decimal(STDOUT_FILENO, n);
-    space();
+pub(crate) fn label<R: Print>(rt: &R, text: &[u8], n: u64) {
+    name(rt, text);
+    decimal(rt, n);
+    space(rt);
 }
 
-pub(crate) fn number(text: &[u8], n: u64) {
-    name(text);
-    io::print_decimal(STDOUT_FILENO, n);
-    end();
+pub(crate) fn number<R: Print>(rt: &R, text: &[u8], n: u64) {
+    name(rt, text);
+    decimal(rt, n);
+    end(rt);
 }
 
-pub(crate) fn value(x: f64) {
-    bits(x);
-    end();
+pub(crate) fn value<R: Print>(rt: &R, x: f64) {
+    bits(rt, x);
+    end(rt);
 }
 
-pub(crate) fn refused(n: u8) {
-    number(b"refused", n as u64);
+pub(crate) fn refused<R: Print>(rt: &R, n: u8) {
+    number(rt, b"refused", n as u64);
 }
 
-fn byte(b: u8) {
-    space();
-    io::print_hex(STDOUT_FILENO, b as u64, 2);
+fn byte<R: Print>(rt: &R, b: u8) {
+    space(rt);
+    let _ = print!(rt; "{b:02x}");
 }
 
-pub(crate) fn bytes(text: &[u8], bytes: &[u8]) {
-    io::write_all(STDOUT_FILENO, text);
-    let mut k = 0;
-    while k < bytes.len() {
-        byte(bytes[k]);
-        k += 1;
+pub(crate) fn bytes<R: Print>(rt: &R, text: &[u8], bytes: &[u8]) {
+    put(rt, text);
+    for b in bytes {
+        byte(rt, *b);
     }
-    end();
+    end(rt);
 }
 
 // The first n bytes of a text; of a long one, how many there are.
-pub(crate) fn text(text: &[u8], n: usize) {
+pub(crate) fn text<R: Print>(rt: &R, text: &[u8], n: usize) {
     if n >= 64 {
-        number(b"listed in bytes", n as u64);
+        number(rt, b"listed in bytes", n as u64);
         return;
     }
     if n < text.len() {
-        io::write_all(STDOUT_FILENO, &text[..n]);
+        put(rt, &text[..n]);
     }
 }
 
-pub(crate) fn written(text: &[u8], n: u64, answer: Written) {
-    label(text, n);
+pub(crate) fn written<R: Print>(rt: &R, text: &[u8], n: u64, answer: Written) {
+    label(rt, text, n);
     match answer {
-        Written::Items(size) => number(b"bytes", size as u64),
-        Written::Refused(k) => refused(k),
+        Written::Items(size) => number(rt, b"bytes", size as u64),
+        Written::Refused(k) => refused(rt, k),
     }
 }
 
-pub(crate) fn read(text: &[u8], n: u64, answer: FileRead) {
-    label(text, n);
+pub(crate) fn read<R: Print>(rt: &R, text: &[u8], n: u64, answer: FileRead) {
+    label(rt, text, n);
     match answer {
-        FileRead::Bins(size) => number(b"bins", size as u64),
-        FileRead::Broken(place) => number(b"refused 3 at", place as u64),
-        FileRead::Refused(k) => refused(k),
+        FileRead::Bins(size) => number(rt, b"bins", size as u64),
+        FileRead::Broken(place) => number(rt, b"refused 3 at", place as u64),
+        FileRead::Refused(k) => refused(rt, k),
     }
 }

@@ -8,7 +8,7 @@ use lib.Dec.{ltb}
 use lib.ListN.{length, take, drop}
 use lib.Seq.{take_at, length-take-le}
 use borrow.Author.Tests.{le-ltb}
-use Rattle.io.specs.Counts.{IsPrefixLen}
+use Rattle.std.specs.Counts.{IsPrefixLen}
 use Rattle.meaning.specs.Reply.{Reply, refuse, broken, give, unless}
 use Rattle.meaning.proofs.Replies.{same_answer, same_place, answer-not-refused, answer-not-broken, refused-not-broken}
 use Rattle.meaning.specs.declared.answers.Written.{Written}

@@ -4,18 +4,20 @@
 mod status;
 
 ghost use Rattle.std.specs.Prelude.{◌≡◌, ◌+◌, ◌≤◌, length, take};
-ghost use Rattle.io.specs.Counts.{IsPrefixLen};
+ghost use Rattle.std.specs.Counts.{IsPrefixLen};
 ghost use Rattle.histogram.specs.Claims.{longest_file};
 ghost use Rattle.listing.specs.Listing.{list_of, longest_listing};
 ghost use Rattle.list.specs.Items.{items_of};
 
 use histogram::reader::{FileRead, LONGEST_FILE, MAX_FILE_BINS, read_histogram};
-use libc::{STDERR_FILENO, STDOUT_FILENO};
 use listing::text::{LONGEST_LISTING, list_histogram, list_refusal};
 use meaning::answers::Written;
-use status::{asks_status, tell};
+use status::{asks_status, has_word, tell};
+use std::io;
+use std::rt::Runtime;
+use streams::failure::fail;
 use streams::input::{Input, read_input};
-use streams::output::write_output;
+use streams::output::{settle_output, write_output};
 
 // One byte more than the longest accepted file has.
 const ENOUGH: usize = LONGEST_FILE + 1;
@@ -51,33 +53,39 @@ fn list(file: &[u8], text: &mut [u8]) -> usize
     }
 }
 
-// Writes a file's listing, and closes standard output, since some disks tell of a failed write only then.
-fn show(file: &[u8], status: bool) {
+// Writes a file's listing, and waits for the disk, since some disks tell of a failed write only then.
+fn show<R: Runtime>(rt: &R, file: &[u8], status: bool) {
     let mut text = [0u8; LONGEST_LISTING];
     let size = list(file, &mut text);
-    if write_output(&text[..size]) && libc::close(STDOUT_FILENO) == 0 {
-        if status {
-            // `bins` or `refused`
-            tell(text[0] == b'b');
+    match put(rt, &text[..size]) {
+        Ok(()) => {
+            if status {
+                // `bins` or `refused`
+                tell(rt, text[0] == b'b');
+            }
         }
-    } else {
-        os::fail(b"list: writing");
+        Err(e) => fail(rt, "list: writing", e),
     }
 }
 
-fn main() {
-    let status = asks_status();
-    if os::arg_count() > 1 && !status {
-        io::write_all(
-            STDERR_FILENO,
-            b"list: it takes no arguments and reads standard input; fogatise list takes a FILE\n",
+fn put<R: Runtime>(rt: &R, bytes: &[u8]) -> io::Result<()> {
+    write_output(&mut io::writer(rt), bytes)?;
+    settle_output(rt)
+}
+
+fn main(rt: HostRuntime) {
+    let status = asks_status(&rt);
+    if has_word(&rt, 1) && !status {
+        // Where standard error takes nothing, there is nobody to tell.
+        let _ = eprintln!(rt;
+            "list: it takes no arguments and reads standard input; fogatise list takes a FILE"
         );
         return;
     }
     let mut file = first_bytes();
-    let input = read_input(&mut file);
+    let input = read_input(&mut rt.stdin(), &mut file);
     match input {
-        Input::Bytes(n) => show(&file[..n], status),
-        Input::Failed => os::fail(b"list: reading"),
+        Input::Bytes(n) => show(&rt, &file[..n], status),
+        Input::Failed(e) => fail(&rt, "list: reading", e),
     }
 }

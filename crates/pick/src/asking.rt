@@ -1,7 +1,7 @@
 // What is asked of the program, put together from its words.
 use crate::options::{all_known, decimal_option, flag_words, whole_option};
 use fitter::asking::Asked;
-use libc::STDERR_FILENO;
+use std::rt::Env;
 
 // What a caller who says nothing gets: the original's values.
 const SCALE: f64 = 1.0;
@@ -19,71 +19,80 @@ pub struct Asking {
 }
 
 // One line for the first thing that is wrong.
-fn complain(line: &[u8]) -> bool {
-    io::write_all(STDERR_FILENO, line);
+fn complain<R: Eprint>(rt: &R, line: &str) -> bool {
+    // Where standard error takes nothing, there is nobody to tell.
+    let _ = rt.eprint(line);
     false
 }
 
 // A word of the name stands there at most once, once where it is needed, and is well formed.
-fn is_fine(words: usize, wrong: bool, needed: bool, line: &[u8]) -> bool {
+fn is_fine<R: Eprint>(rt: &R, words: usize, wrong: bool, needed: bool, line: &str) -> bool {
     if wrong || words > 1 || (needed && words == 0) {
-        return complain(line);
+        return complain(rt, line);
     }
     true
 }
 
-pub(crate) fn read_words() -> Asking {
-    let status = flag_words(b"--status");
-    let quiet = flag_words(b"--quiet");
-    let valley = whole_option(b"--valley=");
-    let peak = whole_option(b"--peak=");
-    let end = whole_option(b"--window-end=");
-    let budget = decimal_option(b"--budget=", 0.0);
-    let scale = decimal_option(b"--scale=", SCALE);
-    let hint = decimal_option(b"--hint=", HINT);
-    let limit = decimal_option(b"--mass-limit=", MASS_LIMIT);
-    let fine = (all_known() || complain(b"pick: a word is no option; fogatise help names them\n"))
+pub(crate) fn read_words<R: Env + Eprint>(rt: &R) -> Asking {
+    let status = flag_words(rt, b"--status");
+    let quiet = flag_words(rt, b"--quiet");
+    let valley = whole_option(rt, b"--valley=");
+    let peak = whole_option(rt, b"--peak=");
+    let end = whole_option(rt, b"--window-end=");
+    let budget = decimal_option(rt, b"--budget=", 0.0);
+    let scale = decimal_option(rt, b"--scale=", SCALE);
+    let hint = decimal_option(rt, b"--hint=", HINT);
+    let limit = decimal_option(rt, b"--mass-limit=", MASS_LIMIT);
+    let fine = (all_known(rt)
+        || complain(rt, "pick: a word is no option; fogatise help names them\n"))
         && is_fine(
+            rt,
             valley.words,
             valley.wrong,
             true,
-            b"pick: --valley=N is needed once, N of 1 to 15 digits\n",
+            "pick: --valley=N is needed once, N of 1 to 15 digits\n",
         )
         && is_fine(
+            rt,
             peak.words,
             peak.wrong,
             true,
-            b"pick: --peak=N is needed once, N of 1 to 15 digits\n",
+            "pick: --peak=N is needed once, N of 1 to 15 digits\n",
         )
         && is_fine(
+            rt,
             budget.words,
             budget.wrong,
             true,
-            b"pick: --budget=X is needed once, X of 1 to 15 digits and at most one point\n",
+            "pick: --budget=X is needed once, X of 1 to 15 digits and at most one point\n",
         )
         && is_fine(
+            rt,
             end.words,
             end.wrong,
             false,
-            b"pick: --window-end=N is taken once, N of 1 to 15 digits\n",
+            "pick: --window-end=N is taken once, N of 1 to 15 digits\n",
         )
         && is_fine(
+            rt,
             scale.words,
             scale.wrong,
             false,
-            b"pick: --scale=X is taken once, X of 1 to 15 digits and at most one point\n",
+            "pick: --scale=X is taken once, X of 1 to 15 digits and at most one point\n",
         )
         && is_fine(
+            rt,
             hint.words,
             hint.wrong,
             false,
-            b"pick: --hint=X is taken once, X of 1 to 15 digits and at most one point\n",
+            "pick: --hint=X is taken once, X of 1 to 15 digits and at most one point\n",
         )
         && is_fine(
+            rt,
             limit.words,
             limit.wrong,
             false,
-            b"pick: --mass-limit=X is taken once, X of 1 to 15 digits and at most one point\n",
+            "pick: --mass-limit=X is taken once, X of 1 to 15 digits and at most one point\n",
         );
     Asking {
         fine,

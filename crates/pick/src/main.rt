@@ -17,6 +17,8 @@ use progress::{Watch, seconds};
 use record::records::{write_broken, write_record, write_refused};
 use searches::{attempt, problem_of, refusal};
 use showing::{LONGEST_RECORD, complain, give_up, show, tell_failed};
+use std::rt::Runtime;
+use streams::failure::fail;
 use streams::input::{Input, read_input};
 
 // One byte more than the longest accepted file has: what lies behind it changes nothing.
@@ -35,7 +37,7 @@ fn first_bins(x: &[u32], n: usize) -> &[u32] {
 }
 
 // The four configurations, in the original's order.
-fn pick_bins(bins: &[u32], asked: Asked, watch: Watch, status: bool) {
+fn pick_bins<R: Runtime>(rt: &R, bins: &[u32], asked: Asked, watch: Watch, status: bool) {
     let mut text = [0u8; LONGEST_RECORD];
     let end = window_end_of(asked, bins.len());
     let shelf = problem_of(
@@ -48,16 +50,16 @@ fn pick_bins(bins: &[u32], asked: Asked, watch: Watch, status: bool) {
     if number != 0 {
         let refused = write_refused(asked, bins.len(), number, &mut text);
         let last = refused.last;
-        show(&text, refused.size, last, status);
+        show(rt, &text, refused.size, last, status);
         return;
     }
     let share = value(empirical_shelf_share(bins, asked.scale, asked.valley, asked.peak));
-    let a = attempt(bins, asked, end, share, 1, watch);
-    let b = attempt(bins, asked, end, share, 2, watch);
-    let c = attempt(bins, asked, end, share, 3, watch);
-    let d = attempt(bins, asked, end, share, 4, watch);
+    let a = attempt(rt, bins, asked, end, share, 1, watch);
+    let b = attempt(rt, bins, asked, end, share, 2, watch);
+    let c = attempt(rt, bins, asked, end, share, 3, watch);
+    let d = attempt(rt, bins, asked, end, share, 4, watch);
     if !a.whole || !b.whole || !c.whole || !d.whole {
-        give_up(status);
+        give_up(rt, status);
         return;
     }
     let one = a.attempt;
@@ -66,42 +68,42 @@ fn pick_bins(bins: &[u32], asked: Asked, watch: Watch, status: bool) {
     let four = d.attempt;
     let record = write_record(asked, bins.len(), one, two, three, four, &mut text);
     let last = record.last;
-    show(&text, record.size, last, status);
+    show(rt, &text, record.size, last, status);
 }
 
-fn pick_file(file: &[u8], asked: Asked, watch: Watch, status: bool) {
+fn pick_file<R: Runtime>(rt: &R, file: &[u8], asked: Asked, watch: Watch, status: bool) {
     let mut bins = [0u32; MAX_FILE_BINS];
     let mut text = [0u8; LONGEST_RECORD];
     let read = read_histogram(file, &mut bins);
     match read {
-        FileRead::Bins(n) => pick_bins(first_bins(&bins, n), asked, watch, status),
+        FileRead::Bins(n) => pick_bins(rt, first_bins(&bins, n), asked, watch, status),
         FileRead::Broken(place) => {
             let broken = write_broken(asked, place, &mut text);
             let last = broken.last;
-            show(&text, broken.size, last, status);
+            show(rt, &text, broken.size, last, status);
         }
-        FileRead::Refused(_) => complain(b"pick: the bins do not fit, which can't be\n", status),
+        FileRead::Refused(_) => complain(rt, "pick: the bins do not fit, which can't be", status),
     }
 }
 
-fn main() {
-    let a = read_words();
+fn main(rt: HostRuntime) {
+    let a = read_words(&rt);
     let asked = a.asked;
     let watch = Watch {
         quiet: a.quiet,
         status: a.status,
-        began: seconds(),
+        began: seconds(&rt),
     };
     if !a.fine {
         tell_failed(a.status);
         return;
     }
     let mut file = [0u8; ENOUGH];
-    let input = read_input(&mut file);
+    let input = read_input(&mut rt.stdin(), &mut file);
     match input {
-        Input::Bytes(n) => pick_file(&file[..n], asked, watch, a.status),
-        Input::Failed => {
-            os::fail(b"pick: reading");
+        Input::Bytes(n) => pick_file(&rt, &file[..n], asked, watch, a.status),
+        Input::Failed(e) => {
+            fail(&rt, "pick: reading", e);
             tell_failed(a.status);
         }
     }

@@ -1,8 +1,12 @@
 // The words that the program is started with.
+ghost use Rattle.std.specs.Counts.{IsPrefixLen};
+
 use arguments::numbers::{Decimal, Whole, read_decimal, read_whole};
 use meaning::wholes::least;
+use std::env::FillError;
+use std::rt::Env;
 
-// The longest word that is read: a longer one is empty to `os::arg`, and no option.
+// The longest word that is read: a longer one is as an empty one, and no option.
 const LONGEST: usize = 64;
 
 // How many words have the option's name, the number of the last, and whether that is malformed.
@@ -26,7 +30,7 @@ fn more(n: usize) -> usize {
 
 fn begins(word: &[u8], name: &[u8]) -> bool {
     let n = least(name.len(), word.len());
-    check::same(&word[..n], name)
+    &word[..n] == name
 }
 
 // What stands behind a name that the word begins with.
@@ -65,102 +69,117 @@ fn decimal_read(words: usize, read: Decimal) -> DecimalOption {
     }
 }
 
-fn is_word(i: usize, name: &[u8]) -> bool {
-    let mut word = [0u8; LONGEST];
-    let n = os::arg(i, &mut word);
-    check::same(&word[..n], name)
+// How many words the program was started with; the first is its own name.
+fn word_count<R: Env>(rt: &R) -> usize {
+    for i in 0..usize::MAX {
+        if matches!(rt.arg(i, &mut []), Err(FillError::NotPresent)) {
+            return i;
+        }
+    }
+    usize::MAX
 }
 
-fn word_begins(i: usize, name: &[u8]) -> bool {
+// Puts a word into the lent bytes, and answers how many it has.
+fn read_word<R: Env>(rt: &R, i: usize, word: &mut [u8]) -> usize
+    ensures { IsPrefixLen result word.new }
+{
+    match rt.arg(i, word) {
+        Ok(n) => n,
+        Err(_) => 0,
+    }
+}
+
+fn is_word<R: Env>(rt: &R, i: usize, name: &[u8]) -> bool {
     let mut word = [0u8; LONGEST];
-    let n = os::arg(i, &mut word);
+    let n = read_word(rt, i, &mut word);
+    &word[..n] == name
+}
+
+fn word_begins<R: Env>(rt: &R, i: usize, name: &[u8]) -> bool {
+    let mut word = [0u8; LONGEST];
+    let n = read_word(rt, i, &mut word);
     begins(&word[..n], name)
 }
 
-fn whole_at(i: usize, name: &[u8]) -> Whole {
+fn whole_at<R: Env>(rt: &R, i: usize, name: &[u8]) -> Whole {
     let mut word = [0u8; LONGEST];
-    let n = os::arg(i, &mut word);
+    let n = read_word(rt, i, &mut word);
     read_whole(behind(&word[..n], name))
 }
 
-fn decimal_at(i: usize, name: &[u8]) -> Decimal {
+fn decimal_at<R: Env>(rt: &R, i: usize, name: &[u8]) -> Decimal {
     let mut word = [0u8; LONGEST];
-    let n = os::arg(i, &mut word);
+    let n = read_word(rt, i, &mut word);
     read_decimal(behind(&word[..n], name))
 }
 
 // How many words are the flag itself.
-pub(crate) fn flag_words(name: &[u8]) -> usize {
-    let all = os::arg_count();
+pub(crate) fn flag_words<R: Env>(rt: &R, name: &[u8]) -> usize {
+    let all = word_count(rt);
     let mut count: usize = 0;
-    let mut i: usize = 1;
-    while i < all {
-        if is_word(i, name) {
+    for i in 1..all {
+        if is_word(rt, i, name) {
             count = more(count);
         }
-        i += 1;
     }
     count
 }
 
 // A name ends in `=`.
-pub(crate) fn whole_option(name: &[u8]) -> WholeOption {
-    let all = os::arg_count();
+pub(crate) fn whole_option<R: Env>(rt: &R, name: &[u8]) -> WholeOption {
+    let all = word_count(rt);
     let mut found = WholeOption {
         words: 0,
         value: 0,
         wrong: false,
     };
-    let mut i: usize = 1;
-    while i < all {
-        if word_begins(i, name) {
-            found = whole_read(more(found.words), whole_at(i, name));
+    for i in 1..all {
+        if word_begins(rt, i, name) {
+            found = whole_read(more(found.words), whole_at(rt, i, name));
         }
-        i += 1;
     }
     found
 }
 
 // Without a word of the name the value is the one given here.
-pub(crate) fn decimal_option(name: &[u8], value: f64) -> DecimalOption {
-    let all = os::arg_count();
+pub(crate) fn decimal_option<R: Env>(rt: &R, name: &[u8], value: f64) -> DecimalOption {
+    let all = word_count(rt);
     let mut found = DecimalOption {
         words: 0,
         value,
         wrong: false,
     };
-    let mut i: usize = 1;
-    while i < all {
-        if word_begins(i, name) {
-            found = decimal_read(more(found.words), decimal_at(i, name));
+    for i in 1..all {
+        if word_begins(rt, i, name) {
+            found = decimal_read(more(found.words), decimal_at(rt, i, name));
         }
-        i += 1;
     }
     found
 }
 
-fn is_known(i: usize) -> bool {
-    if is_word(i, b"--status") || is_word(i, b"--quiet") {
+fn is_known<R: Env>(rt: &R, i: usize) -> bool {
+    if is_word(rt, i, b"--status") || is_word(rt, i, b"--quiet") {
         return true;
     }
-    if word_begins(i, b"--valley=") || word_begins(i, b"--peak=") || word_begins(i, b"--budget=") {
+    if word_begins(rt, i, b"--valley=")
+        || word_begins(rt, i, b"--peak=")
+        || word_begins(rt, i, b"--budget=")
+    {
         return true;
     }
-    if word_begins(i, b"--scale=") || word_begins(i, b"--hint=") {
+    if word_begins(rt, i, b"--scale=") || word_begins(rt, i, b"--hint=") {
         return true;
     }
-    word_begins(i, b"--window-end=") || word_begins(i, b"--mass-limit=")
+    word_begins(rt, i, b"--window-end=") || word_begins(rt, i, b"--mass-limit=")
 }
 
 // Whether each word is an option.
-pub(crate) fn all_known() -> bool {
-    let all = os::arg_count();
-    let mut i: usize = 1;
-    while i < all {
-        if !is_known(i) {
+pub(crate) fn all_known<R: Env>(rt: &R) -> bool {
+    let all = word_count(rt);
+    for i in 1..all {
+        if !is_known(rt, i) {
             return false;
         }
-        i += 1;
     }
     true
 }

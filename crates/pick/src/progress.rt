@@ -1,5 +1,6 @@
 // What is said on standard error while a search goes on.
-use libc::STDERR_FILENO;
+use std::rt::Clock;
+use std::str::from_utf8;
 use templates::filling::fill;
 
 #[derive(Clone, Copy)]
@@ -11,14 +12,12 @@ pub struct Watch {
     pub began: u64,
 }
 
-fn not_negative(t: i64) -> u64 {
-    if t > 0 { t as u64 } else { 0 }
-}
-
 // The machine's clock, in seconds; 0 where it has none.
-pub(crate) fn seconds() -> u64 {
-    let mut now: i64 = 0;
-    not_negative(libc::time(&mut now))
+pub(crate) fn seconds<R: Clock>(rt: &R) -> u64 {
+    match rt.since_1970() {
+        Ok(now) => now.as_secs(),
+        Err(_) => 0,
+    }
 }
 
 // 0 where the clock went back.
@@ -27,12 +26,19 @@ fn elapsed(began: u64, now: u64) -> u64 {
 }
 
 // One line: which configuration, how many of its runs are done, and the least cost so far, as a float's pattern.
-pub(crate) fn say(watch: Watch, k: u64, done: u64, runs: u64, cost: u64) {
+pub(crate) fn say<R: Clock + Eprint>(
+    rt: &R,
+    watch: Watch,
+    k: u64,
+    done: u64,
+    runs: u64,
+    cost: u64,
+) {
     if watch.quiet {
         return;
     }
     let mut line = [0u8; 160];
-    let values = [k, done, runs, cost, elapsed(watch.began, seconds())];
+    let values = [k, done, runs, cost, elapsed(watch.began, seconds(rt))];
     let size = fill(
         &mut line,
         0,
@@ -40,6 +46,14 @@ pub(crate) fn say(watch: Watch, k: u64, done: u64, runs: u64, cost: u64) {
         &values,
     );
     if size < line.len() {
-        io::write_all(STDERR_FILENO, &line[..size]);
+        tell(rt, &line[..size]);
+    }
+}
+
+// A line is ASCII.
+fn tell<R: Eprint>(rt: &R, line: &[u8]) {
+    if let Ok(text) = from_utf8(line) {
+        // Where standard error takes nothing, there is nobody to tell.
+        let _ = rt.eprint(text);
     }
 }

@@ -16,6 +16,7 @@ use routines::bits::pattern;
 use search::beginning::begin_searches;
 use search::reporting::report_searches;
 use search::searching::run_searches;
+use std::rt::Clock;
 
 // Four dispersions, three error starts and two shelf shapes, each run's simplex of twelve rows of twelve numbers.
 const RUNS: usize = 24;
@@ -161,7 +162,8 @@ fn next_slice(slice: u64, heard: bool) -> u64
 
 // As many turns as the largest cap, by which every run has ended, with a line of progress between. It stops early where
 // nobody listens.
-fn search_all(
+fn search_all<R: Clock + Eprint>(
+    rt: &R,
     bins: &[u32],
     problem: Problem,
     runs: usize,
@@ -190,7 +192,7 @@ fn search_all(
         if done < runs {
             done = runs_done(first_bytes(stopped, runs), first_bytes(caps, runs));
             let least = least_cost(first_floats(costs, runs));
-            say(watch, k, done as u64, runs as u64, pattern(least));
+            say(rt, watch, k, done as u64, runs as u64, pattern(least));
         }
         slice = next_slice(slice, is_heard(watch.status));
     }
@@ -198,7 +200,8 @@ fn search_all(
 }
 
 // The attempt of the k-th configuration, each of its runs searched to its end.
-pub(crate) fn attempt(
+pub(crate) fn attempt<R: Clock + Eprint>(
+    rt: &R,
     bins: &[u32],
     asked: Asked,
     end: usize,
@@ -243,6 +246,7 @@ pub(crate) fn attempt(
         &mut table,
     ));
     let whole = search_all(
+        rt,
         bins,
         problem,
         runs,

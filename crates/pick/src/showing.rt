@@ -1,12 +1,13 @@
-// Writing the record, and the word by which `fogatise` hears how it ended, since a program here has no exit status.
-use libc::{STDERR_FILENO, STDOUT_FILENO};
+// Writing the record, and the word by which `fogatise` hears how it ended.
 use record::answers::Last;
-use streams::output::write_output;
+use std::rt::Runtime;
+use streams::failure::fail;
+use streams::output::{settle_output, write_output};
 
 // No record is as long.
 pub const LONGEST_RECORD: usize = 32768;
 
-// Where `fogatise` listens.
+// Where `fogatise` listens. A handle of std has no such descriptor, hence `io`.
 const STATUS_FILENO: i32 = 4;
 
 // The last word, once all is written.
@@ -37,43 +38,47 @@ pub(crate) fn is_heard(status: bool) -> bool {
     !status || io::write_all(STATUS_FILENO, b"\n")
 }
 
-fn say_unheard() {
-    io::write_all(
-        STDERR_FILENO,
-        b"pick: nobody listens any more, so no record is written\n",
-    );
+fn say_unheard<R: Eprint>(rt: &R) {
+    // Where standard error takes nothing, there is nobody to tell.
+    let _ = eprintln!(rt; "pick: nobody listens any more, so no record is written");
 }
 
 // One line on standard error.
-pub(crate) fn complain(line: &[u8], status: bool) {
-    io::write_all(STDERR_FILENO, line);
+pub(crate) fn complain<R: Eprint>(rt: &R, line: &str, status: bool) {
+    let _ = rt.eprintln(line);
     tell_failed(status);
 }
 
 // For a search that is not whole: it stops early where nobody listens, and else it is whole.
-pub(crate) fn give_up(status: bool) {
+pub(crate) fn give_up<R: Eprint>(rt: &R, status: bool) {
     if is_heard(status) {
-        complain(b"pick: a search was refused, which can't be\n", status);
+        complain(rt, "pick: a search was refused, which can't be", status);
     } else {
-        say_unheard();
+        say_unheard(rt);
     }
 }
 
-// Writes a record, and closes standard output, since some disks tell of a failed write only then. A record that may be
-// cut off is no answer.
-pub(crate) fn show(text: &[u8], size: usize, last: Last, status: bool) {
+// Writes a record, and waits for the disk, since some disks tell of a failed write only then. A record that may be cut
+// off is no answer.
+pub(crate) fn show<R: Runtime>(rt: &R, text: &[u8], size: usize, last: Last, status: bool) {
     if size >= text.len() {
-        complain(b"pick: the record is too long\n", status);
+        complain(rt, "pick: the record is too long", status);
         return;
     }
     if !is_heard(status) {
-        say_unheard();
+        say_unheard(rt);
         return;
     }
-    if write_output(&text[..size]) && libc::close(STDOUT_FILENO) == 0 {
-        tell(last, status);
-    } else {
-        os::fail(b"pick: writing");
-        tell_failed(status);
+    match put(rt, &text[..size]) {
+        Ok(()) => tell(last, status),
+        Err(e) => {
+            fail(rt, "pick: writing", e);
+            tell_failed(status);
+        }
     }
+}
+
+fn put<R: Runtime>(rt: &R, bytes: &[u8]) -> std::io::Result<()> {
+    write_output(&mut std::io::writer(rt), bytes)?;
+    settle_output(rt)
 }

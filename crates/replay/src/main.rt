@@ -14,33 +14,39 @@ mod rows;
 mod slices;
 mod words;
 
-use libc::{STDIN_FILENO, STDOUT_FILENO};
 use rows::Replay;
+use std::io;
+use std::io::Read;
+use streams::input::{Input, read_input};
 use words::MOST;
 
+// Bytes that are read at a time.
+const MANY: usize = 65536;
+
 // One read, and each byte of it taken in turn; whether to go on.
-fn read_some(words: &mut [u64], replay: Replay) -> Replay {
-    let mut buffer = io::large_buffer();
-    let n = io::read_full(STDIN_FILENO, &mut buffer);
-    rows::take_all(words, replay, &buffer[..n])
-}
-
-// A proved loop has to end, and nothing says that the input does: so the turns are counted down.
-fn read_all(words: &mut [u64]) -> Replay {
-    let mut replay = rows::begin(0, 0);
-    let mut turns = u64::MAX;
-    while turns > 0 && replay.open {
-        replay = read_some(words, replay);
-        turns -= 1;
+fn read_some<R: Read>(from: &mut R, words: &mut [u64], replay: Replay) -> io::Result<Replay> {
+    let mut buffer = [0u8; MANY];
+    let input = read_input(from, &mut buffer);
+    match input {
+        Input::Bytes(n) => Ok(rows::take_all(words, replay, &buffer[..n])),
+        Input::Failed(e) => Err(e),
     }
-    replay
 }
 
-fn main() {
+// A proved loop has to end, and nothing says that the input does: so the turns are counted.
+fn read_all<R: Read>(from: &mut R, words: &mut [u64]) -> io::Result<Replay> {
+    let mut replay = rows::begin(0, 0);
+    for _ in 0..u64::MAX {
+        if !replay.open {
+            break;
+        }
+        replay = read_some(from, words, replay)?;
+    }
+    Ok(replay)
+}
+
+fn main(rt: HostRuntime) -> io::Result<()> {
     let mut words = [0u64; MOST];
-    let replay = read_all(&mut words);
-    io::print_decimal(STDOUT_FILENO, replay.rows);
-    io::write_all(STDOUT_FILENO, b" rows, ");
-    io::print_decimal(STDOUT_FILENO, replay.differences);
-    io::write_all(STDOUT_FILENO, b" differences\n");
+    let replay = read_all(&mut rt.stdin(), &mut words)?;
+    println!(rt; "{} rows, {} differences", replay.rows, replay.differences)
 }

@@ -1,35 +1,35 @@
-// Reading standard input, with an error of reading told from its end.
-ghost use Rattle.streams.specs.Within.{Within};
+// Reading a reader, with an error of reading told from its end.
+ghost use Rattle.streams.specs.Within.{Within, IsFront};
 
-use libc::{EINTR, STDIN_FILENO};
+use std::io::{Error, ErrorKind, Read};
 
-// How many bytes were read, or that a read failed.
+// How many bytes were read, or why a read failed.
 #[derive(Clone, Copy)]
 pub enum Input {
     Bytes(usize),
-    Failed,
+    Failed(Error),
 }
 
 // Reads until the lent bytes are full or the input ends, however few bytes come at a time. A read that a signal
-// interrupts is begun again. The turns are counted, from a number that no run uses up, since a proved loop has to end.
-pub fn read_input(bytes: &mut [u8]) -> Input
-    ensures { Within result bytes.new }
+// interrupts is begun again. The turns are counted, up to a number that no run uses up, since a proved loop has to end.
+pub fn read_input<R: Read>(from: &mut R, bytes: &mut [u8]) -> Input
+    ensures within { Within result bytes.new }
+    ensures front { IsFront result bytes.new (R.remaining from.old) (R.remaining from.new) }
 {
     let mut done = 0;
-    let mut turns = u64::MAX;
-    while done < bytes.len() {
-        if turns == 0 {
-            return Input::Failed;
-        }
-        turns -= 1;
-        let got = libc::read(STDIN_FILENO, &mut bytes[done..]);
-        if got == 0 {
+    for _ in 0..u64::MAX {
+        if done >= bytes.len() {
             return Input::Bytes(done);
         }
-        if got < 0 && os::errno() != EINTR {
-            return Input::Failed;
+        match from.read(&mut bytes[done..]) {
+            Ok(0) => return Input::Bytes(done),
+            Ok(n) => done += n,
+            Err(e) => {
+                if e.kind() != ErrorKind::Interrupted {
+                    return Input::Failed(e);
+                }
+            }
         }
-        done += io::count(got, &bytes[done..]);
     }
-    Input::Bytes(done)
+    Input::Failed(Error::from(ErrorKind::TimedOut))
 }
