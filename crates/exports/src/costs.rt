@@ -31,8 +31,7 @@ fn flat_fit_answer(answer: FitAnswer) -> FlatFitAnswer
     }
 }
 
-#[unsafe(no_mangle)]
-pub extern "C" fn fog_cost(
+pub fn fog_cost(
     bins: &[u32],
     scale: f64,
     window_end: usize,
@@ -54,16 +53,14 @@ pub extern "C" fn fog_cost(
     flat_number(cost(bins, scale, window_end, peak, tail, lobes, theta, table))
 }
 
-#[unsafe(no_mangle)]
-pub extern "C" fn fog_prepare_window(window_end: usize, out: &mut [f64]) -> FlatWritten
+pub fn fog_prepare_window(window_end: usize, out: &mut [f64]) -> FlatWritten
     ensures value { result ≡ say_written (counted (prepare_of window_end (length out.old))) }
     ensures out_after { out.new ≡ laid (prepare_of window_end (length out.old)) out.old }
 {
     flat_written(prepare_window(window_end, out))
 }
 
-#[unsafe(no_mangle)]
-pub extern "C" fn fog_cost_prepared(
+pub fn fog_cost_prepared(
     bins: &[u32],
     scale: f64,
     window_end: usize,
@@ -88,8 +85,7 @@ pub extern "C" fn fog_cost_prepared(
     ))
 }
 
-#[unsafe(no_mangle)]
-pub extern "C" fn fog_unpack(
+pub fn fog_unpack(
     bins: &[u32],
     scale: f64,
     window_end: usize,

@@ -8,36 +8,31 @@ use crate::shelf::{FlatShelf, part_of};
 use helpers::lobes::{discrete_nb_mode, ln_dnbinom};
 use helpers::shelves::{ln_dbetabinom, ln_single_copy, mix_single_copy, shelf_trials};
 
-#[unsafe(no_mangle)]
-pub extern "C" fn fog_ln_dnbinom(x: f64, mean: f64, dispersion: f64) -> f64
+pub fn fog_ln_dnbinom(x: f64, mean: f64, dispersion: f64) -> f64
     ensures { result ≡ ln_dnbinom_of x mean dispersion }
 {
     ln_dnbinom(x, mean, dispersion)
 }
 
-#[unsafe(no_mangle)]
-pub extern "C" fn fog_discrete_nb_mode(mean: f64, dispersion: f64) -> u64
+pub fn fog_discrete_nb_mode(mean: f64, dispersion: f64) -> u64
     ensures { result ≡ discrete_nb_mode_of mean dispersion }
 {
     discrete_nb_mode(mean, dispersion)
 }
 
-#[unsafe(no_mangle)]
-pub extern "C" fn fog_shelf_trials(mean: f64) -> f64
+pub fn fog_shelf_trials(mean: f64) -> f64
     ensures { result ≡ shelf_trials_of mean }
 {
     shelf_trials(mean)
 }
 
-#[unsafe(no_mangle)]
-pub extern "C" fn fog_ln_dbetabinom(x: f64, trials: f64, alpha: f64, beta: f64) -> f64
+pub fn fog_ln_dbetabinom(x: f64, trials: f64, alpha: f64, beta: f64) -> f64
     ensures { result ≡ ln_dbetabinom_of x trials alpha beta }
 {
     ln_dbetabinom(x, trials, alpha, beta)
 }
 
-#[unsafe(no_mangle)]
-pub extern "C" fn fog_ln_single_copy(
+pub fn fog_ln_single_copy(
     count: f64,
     mean: f64,
     dispersion: f64,
@@ -49,8 +44,7 @@ pub extern "C" fn fog_ln_single_copy(
     ln_single_copy(count, mean, dispersion, part_of(present, shelf))
 }
 
-#[unsafe(no_mangle)]
-pub extern "C" fn fog_mix_single_copy(
+pub fn fog_mix_single_copy(
     lobe: f64,
     count: f64,
     present: u8,

@@ -6,24 +6,21 @@ ghost use Rattle.models.specs.Parts.{error_of, genome_of};
 use models::families::list_length;
 use models::parts::{error_of, genome_of};
 
-#[unsafe(no_mangle)]
-pub extern "C" fn fog_parameter_count(error: u8) -> usize
+pub fn fog_parameter_count(error: u8) -> usize
     ensures { result ≡ parameter_count_of (error_of error) }
 {
     let family = error_of(error);
     family.parameter_count()
 }
 
-#[unsafe(no_mangle)]
-pub extern "C" fn fog_extra_parameters(genome: u8) -> usize
+pub fn fog_extra_parameters(genome: u8) -> usize
     ensures { result ≡ extra_parameters_of (genome_of genome) }
 {
     let family = genome_of(genome);
     family.extra_parameters()
 }
 
-#[unsafe(no_mangle)]
-pub extern "C" fn fog_list_length(error: u8, genome: u8) -> usize
+pub fn fog_list_length(error: u8, genome: u8) -> usize
     ensures { result ≡ list_length_of (error_of error) (genome_of genome) }
 {
     list_length(error_of(error), genome_of(genome))

@@ -42,8 +42,7 @@ pub fn flat_file(answer: FileRead) -> FlatFile
     }
 }
 
-#[unsafe(no_mangle)]
-pub extern "C" fn fog_read_histogram(file: &[u8], bins: &mut [u32]) -> FlatFile
+pub fn fog_read_histogram(file: &[u8], bins: &mut [u32]) -> FlatFile
     ensures value { result ≡ say_file (counted (read_histogram_of file.now (length bins.old))) }
     ensures bins_after { bins.new
         ≡ laid (read_histogram_of file.now (length bins.old)) bins.old }
@@ -51,8 +50,7 @@ pub extern "C" fn fog_read_histogram(file: &[u8], bins: &mut [u32]) -> FlatFile
     flat_file(read_histogram(file, bins))
 }
 
-#[unsafe(no_mangle)]
-pub extern "C" fn fog_write_histogram(bins: &[u32], file: &mut [u8]) -> FlatWritten
+pub fn fog_write_histogram(bins: &[u32], file: &mut [u8]) -> FlatWritten
     ensures value { result ≡ say_written (counted (write_histogram_of bins.now (length file.old))) }
     ensures file_after { file.new
         ≡ laid (write_histogram_of bins.now (length file.old)) file.old }

@@ -87,15 +87,13 @@ fn flat_selected(selected: Selected) -> FlatSelected
     }
 }
 
-#[unsafe(no_mangle)]
-pub extern "C" fn fog_is_valid(attempt: FlatAttempt) -> u8
+pub fn fog_is_valid(attempt: FlatAttempt) -> u8
     ensures { result ≡ byte_of (valid_of (attempt_of_flat attempt)) }
 {
     byte_of(is_valid(attempt_of(attempt)))
 }
 
-#[unsafe(no_mangle)]
-pub extern "C" fn fog_select_fit(
+pub fn fog_select_fit(
     first: FlatAttempt,
     second: FlatAttempt,
     third: FlatAttempt,

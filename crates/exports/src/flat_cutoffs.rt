@@ -82,15 +82,13 @@ fn flat_sure(answer: SureCutoff) -> FlatSureCutoff
     }
 }
 
-#[unsafe(no_mangle)]
-pub extern "C" fn fog_hole_cutoff(fit: FlatFit, budget: f64) -> FlatCutoff
+pub fn fog_hole_cutoff(fit: FlatFit, budget: f64) -> FlatCutoff
     ensures { result ≡ say_cutoff (hole_cutoff_of (fit_of fit) budget) }
 {
     flat_cutoff(hole_cutoff(fit_of(fit), budget))
 }
 
-#[unsafe(no_mangle)]
-pub extern "C" fn fog_hole_cutoff_sure(fit: FlatFit, budget: f64) -> FlatSureCutoff
+pub fn fog_hole_cutoff_sure(fit: FlatFit, budget: f64) -> FlatSureCutoff
     ensures { result ≡ say_sure (hole_cutoff_sure_of (fit_of fit) budget) }
 {
     flat_sure(hole_cutoff_sure(fit_of(fit), budget))
@@ -105,15 +103,13 @@ fn flat_floor(answer: FloorAnswer) -> FlatCutoff
     }
 }
 
-#[unsafe(no_mangle)]
-pub extern "C" fn fog_crossover(fit: FlatFit) -> FlatCutoff
+pub fn fog_crossover(fit: FlatFit) -> FlatCutoff
     ensures { result ≡ say_cutoff (crossover_of (fit_of fit)) }
 {
     flat_cutoff(crossover(fit_of(fit)))
 }
 
-#[unsafe(no_mangle)]
-pub extern "C" fn fog_error_floor_cutoff(fit: FlatFit) -> FlatCutoff
+pub fn fog_error_floor_cutoff(fit: FlatFit) -> FlatCutoff
     ensures { result ≡ say_floor (error_floor_of (fit_of fit)) }
 {
     flat_floor(error_floor_cutoff(fit_of(fit)))

@@ -10,29 +10,25 @@ use routines::expm1::expm1;
 use routines::lgamma::lgamma;
 use routines::ln::ln;
 
-#[unsafe(no_mangle)]
-pub extern "C" fn fog_exp(x: f64) -> f64
+pub fn fog_exp(x: f64) -> f64
     ensures { result ≡ exp_of x }
 {
     exp(x)
 }
 
-#[unsafe(no_mangle)]
-pub extern "C" fn fog_ln(x: f64) -> f64
+pub fn fog_ln(x: f64) -> f64
     ensures { result ≡ ln_of x }
 {
     ln(x)
 }
 
-#[unsafe(no_mangle)]
-pub extern "C" fn fog_expm1(x: f64) -> f64
+pub fn fog_expm1(x: f64) -> f64
     ensures { result ≡ expm1_of x }
 {
     expm1(x)
 }
 
-#[unsafe(no_mangle)]
-pub extern "C" fn fog_lgamma(x: f64) -> f64
+pub fn fog_lgamma(x: f64) -> f64
     ensures { result ≡ lgamma_of x }
 {
     lgamma(x)

@@ -7,15 +7,13 @@ use crate::answers::{FlatNumber, flat_number};
 use crate::shelf::{FlatShelf, part_of};
 use helpers::masses::{log_nb_mass, single_copy_log_mass};
 
-#[unsafe(no_mangle)]
-pub extern "C" fn fog_log_nb_mass(mean: f64, dispersion: f64, top: usize) -> FlatNumber
+pub fn fog_log_nb_mass(mean: f64, dispersion: f64, top: usize) -> FlatNumber
     ensures { result ≡ say_number (log_nb_mass_of mean dispersion top) }
 {
     flat_number(log_nb_mass(mean, dispersion, top))
 }
 
-#[unsafe(no_mangle)]
-pub extern "C" fn fog_single_copy_log_mass(
+pub fn fog_single_copy_log_mass(
     mean: f64,
     dispersion: f64,
     present: u8,

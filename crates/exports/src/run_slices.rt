@@ -37,8 +37,7 @@ fn setup_from(setup: FlatSetup) -> Problem
     )
 }
 
-#[unsafe(no_mangle)]
-pub extern "C" fn fog_attempt_from(
+pub fn fog_attempt_from(
     bins: &[u32],
     setup: FlatSetup,
     runs: &[LentRun],

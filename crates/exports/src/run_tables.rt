@@ -89,8 +89,7 @@ pub(crate) fn setup_of(
     }
 }
 
-#[unsafe(no_mangle)]
-pub extern "C" fn fog_attempt_from_numbers(
+pub fn fog_attempt_from_numbers(
     bins: &[u32],
     scale: f64,
     window_end: usize,

@@ -30,8 +30,7 @@ fn problem_of(scale: f64, window_end: usize, peak: usize, error: u8, genome: u8)
     setup_of(scale, window_end, 2, peak, error, genome, 1.0)
 }
 
-#[unsafe(no_mangle)]
-pub extern "C" fn fog_begin_searches(
+pub fn fog_begin_searches(
     bins: &[u32],
     scale: f64,
     window_end: usize,
@@ -61,17 +60,17 @@ pub extern "C" fn fog_begin_searches(
     ensures stopped_after { stopped.new
         ≡ on_give (begin_searches_of bins.now (problem_of scale window_end peak error genome) starts.now (lent_of simplexes.old iterations.old stopped.old
         ready.old table.old)) (stopped_begun (runs_in
-        (problem_of scale window_end peak error genome) starts.now) stopped.old) stopped.entry.now }
+        (problem_of scale window_end peak error genome) starts.now) stopped.old) stopped.old }
     ensures ready_after { ready.new
         ≡ ready_after (problem_of scale window_end peak error genome) (begin_searches_of bins.now (problem_of
         scale window_end peak error genome) starts.now (lent_of simplexes.old
-        iterations.old stopped.old ready.old table.old)) ready.entry.now }
-    ensures table_value { drop (stood_from (problem_of scale window_end peak error genome) (begin_searches_of bins.now
+        iterations.old stopped.old ready.old table.old)) ready.old }
+    ensures table_unchanged { drop (stood_from (problem_of scale window_end peak error genome) (begin_searches_of bins.now
         (problem_of scale window_end peak error genome) starts.now (lent_of simplexes.old
-        iterations.old stopped.old ready.old table.old))) table.exit.now
+        iterations.old stopped.old ready.old table.old))) table.new
         ≡ drop (stood_from (problem_of scale window_end peak error genome) (begin_searches_of bins.now
         (problem_of scale window_end peak error genome) starts.now (lent_of simplexes.old
-        iterations.old stopped.old ready.old table.old))) table.entry.now }
+        iterations.old stopped.old ready.old table.old))) table.old }
 {
     let problem = problem_of(scale, window_end, peak, error, genome);
     let answer = begin_searches(
@@ -80,8 +79,7 @@ pub extern "C" fn fog_begin_searches(
     flat_written(answer)
 }
 
-#[unsafe(no_mangle)]
-pub extern "C" fn fog_run_searches(
+pub fn fog_run_searches(
     bins: &[u32],
     scale: f64,
     window_end: usize,
@@ -122,12 +120,12 @@ pub extern "C" fn fog_run_searches(
         ≡ ready_after (problem_of scale window_end peak error genome) (run_searches_of bins.now (problem_of
         scale window_end peak error genome) runs (lent_of simplexes.old iterations.old
         stopped.old ready.old table.old)) ready.old }
-    ensures table_value { drop (stood_from (problem_of scale window_end peak error genome) (run_searches_of bins.now
+    ensures table_unchanged { drop (stood_from (problem_of scale window_end peak error genome) (run_searches_of bins.now
         (problem_of scale window_end peak error genome) runs (lent_of simplexes.old
-        iterations.old stopped.old ready.old table.old))) table.exit.now
+        iterations.old stopped.old ready.old table.old))) table.new
         ≡ drop (stood_from (problem_of scale window_end peak error genome) (run_searches_of bins.now
         (problem_of scale window_end peak error genome) runs (lent_of simplexes.old
-        iterations.old stopped.old ready.old table.old))) table.entry.now }
+        iterations.old stopped.old ready.old table.old))) table.old }
 {
     let problem = problem_of(scale, window_end, peak, error, genome);
     let answer = run_searches(
@@ -136,8 +134,7 @@ pub extern "C" fn fog_run_searches(
     flat_written(answer)
 }
 
-#[unsafe(no_mangle)]
-pub extern "C" fn fog_report_searches(
+pub fn fog_report_searches(
     error: u8,
     genome: u8,
     runs: usize,
@@ -155,7 +152,7 @@ pub extern "C" fn fog_report_searches(
         iterations.now stopped.now converged.old costs.old
         places.old lengths.old caps.old)) }
     ensures converged_after { converged.new
-        ≡ on_give (report_of (error_of error) (genome_of genome) runs (columns_of simplexes.now iterations.entry.now stopped.now converged.old costs.old places.old lengths.old caps.old)) (over (list_of (λ (i : ℕ). byte_of (reported_at (error_of error)
+        ≡ on_give (report_of (error_of error) (genome_of genome) runs (columns_of simplexes.now iterations.now stopped.now converged.old costs.old places.old lengths.old caps.old)) (over (list_of (λ (i : ℕ). byte_of (reported_at (error_of error)
         (genome_of genome) runs simplexes.now iterations.now stopped.now i
         ).converged) runs) converged.old) converged.old }
     ensures costs_after { costs.new
@@ -170,9 +167,9 @@ pub extern "C" fn fog_report_searches(
         ≡ on_give (report_of (error_of error) (genome_of genome) runs (columns_of simplexes.now
         iterations.now stopped.now converged.old costs.old
         places.old lengths.old caps.old)) (over (list_of
-        (λ (i : ℕ). list_length_of (error_of error) (genome_of genome)) runs) lengths.old) lengths.entry.now }
+        (λ (i : ℕ). list_length_of (error_of error) (genome_of genome)) runs) lengths.old) lengths.old }
     ensures caps_after { caps.new
-        ≡ on_give (report_of (error_of error) (genome_of genome) runs (columns_of simplexes.now iterations.entry.now stopped.now converged.old costs.old places.old lengths.old caps.old)) (over (list_of (λ (i : ℕ). byte_of (reported_at (error_of error)
+        ≡ on_give (report_of (error_of error) (genome_of genome) runs (columns_of simplexes.now iterations.now stopped.now converged.old costs.old places.old lengths.old caps.old)) (over (list_of (λ (i : ℕ). byte_of (reported_at (error_of error)
         (genome_of genome) runs simplexes.now iterations.now stopped.now i
         ).hit_cap) runs) caps.old) caps.old }
 {

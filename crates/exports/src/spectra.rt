@@ -9,8 +9,7 @@ use crate::answers::{FlatNumber, FlatWritten, flat_number, flat_written};
 use fitter::recovering::recover_bins;
 use fitter::shares::empirical_shelf_share;
 
-#[unsafe(no_mangle)]
-pub extern "C" fn fog_recover_bins(bins: &[u32], scale: f64, out: &mut [u32]) -> FlatWritten
+pub fn fog_recover_bins(bins: &[u32], scale: f64, out: &mut [u32]) -> FlatWritten
     ensures value { result ≡ say_written (counted (recover_bins_of bins.now scale (length out.old))) }
     ensures out_after { out.new
         ≡ laid (recover_bins_of bins.now scale (length out.old)) out.old }
@@ -18,13 +17,7 @@ pub extern "C" fn fog_recover_bins(bins: &[u32], scale: f64, out: &mut [u32]) ->
     flat_written(recover_bins(bins, scale, out))
 }
 
-#[unsafe(no_mangle)]
-pub extern "C" fn fog_empirical_shelf_share(
-    bins: &[u32],
-    scale: f64,
-    valley: usize,
-    peak: usize,
-) -> FlatNumber
+pub fn fog_empirical_shelf_share(bins: &[u32], scale: f64, valley: usize, peak: usize) -> FlatNumber
     ensures { result ≡ say_number (shelf_share_of bins.now scale valley peak) }
 {
     flat_number(empirical_shelf_share(bins, scale, valley, peak))

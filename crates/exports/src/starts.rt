@@ -13,15 +13,13 @@ use crate::answers::{FlatWritten, flat_written};
 use fitter::starts::{fit_starts, fit_starts_lent, start_tables_refusal};
 use models::parts::{error_of, genome_of};
 
-#[unsafe(no_mangle)]
-pub extern "C" fn fog_start_tables_refusal(pareto: &[f64], weibull: &[f64]) -> u8
+pub fn fog_start_tables_refusal(pareto: &[f64], weibull: &[f64]) -> u8
     ensures { result ≡ first_of (wrong_tables (length pareto.now) (length weibull.now)) }
 {
     start_tables_refusal(pareto, weibull)
 }
 
-#[unsafe(no_mangle)]
-pub extern "C" fn fog_fit_starts(
+pub fn fog_fit_starts(
     error: u8,
     genome: u8,
     seeds: &[f64],
@@ -42,8 +40,7 @@ pub extern "C" fn fog_fit_starts(
     flat_written(fit_starts(tail, lobes, seeds, hint, share, shapes, out))
 }
 
-#[unsafe(no_mangle)]
-pub extern "C" fn fog_fit_starts_lent<'a>(
+pub fn fog_fit_starts_lent<'a>(
     error: u8,
     genome: u8,
     pareto: &'a [f64],

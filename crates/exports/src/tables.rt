@@ -7,8 +7,7 @@ use crate::answers::{FlatWritten, flat_written};
 use crate::shelf::{FlatShelf, shelf_of};
 use helpers::shelves::shelf_log_table;
 
-#[unsafe(no_mangle)]
-pub extern "C" fn fog_shelf_log_table(
+pub fn fog_shelf_log_table(
     mean: f64,
     shelf: FlatShelf,
     top: usize,

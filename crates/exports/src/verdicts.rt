@@ -31,13 +31,7 @@ fn flat_verdict(verdict: Verdict) -> FlatVerdict
     }
 }
 
-#[unsafe(no_mangle)]
-pub extern "C" fn fog_validate_fit(
-    fit: FlatFit,
-    valley: usize,
-    peak: usize,
-    mass_limit: f64,
-) -> FlatVerdict
+pub fn fog_validate_fit(fit: FlatFit, valley: usize, peak: usize, mass_limit: f64) -> FlatVerdict
     ensures { result ≡ say_verdict (validate_of (fit_of fit) valley peak mass_limit) }
 {
     flat_verdict(validate_fit(fit_of(fit), valley, peak, mass_limit))

@@ -36,7 +36,4 @@ pub mod KeptRuns
 pub mod RunFits
 pub mod KeptFit
 pub mod AnyTable
-pub mod LentOn
 pub mod SaidFacts
-pub mod FirstField
-pub mod RunSlices

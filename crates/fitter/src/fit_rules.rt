@@ -39,6 +39,7 @@ use routines::ln::ln;
 use routines::pick::is_finite;
 
 // 1: the log-likelihood, the BIC or the deviance is not finite.
+#[tactic(auto, unfolding(crate::specs::Validation::non_finite_likelihood))]
 pub(crate) fn non_finite_likelihood(fit: SpectrumFit) -> bool
     ensures { result ≡ non_finite_likelihood fit }
 {
@@ -61,12 +62,14 @@ fn bad_weight(weight: f64) -> bool
     true
 }
 
+#[tactic(auto, unfolding(crate::specs::Validation::bad_mean))]
 fn bad_mean(mean: f64) -> bool
     ensures { result ≡ bad_mean mean }
 {
     !is_finite(mean) || mean <= 0.0
 }
 
+#[tactic(auto, unfolding(crate::specs::Validation::bad_dispersion))]
 fn bad_dispersion(dispersion: f64) -> bool
     ensures { result ≡ bad_dispersion dispersion }
 {
@@ -105,6 +108,7 @@ pub(crate) fn invalid_components(fit: SpectrumFit) -> bool
     bad_shelf(shelf)
 }
 
+#[tactic(auto, unfolding(crate::specs::Validation::bad_mass))]
 fn bad_mass(mass: f64) -> bool
     ensures { result ≡ bad_mass mass }
 {

@@ -75,6 +75,7 @@ pub(crate) fn wrong_place(place: usize, length: usize, lent: usize, wanted: usiz
 }
 
 // What a converged run's cost may not be: not finite, or not above 0.
+#[tactic(auto, unfolding(crate::specs::Runs::bad_cost))]
 pub(crate) fn bad_cost(cost: f64) -> bool
     ensures { result ≡ bad_cost cost }
 {

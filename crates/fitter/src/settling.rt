@@ -39,6 +39,7 @@ fn first_number(a: bool, n: u8, b: bool, m: u8) -> u8
 }
 
 // The first number of 1, 2, 4, 5, 6, 7, 9, 10 that applies to `runs` runs of that survey, and 0 for none.
+#[tactic(auto, unfolding(crate::specs::Attempting::setup_tests, models::specs::Refusals::bins_tests, models::specs::Refusals::spectrum_tests))]
 pub(crate) fn attempt_refusal(
     bins: &[u32],
     setup: Problem,

@@ -62,6 +62,7 @@ fn share(bins: &[u32], used: f64, valley: usize, peak: usize) -> f64
 
 // The starting shelf share over the recovered bins, 0.05 for an empty lobe; 1 where the valley, the peak or the number
 // of bins is below 2, and 2 where one is above 65,535.
+#[tactic(auto, unfolding(crate::specs::Shares::shelf_share_of))]
 pub fn empirical_shelf_share(bins: &[u32], scale: f64, valley: usize, peak: usize) -> Number
     ensures { number_says result ≡ shelf_share_of bins.now scale valley peak }
 {

@@ -40,6 +40,7 @@ fn logit(p: f64) -> f64
 }
 
 // 2 where the hint is not finite or not above 1.
+#[tactic(auto, unfolding(crate::specs::Starts::hint_of))]
 pub(crate) fn used_hint(hint: f64) -> f64
     ensures { result ≡ hint_of hint }
 {

@@ -2,7 +2,7 @@
 // of least cost. Ported from src/preprocessing/spectrum_fitter.rs of bacpop/sparrowhawk-asm, f1f8af1232, Apache-2.0;
 // ported and changed: a search for the least stands for the stable sort.
 ghost use Rattle.std.specs.Prelude.{◌≡◌, ◌+◌, ◌||◌};
-ghost use Rattle.fitter.specs.Runs.{at_most, top64, top32, one-if, no_run};
+ghost use Rattle.fitter.specs.Runs.{at_most, top64, top32, one_if, no_run};
 ghost use Rattle.fitter.specs.Surveys.{no_survey, beats, lesser, count_of, weigh_of, survey_step};
 
 use crate::runs::{Run, RunPoint, bad_cost, run_point, wrong_place};
@@ -39,7 +39,7 @@ fn add_iterations(total: u64, more: u64) -> u64
 
 // One more where the cap was hit, stopping at 2^32 - 1.
 fn add_capped(total: u32, hit: bool) -> u32
-    ensures { result ≡ at_most top32 (total + one-if hit) }
+    ensures { result ≡ at_most top32 (total + one_if hit) }
 {
     if hit {
         if total < 0xffff_ffff {

@@ -24,6 +24,7 @@ pub enum Verdict {
 }
 
 // What a mass limit may not be: not finite, or below 1.
+#[tactic(auto, unfolding(crate::specs::Validation::bad_limit))]
 pub(crate) fn bad_limit(mass_limit: f64) -> bool
     ensures { result ≡ bad_limit mass_limit }
 {

@@ -12,7 +12,6 @@ use Rattle.meaning.proofs.Unique.{once}
 use Rattle.histogram.specs.declared.reader.FileRead.{FileRead}
 use Rattle.histogram.specs.declared.reader.FileRead.TheVariants.{Bins, Broken, Refused}
 use Rattle.histogram.specs.declared.number.Number.{Number}
-use Rattle.histogram.specs.declared.number.Number.TheVariants as Number
 use Rattle.histogram.specs.Number.{Found, number_says, number_bytes, numbers_bytes}
 use Rattle.histogram.specs.File.{State, form, range_of, reading, stopped, steps_of, read_of, write_of}
 use Rattle.histogram.specs.Read.{file_says}

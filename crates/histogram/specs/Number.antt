@@ -7,7 +7,6 @@ use Rattle.meaning.specs.Reply.{Reply, broken, give}
 use Rattle.histogram.specs.declared.number.Taken.{Taken}
 use Rattle.histogram.specs.declared.number.Taken.TheVariants.{More, Whole, Wrong}
 use Rattle.histogram.specs.declared.number.Number.{Number}
-use Rattle.histogram.specs.declared.number.Number.TheVariants as Number
 
 -- ---- writing
 

@@ -12,6 +12,7 @@ use meaning::refusals::{
 };
 
 // 4, 5 or 6 for the spectrum in a window, and 0 for none.
+#[tactic(auto, unfolding(crate::specs::Refusals::spectrum_tests))]
 fn window_refusal(bins: &[u32], scale: f64, window_end: usize) -> u8
     ensures { result ≡ first_of (spectrum_tests bins.now scale window_end) }
 {
@@ -28,6 +29,7 @@ fn window_refusal(bins: &[u32], scale: f64, window_end: usize) -> u8
 }
 
 // The first number of 1, 2, 4, 5, 6 that applies to bins and a window end, and 0 for none.
+#[tactic(auto, unfolding(crate::specs::Refusals::bins_tests, crate::specs::Refusals::spectrum_tests))]
 pub fn spectrum_refusal(bins: &[u32], scale: f64, window_end: usize) -> u8
     ensures { result ≡ first_of (bins_tests bins.now scale window_end) }
 {
@@ -64,6 +66,7 @@ pub fn table_refusal(genome: GenomeModel, window_end: usize, room: usize) -> u8
 }
 
 // The first number of 1, 2, 4, 5, 6, 7, 10 that applies to cost and unpack, and 0 for none.
+#[tactic(auto, unfolding(crate::specs::Refusals::fit_tests, crate::specs::Refusals::spectrum_tests))]
 pub(crate) fn fit_refusal(
     bins: &[u32],
     scale: f64,

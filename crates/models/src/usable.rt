@@ -18,6 +18,7 @@ fn shape_usable(shape: ShapePart) -> bool
     }
 }
 
+#[tactic(auto, unfolding(crate::specs::Usable::error_usable))]
 fn error_usable(p: ErrorParams) -> bool
     ensures { result ≡ error_usable p }
 {
@@ -38,6 +39,7 @@ fn shelf_usable(shelf: ShelfPart) -> bool
     }
 }
 
+#[tactic(auto, unfolding(crate::specs::Usable::params_usable))]
 pub(crate) fn params_usable(p: Params) -> bool
     ensures { result ≡ params_usable p }
 {

@@ -66,6 +66,7 @@ fn mass_usable(mass: f64) -> bool
     is_finite(mass) && !(mass > WINDOW_LOG_MASS_TOLERANCE)
 }
 
+#[tactic(auto, unfolding(crate::specs::Masses::masses_usable))]
 pub(crate) fn masses_usable(m: WindowMasses) -> bool
     ensures { result ≡ masses_usable m }
 {

@@ -7,16 +7,14 @@ ghost use Rattle.exports.specs.FlatFits.{errors_of};
 use exports::answers::{FlatNumber, flat_number};
 use exports::fits::{FlatErrors, errors_of};
 
-#[unsafe(no_mangle)]
-pub extern "C" fn fog_log_probability(errors: FlatErrors, count: f64) -> f64
+pub fn fog_log_probability(errors: FlatErrors, count: f64) -> f64
     ensures { result ≡ log_probability_of (errors_of errors) count }
 {
     let p = errors_of(errors);
     p.log_probability(count)
 }
 
-#[unsafe(no_mangle)]
-pub extern "C" fn fog_log_window_mass(errors: FlatErrors, top: usize) -> FlatNumber
+pub fn fog_log_window_mass(errors: FlatErrors, top: usize) -> FlatNumber
     ensures { result ≡ say_number (log_window_mass_of (errors_of errors) top) }
 {
     let p = errors_of(errors);

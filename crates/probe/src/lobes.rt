@@ -35,15 +35,13 @@ fn to_lobe(lobe: FlatLobe) -> Lobe
     }
 }
 
-#[unsafe(no_mangle)]
-pub extern "C" fn fog_ln_dpois(x: f64, lambda: f64) -> f64
+pub fn fog_ln_dpois(x: f64, lambda: f64) -> f64
     ensures { result ≡ ln_dpois_of x lambda }
 {
     ln_dpois(x, lambda)
 }
 
-#[unsafe(no_mangle)]
-pub extern "C" fn fog_lobe_of(mean: f64, dispersion: f64) -> FlatLobe
+pub fn fog_lobe_of(mean: f64, dispersion: f64) -> FlatLobe
     ensures { result ≡ of_lobe (lobe_of mean dispersion) }
 {
     let lobe = lobe_of(mean, dispersion);
@@ -58,8 +56,7 @@ pub extern "C" fn fog_lobe_of(mean: f64, dispersion: f64) -> FlatLobe
     }
 }
 
-#[unsafe(no_mangle)]
-pub extern "C" fn fog_density(lobe: FlatLobe, x: f64) -> f64
+pub fn fog_density(lobe: FlatLobe, x: f64) -> f64
     ensures { result ≡ density_of (to_lobe lobe) x }
 {
     density(to_lobe(lobe), x)

@@ -13,22 +13,19 @@ pub struct FlatLogs3 {
     pub third: f64,
 }
 
-#[unsafe(no_mangle)]
-pub extern "C" fn fog_lse2(a: f64, b: f64) -> f64
+pub fn fog_lse2(a: f64, b: f64) -> f64
     ensures { result ≡ lse2_of a b }
 {
     lse2(a, b)
 }
 
-#[unsafe(no_mangle)]
-pub extern "C" fn fog_lse3(a: f64, b: f64, c: f64) -> f64
+pub fn fog_lse3(a: f64, b: f64, c: f64) -> f64
     ensures { result ≡ lse3_of a b c }
 {
     lse3(a, b, c)
 }
 
-#[unsafe(no_mangle)]
-pub extern "C" fn fog_ln_softmax3(a: f64, b: f64, c: f64) -> FlatLogs3
+pub fn fog_ln_softmax3(a: f64, b: f64, c: f64) -> FlatLogs3
     ensures { result ≡ of_logs3 (softmax3_of a b c) }
 {
     let logs = ln_softmax3(a, b, c);
@@ -39,15 +36,13 @@ pub extern "C" fn fog_ln_softmax3(a: f64, b: f64, c: f64) -> FlatLogs3
     }
 }
 
-#[unsafe(no_mangle)]
-pub extern "C" fn fog_ln_sub_exp(high: f64, low: f64) -> f64
+pub fn fog_ln_sub_exp(high: f64, low: f64) -> f64
     ensures { result ≡ ln_sub_exp_of high low }
 {
     ln_sub_exp(high, low)
 }
 
-#[unsafe(no_mangle)]
-pub extern "C" fn fog_sigmoid(value: f64) -> f64
+pub fn fog_sigmoid(value: f64) -> f64
     ensures { result ≡ sigmoid_of value }
 {
     sigmoid(value)

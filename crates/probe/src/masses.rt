@@ -6,8 +6,7 @@ ghost use Rattle.helpers.specs.Shelves.{mixed};
 use exports::shelf::{FlatShelf, shelf_of};
 use helpers::shelves::mix_shelf;
 
-#[unsafe(no_mangle)]
-pub extern "C" fn fog_mix_shelf(lobe: f64, shelf: FlatShelf, at: f64) -> f64
+pub fn fog_mix_shelf(lobe: f64, shelf: FlatShelf, at: f64) -> f64
     ensures { result ≡ mixed lobe (shelf_of shelf) at }
 {
     mix_shelf(lobe, shelf_of(shelf), at)

@@ -14,79 +14,68 @@ use routines::held::{at_least, at_most};
 use routines::pick::{is_finite, max, min};
 use routines::whole::{floor, round};
 
-#[unsafe(no_mangle)]
-pub extern "C" fn fog_round(x: f64) -> f64
+pub fn fog_round(x: f64) -> f64
     ensures { result ≡ round_of x }
 {
     round(x)
 }
 
-#[unsafe(no_mangle)]
-pub extern "C" fn fog_floor(x: f64) -> f64
+pub fn fog_floor(x: f64) -> f64
     ensures { result ≡ floor_of x }
 {
     floor(x)
 }
 
-#[unsafe(no_mangle)]
-pub extern "C" fn fog_max(a: f64, b: f64) -> f64
+pub fn fog_max(a: f64, b: f64) -> f64
     ensures { result ≡ max_of a b }
 {
     max(a, b)
 }
 
-#[unsafe(no_mangle)]
-pub extern "C" fn fog_min(a: f64, b: f64) -> f64
+pub fn fog_min(a: f64, b: f64) -> f64
     ensures { result ≡ min_of a b }
 {
     min(a, b)
 }
 
-#[unsafe(no_mangle)]
-pub extern "C" fn fog_is_finite(x: f64) -> bool
+pub fn fog_is_finite(x: f64) -> bool
     ensures { result ≡ finite x }
 {
     is_finite(x)
 }
 
-#[unsafe(no_mangle)]
-pub extern "C" fn fog_to_u64(x: f64) -> u64
+pub fn fog_to_u64(x: f64) -> u64
     ensures { result ≡ to_unsigned 64 x }
 {
     to_u64(x)
 }
 
-#[unsafe(no_mangle)]
-pub extern "C" fn fog_to_u32(x: f64) -> u32
+pub fn fog_to_u32(x: f64) -> u32
     ensures { result ≡ to_unsigned 32 x }
 {
     to_u32(x)
 }
 
-#[unsafe(no_mangle)]
-pub extern "C" fn fog_from_u64(n: u64) -> f64
+pub fn fog_from_u64(n: u64) -> f64
     ensures { result ≡ of_int binary64 (pos n) }
 {
     from_u64(n)
 }
 
-#[unsafe(no_mangle)]
-pub extern "C" fn fog_at_least(v: f64, bound: f64) -> f64
+pub fn fog_at_least(v: f64, bound: f64) -> f64
     ensures { result ≡ at_least v bound }
 {
     at_least(v, bound)
 }
 
-#[unsafe(no_mangle)]
-pub extern "C" fn fog_at_most(v: f64, bound: f64) -> f64
+pub fn fog_at_most(v: f64, bound: f64) -> f64
     ensures { result ≡ at_most v bound }
 {
     at_most(v, bound)
 }
 
 // exp's polynomial.
-#[unsafe(no_mangle)]
-pub extern "C" fn fog_tail(r: f64) -> f64
+pub fn fog_tail(r: f64) -> f64
     ensures { result ≡ exp_tail r }
 {
     tail(r)

@@ -91,13 +91,7 @@ fn flat_params_answer(answer: ParamsAnswer) -> FlatParamsAnswer
     }
 }
 
-#[unsafe(no_mangle)]
-pub extern "C" fn fog_params_from(
-    error: u8,
-    genome: u8,
-    peak: usize,
-    theta: &[f64],
-) -> FlatParamsAnswer
+pub fn fog_params_from(error: u8, genome: u8, peak: usize, theta: &[f64]) -> FlatParamsAnswer
     ensures { result ≡ say_params (params_answer_of (error_of error) (genome_of genome) peak theta.now) }
 {
     flat_params_answer(params_from(error_of(error), genome_of(genome), peak, theta))

@@ -4,15 +4,13 @@ ghost use Rattle.models.specs.Recovery.{used_scale_of, rounded_quotient_of};
 
 use models::recovery::{rounded_quotient, used_scale};
 
-#[unsafe(no_mangle)]
-pub extern "C" fn fog_used_scale(scale: f64) -> f64
+pub fn fog_used_scale(scale: f64) -> f64
     ensures { result ≡ used_scale_of scale }
 {
     used_scale(scale)
 }
 
-#[unsafe(no_mangle)]
-pub extern "C" fn fog_rounded_quotient(n: u32, divisor: f64) -> u32
+pub fn fog_rounded_quotient(n: u32, divisor: f64) -> u32
     ensures { result ≡ rounded_quotient_of n divisor }
 {
     rounded_quotient(n, divisor)

@@ -8,23 +8,20 @@ use crate::tables::FlatPair;
 use exports::shelf::{FlatShelf, shelf_of};
 use models::shelf_rules::{concentration, retained, shelf_concentration_bounds, shelf_is_valid};
 
-#[unsafe(no_mangle)]
-pub extern "C" fn fog_retained(shelf: FlatShelf) -> f64
+pub fn fog_retained(shelf: FlatShelf) -> f64
     ensures { result ≡ retained_of (shelf_of shelf) }
 {
     retained(shelf_of(shelf))
 }
 
-#[unsafe(no_mangle)]
-pub extern "C" fn fog_concentration(shelf: FlatShelf) -> f64
+pub fn fog_concentration(shelf: FlatShelf) -> f64
     ensures { result ≡ concentration_of (shelf_of shelf) }
 {
     concentration(shelf_of(shelf))
 }
 
 // The lower bound, then the upper one.
-#[unsafe(no_mangle)]
-pub extern "C" fn fog_shelf_concentration_bounds(retained: f64) -> FlatPair
+pub fn fog_shelf_concentration_bounds(retained: f64) -> FlatPair
     ensures { result ≡ of_bounds (bounds_of retained) }
 {
     let bounds = shelf_concentration_bounds(retained);
@@ -34,8 +31,7 @@ pub extern "C" fn fog_shelf_concentration_bounds(retained: f64) -> FlatPair
     }
 }
 
-#[unsafe(no_mangle)]
-pub extern "C" fn fog_shelf_is_valid(shelf: FlatShelf) -> bool
+pub fn fog_shelf_is_valid(shelf: FlatShelf) -> bool
     ensures { result ≡ shelf_is_valid_of (shelf_of shelf) }
 {
     shelf_is_valid(shelf_of(shelf))

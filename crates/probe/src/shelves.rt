@@ -9,8 +9,7 @@ use exports::shelf::{FlatShelf, part_of};
 use helpers::shelves::{ShelfLogs, mix_entry, shelf_logs};
 
 // The log of the rest, then that of the share.
-#[unsafe(no_mangle)]
-pub extern "C" fn fog_shelf_logs(present: u8, shelf: FlatShelf) -> FlatPair
+pub fn fog_shelf_logs(present: u8, shelf: FlatShelf) -> FlatPair
     ensures { result ≡ of_shelf_logs (shelf_logs_of (part_of present shelf)) }
 {
     let logs = shelf_logs(part_of(present, shelf));
@@ -20,8 +19,7 @@ pub extern "C" fn fog_shelf_logs(present: u8, shelf: FlatShelf) -> FlatPair
     }
 }
 
-#[unsafe(no_mangle)]
-pub extern "C" fn fog_mix_entry(
+pub fn fog_mix_entry(
     lobe: f64,
     count: f64,
     present: u8,

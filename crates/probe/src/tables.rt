@@ -15,8 +15,7 @@ pub struct FlatPair {
     pub second: f64,
 }
 
-#[unsafe(no_mangle)]
-pub extern "C" fn fog_power_at(i: u64) -> FlatPair
+pub fn fog_power_at(i: u64) -> FlatPair
     ensures { result ≡ of_power (power_of (i % 32)) }
 {
     let row = power_at(i);
@@ -26,8 +25,7 @@ pub extern "C" fn fog_power_at(i: u64) -> FlatPair
     }
 }
 
-#[unsafe(no_mangle)]
-pub extern "C" fn fog_piece_at(i: u64) -> FlatPair
+pub fn fog_piece_at(i: u64) -> FlatPair
     ensures { result ≡ pair_of (piece_of (i % 128)) }
 {
     let row = piece_at(i);
@@ -37,8 +35,7 @@ pub extern "C" fn fog_piece_at(i: u64) -> FlatPair
     }
 }
 
-#[unsafe(no_mangle)]
-pub extern "C" fn fog_log_at(i: u64) -> FlatPair
+pub fn fog_log_at(i: u64) -> FlatPair
     ensures { result ≡ pair_of (log_of (i % 128)) }
 {
     let row = log_at(i);
@@ -49,8 +46,7 @@ pub extern "C" fn fog_log_at(i: u64) -> FlatPair
 }
 
 // Number i of the Pareto starts, and 0 behind the last.
-#[unsafe(no_mangle)]
-pub extern "C" fn fog_pareto_start(i: usize) -> f64
+pub fn fog_pareto_start(i: usize) -> f64
     ensures { result ≡ entry_or0 pareto_starts i }
 {
     let starts = pareto_starts();
@@ -58,8 +54,7 @@ pub extern "C" fn fog_pareto_start(i: usize) -> f64
 }
 
 // Number i of the Weibull starts, and 0 behind the last.
-#[unsafe(no_mangle)]
-pub extern "C" fn fog_weibull_start(i: usize) -> f64
+pub fn fog_weibull_start(i: usize) -> f64
     ensures { result ≡ entry_or0 weibull_starts i }
 {
     let starts = weibull_starts();

@@ -98,8 +98,7 @@ pub fn exp(x: f64) -> f64
     out_of_range(x)
 }
 
-#[unsafe(no_mangle)]
-pub extern "C" fn fog_exp(x: f64) -> f64
+pub fn fog_exp(x: f64) -> f64
     ensures { result ≡ exp_of x }
 {
     exp(x)

@@ -82,8 +82,7 @@ pub fn expm1(x: f64) -> f64
     far_out(x)
 }
 
-#[unsafe(no_mangle)]
-pub extern "C" fn fog_expm1(x: f64) -> f64
+pub fn fog_expm1(x: f64) -> f64
     ensures { result ≡ expm1_of x }
 {
     expm1(x)

@@ -80,8 +80,7 @@ pub fn lgamma(x: f64) -> f64
     above_zero(x)
 }
 
-#[unsafe(no_mangle)]
-pub extern "C" fn fog_lgamma(x: f64) -> f64
+pub fn fog_lgamma(x: f64) -> f64
     ensures { result ≡ lgamma_of x }
 {
     lgamma(x)

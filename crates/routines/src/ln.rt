@@ -108,8 +108,7 @@ pub fn ln(x: f64) -> f64
     beside_zero(x, core(w, offset))
 }
 
-#[unsafe(no_mangle)]
-pub extern "C" fn fog_ln(x: f64) -> f64
+pub fn fog_ln(x: f64) -> f64
     ensures { result ≡ ln_of x }
 {
     ln(x)

@@ -21,6 +21,7 @@ pub(crate) struct Lent {
 }
 
 // 10 where a slice that every run has a part in is too short, and 0 for none.
+#[tactic(auto, unfolding(crate::specs::Refusing::short_runs))]
 fn runs_refusal(problem: Problem, runs: usize, lent: Lent) -> u8
     requires { runs ≤ most }
     ensures { result ≡ first_of (short_runs problem runs lent) }
@@ -39,6 +40,7 @@ fn runs_refusal(problem: Problem, runs: usize, lent: Lent) -> u8
 }
 
 // The first number of 1, 2, 4, 5, 6, 7, 10 that applies, and 0 for none.
+#[tactic(auto, unfolding(crate::specs::Refusing::search_tests, models::specs::Refusals::bins_tests, models::specs::Refusals::spectrum_tests))]
 pub(crate) fn search_refusal(
     bins: &[u32],
     problem: Problem,

@@ -153,6 +153,7 @@ fn write_found(
 }
 
 // 2 or 10, and 0 for none.
+#[tactic(auto, unfolding(crate::specs::Reporting::report_tests))]
 fn report_refusal(w: usize, runs: usize, lent: Columns) -> u8
     requires { w ≤ 12 }
     ensures { result ≡ first_of (report_tests w runs lent) }

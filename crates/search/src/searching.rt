@@ -90,24 +90,24 @@ pub fn run_searches(
         ≡ on_give (run_searches_of bins.now problem runs (lent_of simplexes.old
         iterations.old stopped.old ready.old table.old)) (simplexes_after
         (width_of problem) simplexes.old iterations.old stopped.old runs (price_of
-        bins.now problem (length table.old)) (cap_of problem.genome) limit) simplexes.entry.now }
+        bins.now problem (length table.old)) (cap_of problem.genome) limit) simplexes.old }
     ensures iterations_after { iterations.new
         ≡ on_give (run_searches_of bins.now problem runs (lent_of simplexes.old
         iterations.old stopped.old ready.old table.old)) (iterations_after
         (width_of problem) simplexes.old iterations.old stopped.old runs (price_of
-        bins.now problem (length table.old)) (cap_of problem.genome) limit) iterations.entry.now }
+        bins.now problem (length table.old)) (cap_of problem.genome) limit) iterations.old }
     ensures stopped_after { stopped.new
         ≡ on_give (run_searches_of bins.now problem runs (lent_of simplexes.old
         iterations.old stopped.old ready.old table.old)) (stopped_after
         (width_of problem) simplexes.old iterations.old stopped.old runs (price_of
-        bins.now problem (length table.old)) (cap_of problem.genome) limit) stopped.entry.now }
+        bins.now problem (length table.old)) (cap_of problem.genome) limit) stopped.old }
     ensures ready_after { ready.new
         ≡ ready_after problem (run_searches_of bins.now problem runs (lent_of simplexes.old
-        iterations.old stopped.old ready.old table.old)) ready.entry.now }
-    ensures table_value { drop (stood_from problem (run_searches_of bins.now problem runs (lent_of simplexes.old
-        iterations.old stopped.old ready.old table.old))) table.exit.now
+        iterations.old stopped.old ready.old table.old)) ready.old }
+    ensures table_unchanged { drop (stood_from problem (run_searches_of bins.now problem runs (lent_of simplexes.old
+        iterations.old stopped.old ready.old table.old))) table.new
         ≡ drop (stood_from problem (run_searches_of bins.now problem runs (lent_of simplexes.old
-        iterations.old stopped.old ready.old table.old))) table.entry.now }
+        iterations.old stopped.old ready.old table.old))) table.old }
 {
     let lent = Lent {
         simplexes: simplexes.len(),

@@ -1,12 +1,12 @@
 -- The whole part of a number and its millionths, where a million is carried and where it is not. Assumes nothing.
 use Prim.Native.Nat.{ℕ}
 use mathlib.Core.Path.{◌≡◌, sym, ap, ◌∙◌}
-use mathlib.Core.Bool.{Bool, true, false, cond}
+use mathlib.Core.Bool.{Bool, true, false}
 use lib.Ieee.{Float, le, to_unsigned}
 use Rattle.routines.specs.Constants.{one}
 use Rattle.routines.specs.Ops.{◌⊕◌, ◌⊖◌, ◌⊗◌}
 use Rattle.routines.specs.Whole.{round_of, floor_of}
-use Rattle.templates.specs.Floats.{MILLION, rest_of, carries, whole_of, millionths_of}
+use Rattle.templates.specs.Floats.{MILLION, carries, whole_of, millionths_of}
 
 module _ (t f r : Float) (low : f ≡ floor_of t) (rest : r ≡ round_of ((t ⊖ f) ⊗ MILLION)) where
   tells : (b : Bool) → le MILLION r ≡ b → carries t ≡ b

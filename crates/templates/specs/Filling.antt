@@ -4,7 +4,7 @@
 --     {a|b|c}   the part whose number, from 0, is the value
 -- Braces do not nest, and a bar stands between braces alone. Marks in a part that is not shown take their values too, so
 -- that each mark's value has its place. Behind the last value come zeros. Definitions only. Assumes nothing.
-use Rattle.std.specs.Prelude.{ℕ, suc, ◌-◌, ◌+◌, Bool, ◌||◌, cond, List, [], ◌∷◌, ◌++◌, eqb, ltb, length, get_or}
+use Rattle.std.specs.Prelude.{ℕ, ◌-◌, ◌+◌, Bool, ◌||◌, cond, List, [], ◌∷◌, ◌++◌, eqb, ltb, length, get_or}
 use Rattle.listing.specs.Decimal.{decimal_of}
 use Rattle.templates.specs.Floats.{float_of}
 use Rattle.templates.specs.declared.filling.State.{State}

@@ -23,19 +23,19 @@ stands : (answer : Problem → Reply ℕ) (p q : Problem) (before after : List F
 stands answer p q before after e h =
     subst (λ (x : Problem). drop (stood_from x (answer x)) after ≡ drop (stood_from x (answer x)) before) e h
 
-abbrev called : tie.After-flat-written → tie.After-begin-searches
+abbrev called : tie.After-flat_written → tie.After-begin_searches-answer
 called c = search
 
-abbrev made : tie.After-flat-written → tie.After-problem-of
+abbrev made : tie.After-flat_written → tie.After-problem_of-problem
 made c = search
 
-abbrev start : tie.After-flat-written → tie.Start
+abbrev start : tie.After-flat_written → tie.Start
 start c = search
 
 returns : tie.Need-returns
 returns c =
-    let said = (called c).begin-searches.ensures in
-    let e = (made c).problem-of.ensures in
+    let said = (called c).begin_searches-answer.ensures in
+    let e = (made c).problem_of-problem.ensures in
     let a = (start c).args in
     let B = a.bins.now in
     let X = a.simplexes.now in
@@ -44,7 +44,7 @@ returns c =
     let R = a.ready.now in
     let T = a.table.now in
     let w = said.0 ∙ (λ j. begin_searches_of B (e j) a.starts.now (lent_of X I S R T)) in (
-      c.flat-written.ensures ∙ (λ j. say_written (w j)),
+      c.flat_written.ensures ∙ (λ j. say_written (w j)),
       (
         said.1.0 ∙ (λ j. on_give (begin_searches_of B (e j) a.starts.now (lent_of X I S R T)) (simplexes_begun (price_of B (e j) (length T)) (size_of (e j)) a.starts.now (runs_in (e j) a.starts.now) X) X),
         (
@@ -60,8 +60,16 @@ returns c =
       ),
     )
 
-pub fog-begin-searches-spec : {M : Type 1} → statement M
-fog-begin-searches-spec =
+pub fog_begin_searches_spec : {M : Type 1} → statement M
+fog_begin_searches_spec =
     tie.close
-    (tie.spec (λ c κs. search rules) (λ c κs. search rules) (λ c κs. search rules) (λ c. search rules)
-    (λ c. search rules) (λ c. search rules) (λ c. search rules) (λ c. search rules) returns)
+    (tie.spec
+    (λ c κs. search rules)
+    (λ c κs. search rules)
+    (λ c κs. search rules)
+    (λ c. search rules)
+    (λ c. search rules)
+    (λ c. search rules)
+    (λ c. search rules)
+    (λ c. search rules)
+    returns)

@@ -13,20 +13,20 @@ use Rattle.exports.specs.Flat.{say_written}
 use Rattle.exports.proofs.searches.fog_report_searches.Statement.{statement}
 use Rattle.exports.proofs.searches.fog_report_searches.Tie as tie
 
-abbrev called : tie.After-flat-written → tie.After-report-searches
+abbrev called : tie.After-flat_written → tie.After-report_searches-answer
 called c = search
 
-abbrev made : tie.After-flat-written → tie.After-genome-of
+abbrev made : tie.After-flat_written → tie.After-genome_of-lobes
 made c = search
 
-abbrev start : tie.After-flat-written → tie.Start
+abbrev start : tie.After-flat_written → tie.Start
 start c = search
 
 returns : tie.Need-returns
 returns c =
-    let said = (called c).report-searches.ensures in
-    let t = (made c).before.error-of.ensures in
-    let l = (made c).genome-of.ensures in
+    let said = (called c).report_searches-answer.ensures in
+    let t = (made c).before.error_of-tail.ensures in
+    let l = (made c).genome_of-lobes.ensures in
     let a = (start c).args in
     let X = a.simplexes.now in
     let I = a.iterations.now in
@@ -37,7 +37,7 @@ returns c =
     let N = a.lengths.now in
     let K = a.caps.now in
     let w = said.0 ∙ (λ j. report_of (t j) (l j) a.runs (columns_of X I S D C P N K)) in (
-      c.flat-written.ensures ∙ (λ j. say_written (w j)),
+      c.flat_written.ensures ∙ (λ j. say_written (w j)),
       (
         said.1.0 ∙ (λ j. on_give (report_of (t j) (l j) a.runs (columns_of X I S D C P N K)) (over (list_of (λ (i : ℕ). byte_of (reported_at (t j) (l j) a.runs X I S i).converged) a.runs) D) D),
         (
@@ -53,8 +53,17 @@ returns c =
       ),
     )
 
-pub fog-report-searches-spec : {M : Type 1} → statement M
-fog-report-searches-spec =
+pub fog_report_searches_spec : {M : Type 1} → statement M
+fog_report_searches_spec =
     tie.close
-    (tie.spec (λ c κs. search rules) (λ c κs. search rules) (λ c κs. search rules) (λ c κs. search rules)
-    (λ c. search rules) (λ c. search rules) (λ c. search rules) (λ c. search rules) (λ c. search rules) returns)
+    (tie.spec
+    (λ c κs. search rules)
+    (λ c κs. search rules)
+    (λ c κs. search rules)
+    (λ c κs. search rules)
+    (λ c. search rules)
+    (λ c. search rules)
+    (λ c. search rules)
+    (λ c. search rules)
+    (λ c. search rules)
+    returns)

@@ -22,19 +22,19 @@ stands : (answer : Problem → Reply ℕ) (p q : Problem) (before after : List F
 stands answer p q before after e h =
     subst (λ (x : Problem). drop (stood_from x (answer x)) after ≡ drop (stood_from x (answer x)) before) e h
 
-abbrev called : tie.After-flat-written → tie.After-run-searches
+abbrev called : tie.After-flat_written → tie.After-run_searches-answer
 called c = search
 
-abbrev made : tie.After-flat-written → tie.After-problem-of
+abbrev made : tie.After-flat_written → tie.After-problem_of-problem
 made c = search
 
-abbrev start : tie.After-flat-written → tie.Start
+abbrev start : tie.After-flat_written → tie.Start
 start c = search
 
 returns : tie.Need-returns
 returns c =
-    let said = (called c).run-searches.ensures in
-    let e = (made c).problem-of.ensures in
+    let said = (called c).run_searches-answer.ensures in
+    let e = (made c).problem_of-problem.ensures in
     let a = (start c).args in
     let B = a.bins.now in
     let X = a.simplexes.now in
@@ -43,7 +43,7 @@ returns c =
     let R = a.ready.now in
     let T = a.table.now in
     let w = said.0 ∙ (λ j. run_searches_of B (e j) a.runs (lent_of X I S R T)) in (
-      c.flat-written.ensures ∙ (λ j. say_written (w j)),
+      c.flat_written.ensures ∙ (λ j. say_written (w j)),
       (
         said.1.0 ∙ (λ j. on_give (run_searches_of B (e j) a.runs (lent_of X I S R T)) (simplexes_after (width_of (e j)) X I S a.runs (price_of B (e j) (length T)) (cap_of (e j).genome) a.limit) X),
         (
@@ -59,8 +59,16 @@ returns c =
       ),
     )
 
-pub fog-run-searches-spec : {M : Type 1} → statement M
-fog-run-searches-spec =
+pub fog_run_searches_spec : {M : Type 1} → statement M
+fog_run_searches_spec =
     tie.close
-    (tie.spec (λ c κs. search rules) (λ c κs. search rules) (λ c κs. search rules) (λ c. search rules)
-    (λ c. search rules) (λ c. search rules) (λ c. search rules) (λ c. search rules) returns)
+    (tie.spec
+    (λ c κs. search rules)
+    (λ c κs. search rules)
+    (λ c κs. search rules)
+    (λ c. search rules)
+    (λ c. search rules)
+    (λ c. search rules)
+    (λ c. search rules)
+    (λ c. search rules)
+    returns)

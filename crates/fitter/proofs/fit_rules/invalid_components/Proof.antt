@@ -25,70 +25,81 @@ four fit = three fit || bad_mean fit.mean
 abbrev five : SpectrumFit → Bool
 five fit = four fit || bad_dispersion fit.dispersion
 
-abbrev of_one : tie.Else1 → SpectrumFit
+abbrev of_one : tie.Else-bad_weight → SpectrumFit
 of_one c = let s : tie.Start = search in s.args.fit
 
-not-one : (c : tie.Else1) → one (of_one c) ≡ false
-not-one c = sym c.before.bad-weight.ensures ∙ c.if1.false
+not-one : (c : tie.Else-bad_weight) → one (of_one c) ≡ false
+not-one c = sym c.bad_weight.ensures ∙ c.if-bad_weight.false
 
-abbrev of_two : tie.Else2 → SpectrumFit
-of_two c = let else1 : tie.Else1 = search in of_one else1
+abbrev of_two : tie.Else-bad_weight-2 → SpectrumFit
+of_two c = let else1 : tie.Else-bad_weight = search in of_one else1
 
-not-two : (c : tie.Else2) → two (of_two c) ≡ false
-not-two c = let else1 : tie.Else1 = search in neither (not-one else1) c.before.bad-weight2.ensures c.if2.false
+not-two : (c : tie.Else-bad_weight-2) → two (of_two c) ≡ false
+not-two c = let else1 : tie.Else-bad_weight = search in neither (not-one else1) c.bad_weight-2.ensures c.if-bad_weight-2.false
 
-abbrev of_three : tie.Else3 → SpectrumFit
-of_three c = let else2 : tie.Else2 = search in of_two else2
+abbrev of_three : tie.Else-bad_weight-3 → SpectrumFit
+of_three c = let else2 : tie.Else-bad_weight-2 = search in of_two else2
 
-not_three : (c : tie.Else3) → three (of_three c) ≡ false
-not_three c = let else2 : tie.Else2 = search in neither (not-two else2) c.before.bad-weight3.ensures c.if3.false
+not_three : (c : tie.Else-bad_weight-3) → three (of_three c) ≡ false
+not_three c = let else2 : tie.Else-bad_weight-2 = search in neither (not-two else2) c.bad_weight-3.ensures c.if-bad_weight-3.false
 
-abbrev of_four : tie.Else4 → SpectrumFit
-of_four c = let else3 : tie.Else3 = search in of_three else3
+abbrev of_four : tie.Else-bad_mean → SpectrumFit
+of_four c = let else3 : tie.Else-bad_weight-3 = search in of_three else3
 
-not-four : (c : tie.Else4) → four (of_four c) ≡ false
-not-four c = let else3 : tie.Else3 = search in neither (not_three else3) c.before.bad-mean.ensures c.if4.false
+not-four : (c : tie.Else-bad_mean) → four (of_four c) ≡ false
+not-four c = let else3 : tie.Else-bad_weight-3 = search in neither (not_three else3) c.bad_mean.ensures c.if-bad_mean.false
 
-abbrev of-five : tie.Else5 → SpectrumFit
-of-five c = let else4 : tie.Else4 = search in of_four else4
+abbrev of-five : tie.Else-bad_dispersion → SpectrumFit
+of-five c = let else4 : tie.Else-bad_mean = search in of_four else4
 
-not_five : (c : tie.Else5) → five (of-five c) ≡ false
+not_five : (c : tie.Else-bad_dispersion) → five (of-five c) ≡ false
 not_five c =
-    let else4 : tie.Else4 = search in
-    neither (not-four else4) c.before.bad-dispersion.ensures c.if5.false
+    let else4 : tie.Else-bad_mean = search in
+    neither (not-four else4) c.bad_dispersion.ensures c.if-bad_dispersion.false
 
-returns : tie.Need-returns
+returns : tie.Need-returns-then-bad_weight
 unfolding invalid_components
-returns c = rw (sym c.before.bad-weight.ensures ∙ c.if1.true)
+returns c = rw (sym c.bad_weight.ensures ∙ c.if-bad_weight.true)
 
-returns-2 : tie.Need-returns-2
+returns-2 : tie.Need-returns-then-bad_weight-2
 unfolding invalid_components
 returns-2 c =
-    let else1 : tie.Else1 = search in
-    rw (not-one else1, sym c.before.bad-weight2.ensures ∙ c.if2.true)
+    let else1 : tie.Else-bad_weight = search in
+    rw (not-one else1, sym c.bad_weight-2.ensures ∙ c.if-bad_weight-2.true)
 
-returns-3 : tie.Need-returns-3
+returns-3 : tie.Need-returns-then-bad_weight-3
 unfolding invalid_components
 returns-3 c =
-    let else2 : tie.Else2 = search in
-    rw (not-two else2, sym c.before.bad-weight3.ensures ∙ c.if3.true)
+    let else2 : tie.Else-bad_weight-2 = search in
+    rw (not-two else2, sym c.bad_weight-3.ensures ∙ c.if-bad_weight-3.true)
 
-returns-4 : tie.Need-returns-4
+returns-4 : tie.Need-returns-then-bad_mean
 unfolding invalid_components
-returns-4 c = let else3 : tie.Else3 = search in rw (not_three else3, sym c.before.bad-mean.ensures ∙ c.if4.true)
+returns-4 c = let else3 : tie.Else-bad_weight-3 = search in rw (not_three else3, sym c.bad_mean.ensures ∙ c.if-bad_mean.true)
 
-returns-5 : tie.Need-returns-5
+returns-5 : tie.Need-returns-then-bad_dispersion
 unfolding invalid_components
 returns-5 c =
-    let else4 : tie.Else4 = search in
-    rw (not-four else4, sym c.before.bad-dispersion.ensures ∙ c.if5.true)
+    let else4 : tie.Else-bad_mean = search in
+    rw (not-four else4, sym c.bad_dispersion.ensures ∙ c.if-bad_dispersion.true)
 
-returns-6 : tie.Need-returns-6
+returns-6 : tie.Need-returns
 unfolding invalid_components
-returns-6 c = rw (not_five c.before) c.bad-shelf.ensures
+returns-6 c = rw (not_five c.before) c.bad_shelf.ensures
 
-pub invalid-components-spec : {M : Type 1} → statement M
-invalid-components-spec =
+pub invalid_components_spec : {M : Type 1} → statement M
+invalid_components_spec =
     tie.close
-    (tie.spec (λ c κs. search rules) returns (λ c κs. search rules) returns-2 (λ c κs. search rules) returns-3
-    (λ c κs. search rules) returns-4 (λ c κs. search rules) returns-5 (λ c κs. search rules) returns-6)
+    (tie.spec
+    (λ c κs. search rules)
+    returns
+    (λ c κs. search rules)
+    returns-2
+    (λ c κs. search rules)
+    returns-3
+    (λ c κs. search rules)
+    returns-4
+    (λ c κs. search rules)
+    returns-5
+    (λ c κs. search rules)
+    returns-6)

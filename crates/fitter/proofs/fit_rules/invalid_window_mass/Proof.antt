@@ -18,32 +18,40 @@ one fit = bad_mass (get_or fit.component_log_window_masses 0 nan)
 abbrev two : SpectrumFit → Bool
 two fit = one fit || bad_mass (get_or fit.component_log_window_masses 1 nan)
 
-abbrev of_one : tie.Else1 → SpectrumFit
+abbrev of_one : tie.Else-bad_mass → SpectrumFit
 of_one c = let s : tie.Start = search in s.args.fit
 
-not-one : (c : tie.Else1) → one (of_one c) ≡ false
-not-one c = sym c.before.bad-mass.ensures ∙ c.if1.false
+not-one : (c : tie.Else-bad_mass) → one (of_one c) ≡ false
+not-one c = sym c.bad_mass.ensures ∙ c.if-bad_mass.false
 
-abbrev of_two : tie.Else2 → SpectrumFit
-of_two c = let else1 : tie.Else1 = search in of_one else1
+abbrev of_two : tie.Else-bad_mass-2 → SpectrumFit
+of_two c = let else1 : tie.Else-bad_mass = search in of_one else1
 
-not-two : (c : tie.Else2) → two (of_two c) ≡ false
-not-two c = let else1 : tie.Else1 = search in neither (not-one else1) c.before.bad-mass2.ensures c.if2.false
+not-two : (c : tie.Else-bad_mass-2) → two (of_two c) ≡ false
+not-two c = let else1 : tie.Else-bad_mass = search in neither (not-one else1) c.bad_mass-2.ensures c.if-bad_mass-2.false
 
-returns : tie.Need-returns
+returns : tie.Need-returns-then-bad_mass
 unfolding invalid_window_mass
-returns c = rw (sym c.before.bad-mass.ensures ∙ c.if1.true)
+returns c = rw (sym c.bad_mass.ensures ∙ c.if-bad_mass.true)
 
-returns-2 : tie.Need-returns-2
+returns-2 : tie.Need-returns-then-bad_mass-2
 unfolding invalid_window_mass
-returns-2 c = let else1 : tie.Else1 = search in rw (not-one else1, sym c.before.bad-mass2.ensures ∙ c.if2.true)
+returns-2 c = let else1 : tie.Else-bad_mass = search in rw (not-one else1, sym c.bad_mass-2.ensures ∙ c.if-bad_mass-2.true)
 
-returns-3 : tie.Need-returns-3
+returns-3 : tie.Need-returns
 unfolding invalid_window_mass
-returns-3 c = rw (not-two c.before) c.bad-mass3.ensures
+returns-3 c = rw (not-two c.before) c.bad_mass-3.ensures
 
-pub invalid-window-mass-spec : {M : Type 1} → statement M
-invalid-window-mass-spec =
+pub invalid_window_mass_spec : {M : Type 1} → statement M
+invalid_window_mass_spec =
     tie.close
-    (tie.spec (λ c. search rules) (λ c κs. search rules) returns (λ c. search rules) (λ c κs. search rules) returns-2
-    (λ c. search rules) (λ c κs. search rules) returns-3)
+    (tie.spec
+    (λ c. search rules)
+    (λ c κs. search rules)
+    returns
+    (λ c. search rules)
+    (λ c κs. search rules)
+    returns-2
+    (λ c. search rules)
+    (λ c κs. search rules)
+    returns-3)

@@ -11,45 +11,52 @@ use Rattle.fitter.proofs.Recovered.{recovered-length, too_few, too_many, too_sho
 use Rattle.fitter.proofs.recovering.recover_bins.Statement.{statement}
 use Rattle.fitter.proofs.recovering.recover_bins.Tie as tie
 
-returns : tie.Need-returns
+returns : tie.Need-returns-then-bins-lt2
 returns c =
     let s : tie.Start = search in
     let a = s.args in
-    rw (too_few a.bins.now a.scale (length a.out.now) c.if1.true) (refl, refl)
+    rw (too_few a.bins.now a.scale (length a.out.now) c.if-bins-lt2.true) (refl, refl)
 
-returns-2 : tie.Need-returns-2
+returns-2 : tie.Need-returns-then-bins-gt-MOST
 returns-2 c =
     let s : tie.Start = search in
     let a = s.args in
-    rw (too_many a.bins.now a.scale (length a.out.now) c.before.if1.false c.if2.true) (refl, refl)
+    rw (too_many a.bins.now a.scale (length a.out.now) c.if-bins-lt2.false c.if-bins-gt-MOST.true) (refl, refl)
 
 -- where neither 1 nor 2 came
-abbrev start : tie.Else2 → tie.Start
+abbrev start : tie.Else-bins-gt-MOST → tie.Start
 start c = search
 
-returns-3 : tie.Need-returns-3
+returns-3 : tie.Need-returns-then-out-bins
 returns-3 c =
     let e = c.before in
     let a = (start e).args in
-    rw (too_short a.bins.now a.scale (length a.out.now) e.before.if1.false e.if2.false c.if3.true)
+    rw (too_short a.bins.now a.scale (length a.out.now) e.if-bins-lt2.false e.if-bins-gt-MOST.false c.if-out-bins.true)
     (refl, refl)
 
-write-bins-requires : tie.Need-write-bins-requires
-write-bins-requires c κs = let else3 : tie.Else3 = search in else3.if3.left
+write-bins-requires : tie.Need-write_bins-requires
+write-bins-requires c κs = let else3 : tie.Else-out-bins = search in else3.if-out-bins.false
 
-returns-4 : tie.Need-returns-4
+returns-4 : tie.Need-returns
 returns-4 c =
-    let w : tie.After-write-bins = search in
-    let u : tie.After-used-scale = search in
-    let e : tie.Else2 = search in
+    let w : tie.After-write_bins = search in
+    let u : tie.After-used_scale = search in
+    let e : tie.Else-bins-gt-MOST = search in
     let a = (start e).args in
     rw
-    (recovers a.bins.now a.scale (length a.out.now) e.before.if1.left e.if2.left u.before.if3.left) (
+    (recovers a.bins.now a.scale (length a.out.now) e.if-bins-lt2.false e.if-bins-gt-MOST.false u.if-out-bins.false) (
       ap give (sym (recovered-length _ a.bins.now)),
-      w.write-bins.ensures ∙ ap (λ (x : Float). over (recovered x a.bins.now) a.out.now) u.used-scale.ensures,
+      w.write_bins.ensures ∙ ap (λ (x : Float). over (recovered x a.bins.now) a.out.now) u.used_scale.ensures,
     )
 
-pub recover-bins-spec : {M : Type 1} → statement M
-recover-bins-spec =
+pub recover_bins_spec : {M : Type 1} → statement M
+recover_bins_spec =
     tie.close
-    (tie.spec returns returns-2 returns-3 (λ c κs. search rules) write-bins-requires (λ c. search rules) returns-4)
+    (tie.spec
+    returns
+    returns-2
+    returns-3
+    (λ c κs. search rules)
+    write-bins-requires
+    (λ c. search rules)
+    returns-4)

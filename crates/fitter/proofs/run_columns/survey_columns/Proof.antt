@@ -15,36 +15,30 @@ use Rattle.fitter.proofs.Surveyed.{point-step}
 use Rattle.fitter.proofs.run_columns.survey_columns.Statement.{statement}
 use Rattle.fitter.proofs.run_columns.survey_columns.Tie as tie
 
-abbrev invariant-loop : tie.invariant-loop
+abbrev invariant-loop : tie.invariant-loop-i
 invariant-loop converged costs places lengths iterations caps lent wanted n s₀ i₀ s i =
     Folded
     (λ (j : ℕ) (t : Survey). survey_step lent wanted j (run_of converged costs places lengths iterations caps j) t)
     no_survey 0 n s i
 
-abbrev decreases-loop : tie.decreases-loop
+abbrev decreases-loop : tie.decreases-loop-i
 decreases-loop converged costs places lengths iterations caps lent wanted n s₀ i₀ s i = n - i
 
-loop-holds : tie.Need-loop-init invariant-loop decreases-loop
-loop-holds c = begins _ _ _ _ _ zero-le c.no-survey.ensures
+loop-holds : tie.Need-loop-i-init invariant-loop decreases-loop
+loop-holds c = begins _ _ _ _ _ zero-le c.no_survey-s.ensures
 
-run-at-requires : tie.Need-run-at-requires invariant-loop decreases-loop
+run-at-requires : tie.Need-run_at-run-requires invariant-loop decreases-loop
 run-at-requires c κs =
-    let after-run-count : tie.After-run-count invariant-loop decreases-loop = search in
-    let l = c.before in
-    subst (λ (m : ℕ). l.loop.i < m) after-run-count.run-count.ensures c.loop-test.true
-
-enum-known-point : tie.Need-enum-known-point invariant-loop decreases-loop
-enum-known-point c = c.match.keys1
-
-enum_told : tie.Need-enum-told invariant-loop decreases-loop
-enum_told c = c.match.keys2
+    let after-run-count : tie.After-run_count-n invariant-loop decreases-loop = search in
+    let l = c in
+    subst (λ (m : ℕ). l.loop-i.i < m) after-run-count.run_count-n.ensures c.loop-i-test.true
 
 -- ---- one turn, from the run's answer on
-module _ (p : tie.After-run-point invariant-loop decreases-loop) where
-  abbrev turn : tie.In-loop invariant-loop decreases-loop
+module _ (p : tie.After-run_point-point invariant-loop decreases-loop) where
+  abbrev turn : tie.In-loop-i invariant-loop decreases-loop
   turn = search
 
-  abbrev loop : tie.At-loop invariant-loop decreases-loop
+  abbrev loop : tie.At-loop-i invariant-loop decreases-loop
   loop = turn.before
 
   abbrev start : tie.Start invariant-loop decreases-loop
@@ -54,76 +48,91 @@ module _ (p : tie.After-run-point invariant-loop decreases-loop) where
   ran =
       let a = start.args in
       run_of a.converged.now a.costs.now a.places.now a.lengths.now a.iterations.now a.caps.now
-      loop.loop.i
+      loop.loop-i.i
 
-  run_is : p.before.before.run_at.result ≡ ran
-  run_is = let after-run-at : tie.After-run-at invariant-loop decreases-loop = search in after-run-at.run_at.ensures
+  run_is : p.run_at-run.result ≡ ran
+  run_is = let after-run-at : tie.After-run_at-run invariant-loop decreases-loop = search in after-run-at.run_at-run.ensures
 
-  counted : p.before.count-run.result ≡ count_of ran loop.loop.s
-  counted = p.before.count-run.ensures ∙ ap (λ (r : Run). count_of r loop.loop.s) run_is
+  counted : p.count_run-s.result ≡ count_of ran loop.loop-i.s
+  counted = p.count_run-s.ensures ∙ ap (λ (r : Run). count_of r loop.loop-i.s) run_is
 
-  point-is : (q : RunPoint) → p.run-point.result ≡ q
-      → after_point start.args.lent start.args.wanted loop.loop.i ran q (count_of ran loop.loop.s)
-      ≡ survey_step start.args.lent start.args.wanted loop.loop.i ran loop.loop.s
+  point-is : (q : RunPoint) → p.run_point-point.result ≡ q
+      → after_point start.args.lent start.args.wanted loop.loop-i.i ran q (count_of ran loop.loop-i.s)
+      ≡ survey_step start.args.lent start.args.wanted loop.loop-i.i ran loop.loop-i.s
   point-is q e =
-      point-step start.args.lent start.args.wanted loop.loop.i ran loop.loop.s q
-      (sym e ∙ p.run-point.ensures ∙ ap point_of run_is)
+      point-step start.args.lent start.args.wanted loop.loop-i.i ran loop.loop-i.s q
+      (sym e ∙ p.run_point-point.ensures ∙ ap point_of run_is)
 
-add-i : tie.Need-overflow-add-i invariant-loop decreases-loop
+add-i : tie.Need-overflow_step-i invariant-loop decreases-loop
 add-i c =
-    let after-run-count : tie.After-run-count invariant-loop decreases-loop = search in
-    let t : tie.In-loop invariant-loop decreases-loop = search in
-    omega (arith, t.loop-test.taken, after-run-count.run-count.ok)
+    let after-run-count : tie.After-run_count-n invariant-loop decreases-loop = search in
+    let t : tie.In-loop-i invariant-loop decreases-loop = search in
+    omega (arith, t.loop-i-test.true, after-run-count.run_count-n.type_inv)
 
-loop-less : tie.Need-loop-smaller invariant-loop decreases-loop
-loop-less c = let t : tie.In-loop invariant-loop decreases-loop = search in omega (arith, t.loop-test.taken)
+loop-less : tie.Need-loop-i-smaller-in_default invariant-loop decreases-loop
+loop-less c = let t : tie.In-loop-i invariant-loop decreases-loop = search in omega (arith, t.loop-i-test.true)
 
-loop-again : tie.Need-loop-preserved invariant-loop decreases-loop
+loop-again : tie.Need-loop-i-preserved-in_default invariant-loop decreases-loop
 loop-again c =
-    let p : tie.After-run-point invariant-loop decreases-loop = search in
-    goes_on _ _ _ _ (loop p).loop.inv _ (turn p).loop-test.taken
-    (counted p ∙ point-is p RunPoint.Missing c.enum_told.given.1)
+    let p : tie.After-run_point-point invariant-loop decreases-loop = search in
+    goes_on _ _ _ _ (loop p).loop-i.invariant _ (turn p).loop-i-test.true
+    (counted p ∙ point-is p RunPoint.Missing c.in_default.is)
 
-add-i-2 : tie.Need-overflow-add-i-2 invariant-loop decreases-loop
+add-i-2 : tie.Need-overflow_step-i-in-loop-i invariant-loop decreases-loop
 add-i-2 c =
-    let after-run-count : tie.After-run-count invariant-loop decreases-loop = search in
-    let t : tie.In-loop invariant-loop decreases-loop = search in
-    omega (arith, t.loop-test.taken, after-run-count.run-count.ok)
+    let after-run-count : tie.After-run_count-n invariant-loop decreases-loop = search in
+    let t : tie.In-loop-i invariant-loop decreases-loop = search in
+    omega (arith, t.loop-i-test.true, after-run-count.run_count-n.type_inv)
 
-loop-less-2 : tie.Need-loop-smaller-2 invariant-loop decreases-loop
-loop-less-2 c = let t : tie.In-loop invariant-loop decreases-loop = search in omega (arith, t.loop-test.taken)
+loop-less-2 : tie.Need-loop-i-smaller invariant-loop decreases-loop
+loop-less-2 c = let t : tie.In-loop-i invariant-loop decreases-loop = search in omega (arith, t.loop-i-test.true)
 
-loop-again-2 : tie.Need-loop-preserved-2 invariant-loop decreases-loop
+loop-again-2 : tie.Need-loop-i-preserved invariant-loop decreases-loop
 loop-again-2 c =
-    let k : tie.After-point invariant-loop decreases-loop = search in
-    let g = k.point.given in
-    let p : tie.After-run-point invariant-loop decreases-loop = search in
+    let k : tie.In-Converged invariant-loop decreases-loop = search in
+    let p : tie.After-run_point-point invariant-loop decreases-loop = search in
     let a = (start p).args in
-    let i = (loop p).loop.i in
-    goes_on _ _ _ _ (loop p).loop.inv _ (turn p).loop-test.taken
-    (c.weigh-run.ensures
-    ∙ ap (λ (r : Run). weigh_of a.lent a.wanted i r g.0.0 g.0.1.0 p.before.count-run.result)
+    let i = (loop p).loop-i.i in
+    goes_on _ _ _ _ (loop p).loop-i.invariant _ (turn p).loop-i-test.true
+    (c.weigh_run-s.ensures
+    ∙ ap (λ (r : Run). weigh_of a.lent a.wanted i r k.in-Converged.cost k.in-Converged.place p.count_run-s.result)
     (run_is p)
-    ∙ ap (λ (s : Survey). weigh_of a.lent a.wanted i (ran p) g.0.0 g.0.1.0 s) (counted p)
-    ∙ point-is p (RunPoint.Converged g.0.0 g.0.1.0) g.1)
+    ∙ ap (λ (s : Survey). weigh_of a.lent a.wanted i (ran p) k.in-Converged.cost k.in-Converged.place s) (counted p)
+    ∙ point-is p (RunPoint.Converged k.in-Converged.cost k.in-Converged.place) k.in-Converged.is)
 
 returns : tie.Need-returns invariant-loop decreases-loop
 unfolding survey_of
 returns c =
-    let after-run-count : tie.After-run-count invariant-loop decreases-loop = search in
+    let after-run-count : tie.After-run_count-n invariant-loop decreases-loop = search in
     let s : tie.Start invariant-loop decreases-loop = search in
-    let l = c.before in
-    let n = after-run-count.run-count in
+    let l = c in
+    let n = after-run-count.run_count-n in
     let a = s.args in
-    ends _ _ _ _ l.loop.invariant c.loop-test.false
+    ends _ _ _ _ l.loop-i.invariant c.loop-i-test.false
     ∙ ap
     (survey_of a.lent a.wanted
     (run_of a.converged.now a.costs.now a.places.now a.lengths.now a.iterations.now a.caps.now))
     n.ensures
 
-pub survey-columns-spec : {M : Type 1} → statement M
-survey-columns-spec =
+pub survey_columns_spec : {M : Type 1} → statement M
+survey_columns_spec =
     tie.close
-    (tie.spec invariant-loop decreases-loop (λ c κs. search rules) (λ c κs. search rules) loop-holds run-at-requires
-    (λ c κs. search rules) (λ c κs. search rules) enum-known-point enum_told add-i loop-less loop-again
-    (λ c κs. search rules) add-i-2 loop-less-2 loop-again-2 returns)
+    (tie.spec
+    invariant-loop
+    decreases-loop
+    (λ c κs. search rules)
+    (λ c κs. search rules)
+    loop-holds
+    run-at-requires
+    (λ c κs. search rules)
+    (λ c κs. search rules)
+    (λ c. search rules)
+    (λ c. search rules)
+    add-i
+    loop-less
+    loop-again
+    (λ c κs. search rules)
+    add-i-2
+    loop-less-2
+    loop-again-2
+    returns)

@@ -11,77 +11,85 @@ use borrow.Author.Rules.{rules}
 use Rattle.fitter.proofs.start_writers.write_plain.Statement.{statement}
 use Rattle.fitter.proofs.start_writers.write_plain.Tie as tie
 
-abbrev start : tie.After-ratio-start → tie.Start
+abbrev start : tie.After-ratio_start-ratio → tie.Start
 start r = search
 
-weibull-is : (t : tie.After-enum-told) → let after-logit : tie.After-logit = search in
-    let after-ln : tie.After-ln = search in let after-dispersion-start : tie.After-dispersion-start = search in
-    let r : tie.After-ratio-start = search in
+weibull-is : (t : tie.In-FreeSingletonWeibull) → let after-logit : tie.After-logit-single = search in
+    let after-ln : tie.After-ln-tail = search in let after-dispersion-start : tie.After-dispersion_start-dispersion = search in
+    let r : tie.After-ratio_start-ratio = search in
     let a = (start r).args in
     plain_start a.error a.seed a.start
-    ≡ weibull_list after-dispersion-start.dispersion-start.result after-ln.ln.result
-    after-logit.logit.result r.before.ln2.result r.ratio-start.result
+    ≡ weibull_list after-dispersion-start.dispersion_start-dispersion.result after-ln.ln-tail.result
+    after-logit.logit-single.result r.ln-shape.result r.ratio_start-ratio.result
 weibull-is t =
-    let after-logit : tie.After-logit = search in
-    let after-ln : tie.After-ln = search in
-    let after-dispersion-start : tie.After-dispersion-start = search in
-    let r : tie.After-ratio-start = search in
+    let after-logit : tie.After-logit-single = search in
+    let after-ln : tie.After-ln-tail = search in
+    let after-dispersion-start : tie.After-dispersion_start-dispersion = search in
+    let r : tie.After-ratio_start-ratio = search in
     let a = (start r).args in
-    weibull-start a.error a.seed a.start _ _ _ _ after-dispersion-start.dispersion-start.ensures
-    after-ln.ln.ensures after-logit.logit.ensures r.ratio-start.ensures
-    t.enum_told.given.1 _ r.before.ln2.ensures
+    weibull-start a.error a.seed a.start _ _ _ _ after-dispersion-start.dispersion_start-dispersion.ensures
+    after-ln.ln-tail.ensures after-logit.logit-single.ensures r.ratio_start-ratio.ensures
+    t.in-FreeSingletonWeibull.is _ r.ln-shape.ensures
 
-pareto-is : (t : tie.After-enum-told2) → let after-logit : tie.After-logit = search in
-    let after-ln : tie.After-ln = search in let after-dispersion-start : tie.After-dispersion-start = search in
-    let r : tie.After-ratio-start = search in
+pareto-is : (t : tie.In-SingletonPareto) → let after-logit : tie.After-logit-single = search in
+    let after-ln : tie.After-ln-tail = search in let after-dispersion-start : tie.After-dispersion_start-dispersion = search in
+    let r : tie.After-ratio_start-ratio = search in
     let a = (start r).args in
     plain_start a.error a.seed a.start
-    ≡ pareto_list after-dispersion-start.dispersion-start.result after-ln.ln.result
-    after-logit.logit.result r.ratio-start.result
+    ≡ pareto_list after-dispersion-start.dispersion_start-dispersion.result after-ln.ln-tail.result
+    after-logit.logit-single.result r.ratio_start-ratio.result
 pareto-is t =
-    let after-logit : tie.After-logit = search in
-    let after-ln : tie.After-ln = search in
-    let after-dispersion-start : tie.After-dispersion-start = search in
-    let r : tie.After-ratio-start = search in
+    let after-logit : tie.After-logit-single = search in
+    let after-ln : tie.After-ln-tail = search in
+    let after-dispersion-start : tie.After-dispersion_start-dispersion = search in
+    let r : tie.After-ratio_start-ratio = search in
     let a = (start r).args in
-    pareto-start a.error a.seed a.start _ _ _ _ after-dispersion-start.dispersion-start.ensures
-    after-ln.ln.ensures after-logit.logit.ensures r.ratio-start.ensures
-    t.enum-told2.given.1
+    pareto-start a.error a.seed a.start _ _ _ _ after-dispersion-start.dispersion_start-dispersion.ensures
+    after-ln.ln-tail.ensures after-logit.logit-single.ensures r.ratio_start-ratio.ensures
+    t.in-SingletonPareto.is
 
-enum_told : tie.Need-enum-told
-enum_told c = search rules
-
-put-weibull-requires : tie.Need-put-weibull-requires
+put-weibull-requires : tie.Need-put_weibull-requires
 put-weibull-requires c κs =
     let s : tie.Start = search in
-    subst (λ (l : List Float). length l ≤ length s.args.rest.now) (weibull-is c.before) s.pre
+    subst (λ (l : List Float). length l ≤ length s.args.rest.now) (weibull-is c.before) s.requires
 
-put-pareto-requires : tie.Need-put-pareto-requires
+put-pareto-requires : tie.Need-put_pareto-requires
 put-pareto-requires c κs =
     let s : tie.Start = search in
-    subst (λ (l : List Float). length l ≤ length s.args.rest.now) (pareto-is c.before) s.pre
+    subst (λ (l : List Float). length l ≤ length s.args.rest.now) (pareto-is c.before) s.requires
 
-returns : tie.Need-returns
+returns : tie.Need-returns-in-FreeSingletonWeibull
 returns c =
-    let after-enum-told : tie.After-enum-told = search in
+    let after-enum-told : tie.In-FreeSingletonWeibull = search in
     let s : tie.Start = search in
-    let p : tie.After-put-weibull = search in
+    let p : tie.After-put_weibull = search in
     let e = weibull-is after-enum-told in
     let b = s.args.rest.now in
-    (p.put-weibull.ensures.0 ∙ ap length (sym e), p.put-weibull.ensures.1 ∙ ap (λ (l : List Float). over l b) (sym e))
+    (p.put_weibull.ensures.0 ∙ ap length (sym e), p.put_weibull.ensures.1 ∙ ap (λ (l : List Float). over l b) (sym e))
 
-returns-2 : tie.Need-returns-2
+returns-2 : tie.Need-returns-in-SingletonPareto
 returns-2 c =
-    let after-enum-told2 : tie.After-enum-told2 = search in
+    let after-enum-told2 : tie.In-SingletonPareto = search in
     let s : tie.Start = search in
-    let p : tie.After-put-pareto = search in
+    let p : tie.After-put_pareto = search in
     let e = pareto-is after-enum-told2 in
     let b = s.args.rest.now in
-    (p.put-pareto.ensures.0 ∙ ap length (sym e), p.put-pareto.ensures.1 ∙ ap (λ (l : List Float). over l b) (sym e))
+    (p.put_pareto.ensures.0 ∙ ap length (sym e), p.put_pareto.ensures.1 ∙ ap (λ (l : List Float). over l b) (sym e))
 
-pub write-plain-spec : {M : Type 1} → statement M
-write-plain-spec =
+pub write_plain_spec : {M : Type 1} → statement M
+write_plain_spec =
     tie.close
-    (tie.spec (λ c κs. search rules) (λ c κs. search rules) (λ c κs. search rules) (λ c κs. search rules)
-    (λ c κs. search rules) enum_told put-weibull-requires (λ c. search rules) put-pareto-requires (λ c. search rules)
-    returns (λ c. search rules) returns-2)
+    (tie.spec
+    (λ c κs. search rules)
+    (λ c κs. search rules)
+    (λ c κs. search rules)
+    (λ c κs. search rules)
+    (λ c κs. search rules)
+    (λ c. search rules)
+    put-weibull-requires
+    (λ c. search rules)
+    put-pareto-requires
+    (λ c. search rules)
+    returns
+    (λ c. search rules)
+    returns-2)

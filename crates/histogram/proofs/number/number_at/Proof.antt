@@ -8,7 +8,6 @@ use native.Mathlib.Omega.{arith}
 use lib.ListN.{length, get_or, drop}
 use borrow.Author.Rules.{rules}
 use Rattle.histogram.specs.declared.number.Taken.{Taken}
-use Rattle.histogram.specs.declared.number.Taken.TheVariants as Taken
 use Rattle.histogram.specs.Number.{between, found_by, number_from, number_at_of}
 use Rattle.histogram.proofs.Weights.{weight-suc}
 use Rattle.histogram.proofs.Takes.{tells}
@@ -16,103 +15,108 @@ use Rattle.histogram.proofs.Numbers.{byte_more, no_more}
 use Rattle.histogram.proofs.number.number_at.Statement.{statement}
 use Rattle.histogram.proofs.number.number_at.Tie as tie
 
-abbrev invariant-loop : tie.invariant-loop
+abbrev invariant-loop : tie.invariant-loop-at
 invariant-loop file start least most value₀ weight₀ at₀ value weight at =
     (start ≤ at) × ((weight ≡ 128 ^ (at - start)) × (value ≤ most)) × (number_at_of (between least most) file start ≡ number_from (between least most) start value (at - start) (drop at file))
 
-abbrev decreases-loop : tie.decreases-loop
+abbrev decreases-loop : tie.decreases-loop-at
 decreases-loop file start least most value₀ weight₀ at₀ value weight at = length file - at
 
 -- the byte at the loop's place, and what it makes of the number
-turn : (k : tie.After-take-byte invariant-loop decreases-loop) (t : Taken) → let s : tie.Start invariant-loop decreases-loop = search in
-    k.take-byte.result ≡ t →
-    (let l : tie.At-loop invariant-loop decreases-loop = search in
+turn : (k : tie.After-take_byte-taken invariant-loop decreases-loop) (t : Taken) → let s : tie.Start invariant-loop decreases-loop = search in
+    k.take_byte-taken.result ≡ t →
+    (let l : tie.At-loop-at invariant-loop decreases-loop = search in
     let a = s.args in
-    let g = l.loop.at - a.start in
-    number_at_of (between a.least a.most) a.file.now a.start ≡ found_by t a.start (a.start + suc g) (λ v. number_from (between a.least a.most) a.start v (suc g) (drop (suc l.loop.at) a.file.now)))
+    let g = l.loop-at.at - a.start in
+    number_at_of (between a.least a.most) a.file.now a.start ≡ found_by t a.start (a.start + suc g) (λ v. number_from (between a.least a.most) a.start v (suc g) (drop (suc l.loop-at.at) a.file.now)))
 turn k t e =
-    let in-loop : tie.In-loop invariant-loop decreases-loop = search in
+    let in-loop : tie.In-loop-at invariant-loop decreases-loop = search in
     let s : tie.Start invariant-loop decreases-loop = search in
-    let l : tie.At-loop invariant-loop decreases-loop = search in
+    let l : tie.At-loop-at invariant-loop decreases-loop = search in
     let a = s.args in
-    l.loop.inv.2 ∙ byte_more (between a.least a.most) a.file.now a.start l.loop.value
-    (l.loop.at - a.start) l.loop.at t in-loop.loop-test.taken (sym e ∙ k.take-byte.ensures)
+    l.loop-at.invariant.2 ∙ byte_more (between a.least a.most) a.file.now a.start l.loop-at.value
+    (l.loop-at.at - a.start) l.loop-at.at t in-loop.loop-at-test.true (sym e ∙ k.take_byte-taken.ensures)
 
 -- where another group comes, what it counts fits
-next : (k : tie.After-take-byte invariant-loop decreases-loop) (v : ℕ) → let s : tie.Start invariant-loop decreases-loop = search in
-    k.take-byte.result ≡ Taken.More v →
-    (let l : tie.At-loop invariant-loop decreases-loop = search in let g = l.loop.at - s.args.start in
-    (l.loop.weight * 128 ≡ 128 ^ suc g) × (v + 128 ^ suc g ≤ s.args.most))
+next : (k : tie.After-take_byte-taken invariant-loop decreases-loop) (v : ℕ) → let s : tie.Start invariant-loop decreases-loop = search in
+    k.take_byte-taken.result ≡ Taken.More v →
+    (let l : tie.At-loop-at invariant-loop decreases-loop = search in let g = l.loop-at.at - s.args.start in
+    (l.loop-at.weight * 128 ≡ 128 ^ suc g) × (v + 128 ^ suc g ≤ s.args.most))
 next k v e =
     let s : tie.Start invariant-loop decreases-loop = search in
-    let l : tie.At-loop invariant-loop decreases-loop = search in
+    let l : tie.At-loop-at invariant-loop decreases-loop = search in
     let a = s.args in
-    let g = l.loop.at - a.start in
-    let t = tells (between a.least a.most) l.loop.value g (get_or a.file.now l.loop.at 0) (Taken.More v) (sym k.take-byte.ensures ∙ e) in
+    let g = l.loop-at.at - a.start in
+    let t = tells (between a.least a.most) l.loop-at.value g (get_or a.file.now l.loop-at.at 0) (Taken.More v) (sym k.take_byte-taken.ensures ∙ e) in
     let r = t.room in
     let w = weight-suc g in
-    let i = l.loop.inv.1.0 in
+    let i = l.loop-at.invariant.1.0 in
     (omega arith, omega arith)
 
-loop-holds : tie.Need-loop-init invariant-loop decreases-loop
+loop-holds : tie.Need-loop-at-init invariant-loop decreases-loop
 unfolding number_at_of
 loop-holds c = (search rules, (rw sub_self, omega arith), rw sub_self)
 
-enum-known-taken : tie.Need-enum-known-taken invariant-loop decreases-loop
-enum-known-taken c = c.match.keys1
-
-mul-weight : tie.Need-overflow-mul-weight invariant-loop decreases-loop
+mul-weight : tie.Need-overflow_mul-weight invariant-loop decreases-loop
 mul-weight c =
-    let after-taken = c.before in
-    let after-take-byte : tie.After-take-byte invariant-loop decreases-loop = search in
-    let n = next after-take-byte after-taken.taken.given.0.0 after-taken.taken.given.1 in omega arith
+    let after-taken = c in
+    let after-take-byte : tie.After-take_byte-taken invariant-loop decreases-loop = search in
+    let n = next after-take-byte after-taken.in-More.so_far after-taken.in-More.is in omega arith
 
-loop-again : tie.Need-loop-preserved invariant-loop decreases-loop
+loop-again : tie.Need-loop-at-preserved invariant-loop decreases-loop
 loop-again c =
-    let after-taken = c.before in
+    let after-taken = c in
     let s : tie.Start invariant-loop decreases-loop = search in
-    let k : tie.After-take-byte invariant-loop decreases-loop = search in
-    let l : tie.At-loop invariant-loop decreases-loop = search in
+    let k : tie.After-take_byte-taken invariant-loop decreases-loop = search in
+    let l : tie.At-loop-at invariant-loop decreases-loop = search in
     let a = s.args in
-    let e : l.loop.at + 1 - a.start ≡ suc (l.loop.at - a.start) = omega arith in
-    let n = next k after-taken.taken.given.0.0 after-taken.taken.given.1 in (
+    let e : l.loop-at.at + 1 - a.start ≡ suc (l.loop-at.at - a.start) = omega arith in
+    let n = next k after-taken.in-More.so_far after-taken.in-More.is in (
       search rules,
       (rw e n.0, omega arith),
-      rw (e, add-one l.loop.at)
-          (turn k (Taken.More after-taken.taken.given.0.0) after-taken.taken.given.1),
+      rw (e, add-one l.loop-at.at)
+          (turn k (Taken.More after-taken.in-More.so_far) after-taken.in-More.is),
     )
 
-enum-known-taken-2 : tie.Need-enum-known-taken-2 invariant-loop decreases-loop
-enum-known-taken-2 c = c.match.keys2
-
-returns : tie.Need-returns invariant-loop decreases-loop
+returns : tie.Need-returns-in-Whole invariant-loop decreases-loop
 returns c =
-    let after-taken2 = c.before in
+    let after-taken2 = c in
     let s : tie.Start invariant-loop decreases-loop = search in
-    let k : tie.After-take-byte invariant-loop decreases-loop = search in
-    let l : tie.At-loop invariant-loop decreases-loop = search in
+    let k : tie.After-take_byte-taken invariant-loop decreases-loop = search in
+    let l : tie.At-loop-at invariant-loop decreases-loop = search in
     let a = s.args in
-    let e : l.loop.at + 1 ≡ a.start + suc (l.loop.at - a.start) = omega arith in
-    rw e (sym (turn k (Taken.Whole after-taken2.taken2.given.0.0) after-taken2.taken2.given.1))
+    let e : l.loop-at.at + 1 ≡ a.start + suc (l.loop-at.at - a.start) = omega arith in
+    rw e (sym (turn k (Taken.Whole after-taken2.in-Whole.n) after-taken2.in-Whole.is))
 
-enum_told : tie.Need-enum-told invariant-loop decreases-loop
-enum_told c = c.match.keys3
-
-returns-2 : tie.Need-returns-2 invariant-loop decreases-loop
+returns-2 : tie.Need-returns-in-Wrong invariant-loop decreases-loop
 returns-2 c =
-    let after-take-byte : tie.After-take-byte invariant-loop decreases-loop = search in
-    sym (turn after-take-byte Taken.Wrong c.enum_told.given.1)
+    let after-take-byte : tie.After-take_byte-taken invariant-loop decreases-loop = search in
+    sym (turn after-take-byte Taken.Wrong c.in-Wrong.is)
 
-returns-3 : tie.Need-returns-3 invariant-loop decreases-loop
+returns-3 : tie.Need-returns invariant-loop decreases-loop
 returns-3 c =
     let s : tie.Start invariant-loop decreases-loop = search in
-    let l = c.before in
+    let l = c in
     let a = s.args in
-    sym (l.loop.invariant.2 ∙ no_more (between a.least a.most) a.file.now a.start l.loop.value (l.loop.at - a.start) l.loop.at c.loop-test.false)
+    sym (l.loop-at.invariant.2 ∙ no_more (between a.least a.most) a.file.now a.start l.loop-at.value (l.loop-at.at - a.start) l.loop-at.at c.loop-at-test.false)
 
-pub number-at-spec : {M : Type 1} → statement M
-number-at-spec =
+pub number_at_spec : {M : Type 1} → statement M
+number_at_spec =
     tie.close
-    (tie.spec invariant-loop decreases-loop loop-holds (λ c. search rules) (λ c. search rules) (λ c κs. search rules)
-    (λ c. search rules) enum-known-taken mul-weight (λ c. search rules) loop-again enum-known-taken-2 returns
-    enum_told returns-2 returns-3)
+    (tie.spec
+    invariant-loop
+    decreases-loop
+    loop-holds
+    (λ c. search rules)
+    (λ c. search rules)
+    (λ c κs. search rules)
+    (λ c. search rules)
+    (λ c. search rules)
+    mul-weight
+    (λ c. search rules)
+    loop-again
+    (λ c. search rules)
+    returns
+    (λ c. search rules)
+    returns-2
+    returns-3)

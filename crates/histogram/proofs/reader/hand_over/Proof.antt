@@ -15,13 +15,13 @@ use Rattle.histogram.proofs.Rooms.{kept-fits, says-counted, kept-laid}
 use Rattle.histogram.proofs.reader.hand_over.Statement.{statement}
 use Rattle.histogram.proofs.reader.hand_over.Tie as tie
 
-abbrev held : tie.After-read-bins → List ℕ
-held r = r.read-bins.new.1.1.1.0
+abbrev held : tie.After-read_bins-read → List ℕ
+held r = r.read_bins-read.new.held
 
-abbrev start : tie.After-read-bins → tie.Start
+abbrev start : tie.After-read_bins-read → tie.Start
 start r = search
 
-abbrev reading : tie.After-in-room → tie.After-read-bins
+abbrev reading : tie.After-in_room-answer → tie.After-read_bins-read
 reading c = search
 
 -- what reading the bins gives
@@ -32,34 +32,40 @@ abbrev room : tie.Start → ℕ
 room s = length s.args.bins.now
 
 -- what is kept is held, and fits
-read_held : (r : tie.After-read-bins) → kept_of r.read-bins.result ≤ length (held r)
-read_held r = omega (arith, r.read-bins.ensures.0, r.read-bins.auto.1.1.1.0, (start r).requires)
+read_held : (r : tie.After-read_bins-read) → kept_of r.read_bins-read.result ≤ length (held r)
+read_held r = omega (arith, r.read_bins-read.ensures.0, r.read_bins-read.auto.held, (start r).requires)
 
-says : (c : tie.After-in-room) → (let r = reading c in let s = start r in held_says c.in-room.result (held r) ≡ fits_in (room s) (given s))
-says c = let r = reading c in c.in-room.ensures.1 (held r) (read_held r) ∙ ap (fits_in (room (start r))) r.read-bins.ensures.1
+says : (c : tie.After-in_room-answer) → (let r = reading c in let s = start r in held_says c.in_room-answer.result (held r) ≡ fits_in (room s) (given s))
+says c = let r = reading c in c.in_room-answer.ensures.1 (held r) (read_held r) ∙ ap (fits_in (room (start r))) r.read_bins-read.ensures.1
 
-kept-held : (c : tie.After-in-room) → kept_of c.in-room.result ≤ length (held (reading c))
-kept-held c = omega (arith, c.in-room.ensures.0, read_held (reading c))
+kept-held : (c : tie.After-in_room-answer) → kept_of c.in_room-answer.result ≤ length (held (reading c))
+kept-held c = omega (arith, c.in_room-answer.ensures.0, read_held (reading c))
 
-kept-room : (c : tie.After-in-room) → kept_of c.in-room.result ≤ room (start (reading c))
-kept-room c = let r = reading c in let s = start r in kept-fits c.in-room.result (held r) (room s) (given s) (kept-held c) (says c)
+kept-room : (c : tie.After-in_room-answer) → kept_of c.in_room-answer.result ≤ room (start (reading c))
+kept-room c = let r = reading c in let s = start r in kept-fits c.in_room-answer.result (held r) (room s) (given s) (kept-held c) (says c)
 
-copy-bins-requires : tie.Need-copy-bins-requires
-copy-bins-requires c κs = let k : tie.After-in-room = search in rw c.before.kept.ensures (kept-held k, kept-room k)
+copy-bins-requires : tie.Need-copy_bins-requires
+copy-bins-requires c κs = let k : tie.After-in_room-answer = search in rw c.kept.ensures (kept-held k, kept-room k)
 
 returns : tie.Need-returns
 returns c =
-    let copied : tie.After-copy-bins = search in
+    let copied : tie.After-copy_bins = search in
     let counting : tie.After-kept = search in
-    let k : tie.After-in-room = search in
+    let k : tie.After-in_room-answer = search in
     let h = held (reading k) in
     let b = (start (reading k)).args.bins.now in (
-      says-counted k.in-room.result h (kept-held k) ∙ ap counted (says k),
-      copied.copy-bins.ensures ∙ ap (λ (n : ℕ). over (take n h) b) counting.kept.ensures ∙ kept-laid k.in-room.result h b ∙ ap (λ (x : Reply (List ℕ)). laid x b) (says k),
+      says-counted k.in_room-answer.result h (kept-held k) ∙ ap counted (says k),
+      copied.copy_bins.ensures ∙ ap (λ (n : ℕ). over (take n h) b) counting.kept.ensures ∙ kept-laid k.in_room-answer.result h b ∙ ap (λ (x : Reply (List ℕ)). laid x b) (says k),
     )
 
-pub hand-over-spec : {M : Type 1} → statement M
-hand-over-spec =
+pub hand_over_spec : {M : Type 1} → statement M
+hand_over_spec =
     tie.close
-    (tie.spec (λ c κs. search rules) (λ c κs. search rules) (λ c κs. search rules) copy-bins-requires
-    (λ c. search rules) (λ c. search rules) returns)
+    (tie.spec
+    (λ c κs. search rules)
+    (λ c κs. search rules)
+    (λ c κs. search rules)
+    copy-bins-requires
+    (λ c. search rules)
+    (λ c. search rules)
+    returns)

@@ -37,64 +37,98 @@ after_one s =
     let e : a.at ≡ a.at + 0 = omega arith in
     one_more 4294967295 a.file.now a.at 0 0 (get_or a.file.now a.at 0) (behind-none 4294967295 a.file.now a.at) (inside s 0 (omega arith)) (ap (λ (j : ℕ). get_or a.file.now j 0) e) (one s) (omega arith) s.requires.1 (omega arith)
 
-after_two : (k : tie.Else1) → (let s : tie.Start = search in After s 2 (two s))
+after_two : (k : tie.Else-second-lt128) → (let s : tie.Start = search in After s 2 (two s))
 after_two k =
     let s : tie.Start = search in
-    one_more 4294967295 s.args.file.now s.args.at 1 (one s) (byte s 1) (after_one s) (inside s 1 (omega arith)) refl (two s) (omega arith) k.if1.false (omega arith)
+    one_more 4294967295 s.args.file.now s.args.at 1 (one s) (byte s 1) (after_one s) (inside s 1 (omega arith)) refl (two s) (omega arith) k.if-second-lt128.false (omega arith)
 
-after-three : (k : tie.Else3) → (let s : tie.Start = search in After s 3 (three s))
+after-three : (k : tie.Else-third-lt128) → (let s : tie.Start = search in After s 3 (three s))
 after-three k =
-    let else1 : tie.Else1 = search in
+    let else1 : tie.Else-second-lt128 = search in
     let s : tie.Start = search in
     one_more 4294967295 s.args.file.now s.args.at 2 (two s) (byte s 2) (after_two else1)
-    (inside s 2 (omega arith)) refl (three s) (omega arith) k.if3.false (omega arith)
+    (inside s 2 (omega arith)) refl (three s) (omega arith) k.if-third-lt128.false (omega arith)
 
-after-four : (k : tie.Else5) → (let s : tie.Start = search in After s 4 (four s))
+after-four : (k : tie.Else-fourth-lt128) → (let s : tie.Start = search in After s 4 (four s))
 after-four k =
-    let else3 : tie.Else3 = search in
+    let else3 : tie.Else-third-lt128 = search in
     let s : tie.Start = search in
     one_more 4294967295 s.args.file.now s.args.at 3 (three s) (byte s 3) (after-three else3)
-    (inside s 3 (omega arith)) refl (four s) (omega arith) k.if5.false (omega arith)
+    (inside s 3 (omega arith)) refl (four s) (omega arith) k.if-fourth-lt128.false (omega arith)
 
-returns : tie.Need-returns
+returns : tie.Need-returns-then-second-gt0
 returns c =
     let s : tie.Start = search in
-    let l = c.before.if1.true in
-    sym (the_last 4294967295 s.args.file.now s.args.at 1 (one s) (byte s 1) (after_one s) (inside s 1 (omega arith)) refl (one s + byte s 1 * 128) (omega arith) c.if2.true l (omega arith))
+    let l = c.if-second-lt128.true in
+    sym (the_last 4294967295 s.args.file.now s.args.at 1 (one s) (byte s 1) (after_one s) (inside s 1 (omega arith)) refl (one s + byte s 1 * 128) (omega arith) c.if-second-gt0.true l (omega arith))
 
-returns-2 : tie.Need-returns-2
+returns-2 : tie.Need-returns-then-third-gt0
 returns-2 c =
-    let else1 : tie.Else1 = search in
+    let else1 : tie.Else-second-lt128 = search in
     let s : tie.Start = search in
-    let l = c.before.if3.true in
+    let l = c.if-third-lt128.true in
     sym (the_last 4294967295 s.args.file.now s.args.at 2 (two s) (byte s 2) (after_two else1)
-    (inside s 2 (omega arith)) refl (two s + byte s 2 * 16384) (omega arith) c.if4.true l (omega arith))
+    (inside s 2 (omega arith)) refl (two s + byte s 2 * 16384) (omega arith) c.if-third-gt0.true l (omega arith))
 
-returns-3 : tie.Need-returns-3
+returns-3 : tie.Need-returns-then-fourth-gt0
 returns-3 c =
-    let else3 : tie.Else3 = search in
+    let else3 : tie.Else-third-lt128 = search in
     let s : tie.Start = search in
-    let l = c.before.if5.true in
+    let l = c.if-fourth-lt128.true in
     sym (the_last 4294967295 s.args.file.now s.args.at 3 (three s) (byte s 3) (after-three else3)
-    (inside s 3 (omega arith)) refl (three s + byte s 3 * 2097152) (omega arith) c.if6.true l (omega arith))
+    (inside s 3 (omega arith)) refl (three s + byte s 3 * 2097152) (omega arith) c.if-fourth-gt0.true l (omega arith))
 
-returns-4 : tie.Need-returns-4
+returns-4 : tie.Need-returns-then-fifth-gt0
 returns-4 c =
-    let else5 : tie.Else5 = search in
+    let else5 : tie.Else-fourth-lt128 = search in
     let s : tie.Start = search in
-    let l = c.before.if7.true in
+    let l = c.if-fifth-lt16.true in
     sym (the_last 4294967295 s.args.file.now s.args.at 4 (four s) (byte s 4) (after-four else5)
-    (inside s 4 (omega arith)) refl (four s + byte s 4 * 268435456) (omega arith) c.if8.true (omega arith)
+    (inside s 4 (omega arith)) refl (four s + byte s 4 * 268435456) (omega arith) c.if-fifth-gt0.true (omega arith)
     (omega arith))
 
-pub long-bin-at-spec : {M : Type 1} → statement M
-long-bin-at-spec =
+pub long_bin_at_spec : {M : Type 1} → statement M
+long_bin_at_spec =
     tie.close
-    (tie.spec (λ c. search rules) (λ c. search rules) (λ c. search rules) (λ c. search rules) (λ c. search rules)
-    (λ c. search rules) (λ c. search rules) (λ c. search rules) returns (λ c. search rules) (λ c. search rules)
-    (λ c. search rules) (λ c. search rules) (λ c. search rules) (λ c. search rules) (λ c. search rules)
-    (λ c. search rules) (λ c. search rules) returns-2 (λ c. search rules) (λ c. search rules) (λ c. search rules)
-    (λ c. search rules) (λ c. search rules) (λ c. search rules) (λ c. search rules) (λ c. search rules)
-    (λ c. search rules) returns-3 (λ c. search rules) (λ c. search rules) (λ c. search rules) (λ c. search rules)
-    (λ c. search rules) (λ c. search rules) (λ c. search rules) (λ c. search rules) (λ c. search rules) returns-4
-    (λ c κs. search rules) (λ c. search rules))
+    (tie.spec
+    (λ c. search rules)
+    (λ c. search rules)
+    (λ c. search rules)
+    (λ c. search rules)
+    (λ c. search rules)
+    (λ c. search rules)
+    (λ c. search rules)
+    (λ c. search rules)
+    returns
+    (λ c. search rules)
+    (λ c. search rules)
+    (λ c. search rules)
+    (λ c. search rules)
+    (λ c. search rules)
+    (λ c. search rules)
+    (λ c. search rules)
+    (λ c. search rules)
+    (λ c. search rules)
+    returns-2
+    (λ c. search rules)
+    (λ c. search rules)
+    (λ c. search rules)
+    (λ c. search rules)
+    (λ c. search rules)
+    (λ c. search rules)
+    (λ c. search rules)
+    (λ c. search rules)
+    (λ c. search rules)
+    returns-3
+    (λ c. search rules)
+    (λ c. search rules)
+    (λ c. search rules)
+    (λ c. search rules)
+    (λ c. search rules)
+    (λ c. search rules)
+    (λ c. search rules)
+    (λ c. search rules)
+    (λ c. search rules)
+    returns-4
+    (λ c κs. search rules)
+    (λ c. search rules))

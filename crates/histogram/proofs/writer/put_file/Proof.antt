@@ -32,94 +32,106 @@ at_count : (s : tie.Start) → Putting (write_of (xs s)) (b s) (set (b s) 0 1) (
 at_count s = puts (write_of (xs s)) (b s) (b s) 0 1 (number_bytes (length (xs s)) ++ numbers_bytes (xs s)) (at-form s) s.requires
 
 -- ---- the bins
-abbrev start : tie.After-put-number → tie.Start
+abbrev start : tie.After-put_number-head → tie.Start
 start c = search
 
-abbrev head : tie.After-put-number → ℕ
-head c = 1 + c.put-number.result
+abbrev head : tie.After-put_number-head → ℕ
+head c = 1 + c.put_number-head.result
 
-abbrev counted : tie.After-put-number → List ℕ
-counted c = take 1 (set (b (start c)) 0 1) ++ (c.put-number.new.0 ++ drop (length (set (b (start c)) 0 1) - 1) (drop 1 (set (b (start c)) 0 1)))
+abbrev counted : tie.After-put_number-head → List ℕ
+counted c = take 1 (set (b (start c)) 0 1) ++ (c.put_number-head.new.out ++ drop (length (set (b (start c)) 0 1) - 1) (drop 1 (set (b (start c)) 0 1)))
 
-at-bins : (c : tie.After-put-number) → Putting (write_of (xs (start c))) (b (start c)) (counted c) (numbers_bytes (xs (start c)) ++ []) (head c)
+at-bins : (c : tie.After-put_number-head) → Putting (write_of (xs (start c))) (b (start c)) (counted c) (numbers_bytes (xs (start c)) ++ []) (head c)
 at-bins c =
     let s = start c in
     subst (λ (rest : List ℕ). Putting (write_of (xs s)) (b s) (counted c) rest (head c)) (sym (append-nil (numbers_bytes (xs s))))
-    (puts-all (write_of (xs s)) (b s) (set (b s) 0 1) 1 (number_bytes (length (xs s))) (numbers_bytes (xs s)) (at_count s) s.pre c.put-number.new.0 c.put-number.result c.put-number.ensures.0 c.put-number.ensures.1)
+    (puts-all (write_of (xs s)) (b s) (set (b s) 0 1) 1 (number_bytes (length (xs s))) (numbers_bytes (xs s)) (at_count s) s.requires c.put_number-head.new.out c.put_number-head.result c.put_number-head.ensures.0 c.put_number-head.ensures.1)
 
-bins-fit : (c : tie.After-put-number) → head c + length (numbers_bytes (xs (start c))) ≤ length (counted c)
-bins-fit c = let s = start c in fits (write_of (xs s)) (b s) (counted c) (head c) (numbers_bytes (xs s)) [] (at-bins c) s.pre
+bins-fit : (c : tie.After-put_number-head) → head c + length (numbers_bytes (xs (start c))) ≤ length (counted c)
+bins-fit c = let s = start c in fits (write_of (xs s)) (b s) (counted c) (head c) (numbers_bytes (xs s)) [] (at-bins c) s.requires
 
 -- ---- the end
-abbrev to-count : tie.After-put-bins → tie.After-put-number
+abbrev to-count : tie.After-put_bins → tie.After-put_number-head
 to-count c = search
 
-at-end : (c : tie.After-put-bins) →
+at-end : (c : tie.After-put_bins) →
     (let k = to-count c in
     let s = start k in
-    Putting (write_of (xs s)) (b s) (take (head k) (counted k) ++ (c.put-bins.new.0 ++ drop (length (counted k) - head k) (drop (head k) (counted k)))) [] (head k + c.put-bins.result))
+    Putting (write_of (xs s)) (b s) (take (head k) (counted k) ++ (c.put_bins.new.out ++ drop (length (counted k) - head k) (drop (head k) (counted k)))) [] (head k + c.put_bins.result))
 at-end c =
     let k = to-count c in
     let s = start k in
-    puts-all (write_of (xs s)) (b s) (counted k) (head k) (numbers_bytes (xs s)) [] (at-bins k) s.pre c.put-bins.new.0 c.put-bins.result c.put-bins.ensures.0 c.put-bins.ensures.1
+    puts-all (write_of (xs s)) (b s) (counted k) (head k) (numbers_bytes (xs s)) [] (at-bins k) s.requires c.put_bins.new.out c.put_bins.result c.put_bins.ensures.0 c.put_bins.ensures.1
 
-all-put : (c : tie.After-put-bins) →
+all-put : (c : tie.After-put_bins) →
     (let k = to-count c in
     let s = start k in
-    (head k + c.put-bins.result ≡ length (write_of (xs s))) × (take (head k) (counted k) ++ (c.put-bins.new.0 ++ drop (length (counted k) - head k) (drop (head k) (counted k))) ≡ over (write_of (xs s)) (b s)))
+    (head k + c.put_bins.result ≡ length (write_of (xs s))) × (take (head k) (counted k) ++ (c.put_bins.new.out ++ drop (length (counted k) - head k) (drop (head k) (counted k))) ≡ over (write_of (xs s)) (b s)))
 all-put c =
     let k = to-count c in
     let s = start k in
-    ends (write_of (xs s)) (b s) (take (head k) (counted k) ++ (c.put-bins.new.0 ++ drop (length (counted k) - head k) (drop (head k) (counted k)))) (head k + c.put-bins.result) (at-end c)
+    ends (write_of (xs s)) (b s) (take (head k) (counted k) ++ (c.put_bins.new.out ++ drop (length (counted k) - head k) (drop (head k) (counted k)))) (head k + c.put_bins.result) (at-end c)
 
-abbrev start-from-after-shared-slice-known : tie.After-shared-slice-known → tie.Start
+abbrev start-from-after-shared-slice-known : tie.After-shared_slice_known-1 → tie.Start
 start-from-after-shared-slice-known c = search
 
-slice-write-out : tie.Need-slice-write-out
+slice-write-out : tie.Need-bounds-out-0
 slice-write-out c = omega (arith, form-fits (start-from-after-shared-slice-known c))
 
-sub-put-number : tie.Need-overflow-sub-put-number
+sub-put-number : tie.Need-slice_bounds-put_number-count
 sub-put-number c = let s = start-from-after-shared-slice-known c in omega (arith, form-fits s, (at_count s).same)
 
-part-put-number-start : tie.Need-slice-bounds-put-number-start
+part-put-number-start : tie.Need-slice_bounds-put_number-start
 part-put-number-start c = let s = start-from-after-shared-slice-known c in omega (arith, form-fits s, (at_count s).same)
 
-put-number-requires : tie.Need-put-number-requires
+put-number-requires : tie.Need-put_number-head-requires
 put-number-requires c κs = let s : tie.Start = search in room (write_of (xs s)) (b s) (set (b s) 0 1) 1
-    (number_bytes (length (xs s))) (numbers_bytes (xs s)) (at_count s) s.pre
+    (number_bytes (length (xs s))) (numbers_bytes (xs s)) (at_count s) s.requires
 
-abbrev after-put-number : tie.After-slice-known2 → tie.After-put-number
+abbrev after-put-number : tie.After-slice_known-2-1 → tie.After-put_number-head
 after-put-number c = search
 
-add-head : tie.Need-overflow-add-head
+add-head : tie.Need-overflow_add-head
 add-head c = let k = after-put-number c in omega (arith, bins-fit k, (at-bins k).same)
 
-sub-put-bins : tie.Need-overflow-sub-put-bins
+sub-put-bins : tie.Need-slice_bounds-put_bins-count
 sub-put-bins c = omega (arith, bins-fit (after-put-number c))
 
-part-put-bins-start : tie.Need-slice-bounds-put-bins-start
+part-put-bins-start : tie.Need-slice_bounds-put_bins-start
 part-put-bins-start c = omega (arith, bins-fit (after-put-number c))
 
-put-bins-requires : tie.Need-put-bins-requires
+put-bins-requires : tie.Need-put_bins-requires
 put-bins-requires c κs =
-    let k : tie.After-put-number = search in
+    let k : tie.After-put_number-head = search in
     let s = start k in
-    room (write_of (xs s)) (b s) (counted k) (head k) (numbers_bytes (xs s)) [] (at-bins k) s.pre
+    room (write_of (xs s)) (b s) (counted k) (head k) (numbers_bytes (xs s)) [] (at-bins k) s.requires
 
-abbrev after-put-bins : tie.After-slice-known3 → tie.After-put-bins
+abbrev after-put-bins : tie.After-slice_known-3-1 → tie.After-put_bins
 after-put-bins c = search
 
-add-result : tie.Need-overflow-add-result
+add-result : tie.Need-overflow_add-result
 add-result c = let p = after-put-bins c in omega (arith, (all-put p).0, (start (to-count p)).requires)
 
-same_length : tie.Need-same-length
+same_length : tie.Need-shape_of-out
 same_length c = (at-end (after-put-bins c)).same
 
 returns : tie.Need-returns
 returns c = all-put (after-put-bins c)
 
-pub put-file-spec : {M : Type 1} → statement M
-put-file-spec =
+pub put_file_spec : {M : Type 1} → statement M
+put_file_spec =
     tie.close
-    (tie.spec slice-write-out sub-put-number part-put-number-start (λ c. search rules) put-number-requires add-head
-    sub-put-bins part-put-bins-start (λ c. search rules) put-bins-requires add-result same_length returns)
+    (tie.spec
+    slice-write-out
+    sub-put-number
+    part-put-number-start
+    (λ c. search rules)
+    put-number-requires
+    add-head
+    sub-put-bins
+    part-put-bins-start
+    (λ c. search rules)
+    put-bins-requires
+    add-result
+    same_length
+    returns)

@@ -11,97 +11,97 @@ use Rattle.histogram.proofs.Puts.{Putting, begins, fits, puts, ends}
 use Rattle.histogram.proofs.writer.put_number.Statement.{statement}
 use Rattle.histogram.proofs.writer.put_number.Tie as tie
 
-abbrev invariant-loop : tie.invariant-loop
+abbrev invariant-loop : tie.invariant-loop-left
 invariant-loop out₀ n left₀ at₀ out left at = Putting (number_bytes n) out₀ out (number_bytes left) at
 
-abbrev decreases-loop : tie.decreases-loop
+abbrev decreases-loop : tie.decreases-loop-left
 decreases-loop out₀ n left₀ at₀ out left at = left
 
-abbrev start-from-in-loop : tie.In-loop invariant-loop decreases-loop → tie.Start invariant-loop decreases-loop
+abbrev start-from-in-loop : tie.In-loop-left invariant-loop decreases-loop → tie.Start invariant-loop decreases-loop
 start-from-in-loop c = search
 
 -- the next byte, in a turn and behind the loop
-next : (c : tie.In-loop invariant-loop decreases-loop) →
+next : (c : tie.In-loop-left invariant-loop decreases-loop) →
     (let l = c.before in Putting (number_bytes (start-from-in-loop c).args.n) (start-from-in-loop c).args.out.now
-    l.loop.out ((128 + l.loop.left % 128) ∷ number_bytes (l.loop.left / 128)) l.loop.at)
+    l.loop-left.out ((128 + l.loop-left.left % 128) ∷ number_bytes (l.loop-left.left / 128)) l.loop-left.at)
 next c = let l = c.before in subst (λ (rest : List ℕ). Putting (number_bytes (start-from-in-loop c).args.n)
-    (start-from-in-loop c).args.out.now l.loop.out rest l.loop.at)
-    (bytes-more l.loop.left c.loop-test.true) l.loop.invariant
+    (start-from-in-loop c).args.out.now l.loop-left.out rest l.loop-left.at)
+    (bytes-more l.loop-left.left c.loop-left-test.true) l.loop-left.invariant
 
-abbrev start-from-after-loop : tie.After-loop invariant-loop decreases-loop → tie.Start invariant-loop decreases-loop
+abbrev start-from-after-loop : tie.After-loop-left invariant-loop decreases-loop → tie.Start invariant-loop decreases-loop
 start-from-after-loop c = search
 
-last : (c : tie.After-loop invariant-loop decreases-loop) → (let l = c.before in
-    Putting (number_bytes (start-from-after-loop c).args.n) (start-from-after-loop c).args.out.now l.loop.out
-    (l.loop.left ∷ []) l.loop.at)
+last : (c : tie.After-loop-left invariant-loop decreases-loop) → (let l = c.before in
+    Putting (number_bytes (start-from-after-loop c).args.n) (start-from-after-loop c).args.out.now l.loop-left.out
+    (l.loop-left.left ∷ []) l.loop-left.at)
 last c = let l = c.before in subst (λ (rest : List ℕ). Putting (number_bytes (start-from-after-loop c).args.n)
-    (start-from-after-loop c).args.out.now l.loop.out rest l.loop.at)
-    (bytes-last l.loop.left c.loop-test.false) l.loop.invariant
+    (start-from-after-loop c).args.out.now l.loop-left.out rest l.loop-left.at)
+    (bytes-last l.loop-left.left c.loop-left-test.false) l.loop-left.invariant
 
-inside : (c : tie.In-loop invariant-loop decreases-loop) → let l = c.before in l.loop.at + 1 ≤ length l.loop.out
+inside : (c : tie.In-loop-left invariant-loop decreases-loop) → let l = c.before in l.loop-left.at + 1 ≤ length l.loop-left.out
 inside c =
     let l = c.before in
-    fits (number_bytes (start-from-in-loop c).args.n) (start-from-in-loop c).args.out.now l.loop.out
-    l.loop.at ((128 + l.loop.left % 128) ∷ []) (number_bytes (l.loop.left / 128)) (next c)
+    fits (number_bytes (start-from-in-loop c).args.n) (start-from-in-loop c).args.out.now l.loop-left.out
+    l.loop-left.at ((128 + l.loop-left.left % 128) ∷ []) (number_bytes (l.loop-left.left / 128)) (next c)
     (start-from-in-loop c).requires
 
-inside-last : (c : tie.After-loop invariant-loop decreases-loop) → let l = c.before in l.loop.at + 1 ≤ length l.loop.out
+inside-last : (c : tie.After-loop-left invariant-loop decreases-loop) → let l = c.before in l.loop-left.at + 1 ≤ length l.loop-left.out
 inside-last c =
     let l = c.before in
-    fits (number_bytes (start-from-after-loop c).args.n) (start-from-after-loop c).args.out.now l.loop.out
-    l.loop.at (l.loop.left ∷ []) [] (last c) (start-from-after-loop c).requires
+    fits (number_bytes (start-from-after-loop c).args.n) (start-from-after-loop c).args.out.now l.loop-left.out
+    l.loop-left.at (l.loop-left.left ∷ []) [] (last c) (start-from-after-loop c).requires
 
-put_last : (c : tie.After-loop invariant-loop decreases-loop) → (let l = c.before in
+put_last : (c : tie.After-loop-left invariant-loop decreases-loop) → (let l = c.before in
     Putting (number_bytes (start-from-after-loop c).args.n) (start-from-after-loop c).args.out.now
-    (set l.loop.out l.loop.at l.loop.left) [] (l.loop.at + 1))
+    (set l.loop-left.out l.loop-left.at l.loop-left.left) [] (l.loop-left.at + 1))
 put_last c = let l = c.before in puts (number_bytes (start-from-after-loop c).args.n)
-    (start-from-after-loop c).args.out.now l.loop.out l.loop.at l.loop.left [] (last c)
+    (start-from-after-loop c).args.out.now l.loop-left.out l.loop-left.at l.loop-left.left [] (last c)
     (start-from-after-loop c).requires
 
-loop-holds : tie.Need-loop-init invariant-loop decreases-loop
+loop-holds : tie.Need-loop-left-init invariant-loop decreases-loop
 loop-holds c = begins _ _
 
-add-out : tie.Need-overflow-add-out invariant-loop decreases-loop
+add-out : tie.Need-overflow_add-out invariant-loop decreases-loop
 add-out c = omega arith
 
-cast-out : tie.Need-overflow-cast-out invariant-loop decreases-loop
+cast-out : tie.Need-overflow_cast-out invariant-loop decreases-loop
 cast-out c = omega arith
 
-slice-write-out : tie.Need-slice-write-out invariant-loop decreases-loop
+slice-write-out : tie.Need-bounds-out-at invariant-loop decreases-loop
 slice-write-out c = omega (arith, inside c)
 
-add_at : tie.Need-overflow-add-at invariant-loop decreases-loop
-add_at c = omega (arith, inside c, c.before.loop.invariant.same)
+add_at : tie.Need-overflow_add-at invariant-loop decreases-loop
+add_at c = omega (arith, inside c, c.loop-left.invariant.same)
 
-loop-less : tie.Need-loop-smaller invariant-loop decreases-loop
+loop-less : tie.Need-loop-left-smaller invariant-loop decreases-loop
 loop-less c = omega arith
 
-loop-again : tie.Need-loop-preserved invariant-loop decreases-loop
+loop-again : tie.Need-loop-left-preserved invariant-loop decreases-loop
 loop-again c =
     let l = c.before in
-    puts (number_bytes (start-from-in-loop c).args.n) (start-from-in-loop c).args.out.now l.loop.out
-    l.loop.at (128 + l.loop.left % 128) (number_bytes (l.loop.left / 128)) (next c) (start-from-in-loop c).requires
+    puts (number_bytes (start-from-in-loop c).args.n) (start-from-in-loop c).args.out.now l.loop-left.out
+    l.loop-left.at (128 + l.loop-left.left % 128) (number_bytes (l.loop-left.left / 128)) (next c) (start-from-in-loop c).requires
 
-cast-out-2 : tie.Need-overflow-cast-out-2 invariant-loop decreases-loop
+cast-out-2 : tie.Need-overflow_cast-out-2 invariant-loop decreases-loop
 cast-out-2 c = omega arith
 
-slice-write-out-2 : tie.Need-slice-write-out-2 invariant-loop decreases-loop
+slice-write-out-2 : tie.Need-bounds-out-at-2 invariant-loop decreases-loop
 slice-write-out-2 c = omega (arith, inside-last c)
 
-add-result : tie.Need-overflow-add-result invariant-loop decreases-loop
-add-result c = omega (arith, inside-last c, c.before.loop.invariant.same)
+add-result : tie.Need-overflow_add-result invariant-loop decreases-loop
+add-result c = omega (arith, inside-last c, c.loop-left.invariant.same)
 
-same_length : tie.Need-same-length invariant-loop decreases-loop
+same_length : tie.Need-shape_of-out invariant-loop decreases-loop
 same_length c = (put_last c).same
 
 returns : tie.Need-returns invariant-loop decreases-loop
 returns c =
     let l = c.before in
     ends (number_bytes (start-from-after-loop c).args.n) (start-from-after-loop c).args.out.now
-    (set l.loop.out l.loop.at l.loop.left) (l.loop.at + 1) (put_last c)
+    (set l.loop-left.out l.loop-left.at l.loop-left.left) (l.loop-left.at + 1) (put_last c)
 
-pub put-number-spec : {M : Type 1} → statement M
-put-number-spec =
+pub put_number_spec : {M : Type 1} → statement M
+put_number_spec =
     tie.close
     (tie.spec
     invariant-loop

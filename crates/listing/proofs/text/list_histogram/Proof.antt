@@ -30,88 +30,101 @@ abbrev rows : tie.Start → List ℕ
 rows s = rows_of 1 (xs s)
 
 -- ---- the size
-abbrev start : tie.Else2 → tie.Start
+abbrev start : tie.Else-bins-gt-MOST → tie.Start
 start c = search
 
 -- no sum wraps
-few : (c : tie.Else2) → (let s = start c in (length (decimal_of (length (xs s))) ≤ 20) × (length (rows s) ≤ 17 * length (xs s)))
+few : (c : tie.Else-bins-gt-MOST) → (let s = start c in (length (decimal_of (length (xs s))) ≤ 20) × (length (rows s) ≤ 17 * length (xs s)))
 few c =
-    let k : tie.After-shared-slice-known = search in
+    let k : tie.After-shared_slice_known-1 = search in
     let s = start c in
-    let fit = below_each (2 ^ 32) (xs s) (λ (i : ℕ) (h : i < length (xs s)). (k.shared-slice-known.given i).fits) in
+    let fit = below_each (2 ^ 32) (xs s) (λ (i : ℕ) (h : i < length (xs s)). (k.shared_slice_known-1.given i).fits) in
     let r = rows-within 4 1 (xs s) (omega arith) fit in
     (twenty (length (xs s)) (omega arith), omega arith)
 
-long : (c : tie.Else3) → (let s : tie.Start = search in length (head s ++ rows s) ≤ length (b s))
+long : (c : tie.Else-out-decimal_size) → (let s : tie.Start = search in length (head s ++ rows s) ≤ length (b s))
 unfolding listing_of
 long c = let s : tie.Start = search in omega (arith, listing-length (xs s))
 
 -- ---- behind the line of the bin count
-abbrev to_room : tie.After-put-line → tie.Else3
+abbrev to_room : tie.After-put_line-first → tie.Else-out-decimal_size
 to_room p = search
 
-abbrev begin : tie.After-put-line → tie.Start
+abbrev begin : tie.After-put_line-first → tie.Start
 begin p = search
 
-inside : (p : tie.After-put-line) → p.put-line.result + length (rows (begin p)) ≤ length p.put-line.new.0
-inside p = let s = begin p in fits (head s) (rows s) (b s) (long (to_room p)) p.put-line.new.0 p.put-line.result p.put-line.ensures.0 p.put-line.ensures.1
+inside : (p : tie.After-put_line-first) → p.put_line-first.result + length (rows (begin p)) ≤ length p.put_line-first.new.out
+inside p = let s = begin p in fits (head s) (rows s) (b s) (long (to_room p)) p.put_line-first.new.out p.put_line-first.result p.put_line-first.ensures.0 p.put_line-first.ensures.1
 
-returns : tie.Need-returns
+returns : tie.Need-returns-then-bins-lt2
 returns c =
     let s : tie.Start = search in
-    rw (too_few (xs s) (length (b s)) c.if1.true) (refl, refl)
+    rw (too_few (xs s) (length (b s)) c.if-bins-lt2.true) (refl, refl)
 
-returns-2 : tie.Need-returns-2
+returns-2 : tie.Need-returns-then-bins-gt-MOST
 returns-2 c =
     let s : tie.Start = search in
-    rw (too_many (xs s) (length (b s)) c.before.if1.false c.if2.true) (refl, refl)
+    rw (too_many (xs s) (length (b s)) c.if-bins-lt2.false c.if-bins-gt-MOST.true) (refl, refl)
 
-add-if3 : tie.Need-overflow-add-if3
+add-if3 : tie.Need-overflow_add-decimal_size
 add-if3 c = omega (arith, (few c.before).0)
 
-add-if3-2 : tie.Need-overflow-add-if3-2
-add-if3-2 c = let e : tie.Else2 = search in omega (arith, (few e).0, (few e).1)
+add-if3-2 : tie.Need-overflow_add-decimal_size-2
+add-if3-2 c = let e : tie.Else-bins-gt-MOST = search in omega (arith, (few e).0, (few e).1)
 
-returns-3 : tie.Need-returns-3
+returns-3 : tie.Need-returns-then-out-decimal_size
 returns-3 c =
-    let e : tie.Else2 = search in
+    let e : tie.Else-bins-gt-MOST = search in
     let s = start e in
-    rw (too_short (xs s) (length (b s)) e.before.if1.left e.if2.left (omega (arith, listing-length (xs s)))) (refl, refl)
+    rw (too_short (xs s) (length (b s)) e.if-bins-lt2.false e.if-bins-gt-MOST.false (omega (arith, listing-length (xs s)))) (refl, refl)
 
-put-line-requires : tie.Need-put-line-requires
-put-line-requires c κs = let e : tie.Else3 = search in let s : tie.Start = search in
+put-line-requires : tie.Need-put_line-first-requires
+put-line-requires c κs = let e : tie.Else-out-decimal_size = search in let s : tie.Start = search in
     first_fits (head s) (rows s) (b s) (long e)
 
-sub-put-rows : tie.Need-overflow-sub-put-rows
-sub-put-rows c = let after-put-line : tie.After-put-line = search in omega (arith, inside after-put-line)
+sub-put-rows : tie.Need-slice_bounds-put_rows-count
+sub-put-rows c = let after-put-line : tie.After-put_line-first = search in omega (arith, inside after-put-line)
 
-part-put-rows-start : tie.Need-slice-bounds-put-rows-start
-part-put-rows-start c = let after-put-line : tie.After-put-line = search in omega (arith, inside after-put-line)
+part-put-rows-start : tie.Need-slice_bounds-put_rows-start
+part-put-rows-start c = let after-put-line : tie.After-put_line-first = search in omega (arith, inside after-put-line)
 
-put-rows-requires : tie.Need-put-rows-requires
+put-rows-requires : tie.Need-put_rows-requires
 put-rows-requires c κs =
-    let p : tie.After-put-line = search in
+    let p : tie.After-put_line-first = search in
     let s = begin p in
-    room (head s) (rows s) (b s) (long (to_room p)) p.put-line.last.0 p.put-line.result p.put-line.ensures.0 p.put-line.ensures.1
+    room (head s) (rows s) (b s) (long (to_room p)) p.put_line-first.new.out p.put_line-first.result p.put_line-first.ensures.0 p.put_line-first.ensures.1
 
-add-t11 : tie.Need-overflow-add-t11
+add-t11 : tie.Need-overflow_add-result
 add-t11 c =
-    let after-put-line : tie.After-put-line = search in
+    let after-put-line : tie.After-put_line-first = search in
     omega (arith, inside after-put-line)
 
-returns-4 : tie.Need-returns-4
+returns-4 : tie.Need-returns
 unfolding listing_of
 returns-4 c =
-    let r : tie.After-put-rows = search in
-    let p : tie.After-put-line = search in
-    let e : tie.Else2 = search in
+    let r : tie.After-put_rows = search in
+    let p : tie.After-put_line-first = search in
+    let e : tie.Else-bins-gt-MOST = search in
     let s = begin p in
-    let q = puts-rest (head s) (rows s) (b s) (long (to_room p)) p.put-line.last.0 p.put-line.result p.put-line.ensures.0 p.put-line.ensures.1 r.put-rows.last.0 r.put-rows.result r.put-rows.ensures.0 r.put-rows.ensures.1 in
-    rw (lists (xs s) (length (b s)) e.before.if1.left e.if2.left (long (to_room p))) (ap give q.0, q.1)
+    let q = puts-rest (head s) (rows s) (b s) (long (to_room p)) p.put_line-first.new.out p.put_line-first.result p.put_line-first.ensures.0 p.put_line-first.ensures.1 r.put_rows.new.out r.put_rows.result r.put_rows.ensures.0 r.put_rows.ensures.1 in
+    rw (lists (xs s) (length (b s)) e.if-bins-lt2.false e.if-bins-gt-MOST.false (long (to_room p))) (ap give q.0, q.1)
 
-pub list-histogram-spec : {M : Type 1} → statement M
-list-histogram-spec =
+pub list_histogram_spec : {M : Type 1} → statement M
+list_histogram_spec =
     tie.close
-    (tie.spec returns returns-2 (λ c κs. search rules) add-if3 (λ c κs. search rules) add-if3-2 returns-3
-    (λ c. search rules) put-line-requires sub-put-rows part-put-rows-start (λ c. search rules) put-rows-requires
-    add-t11 (λ c. search rules) returns-4)
+    (tie.spec
+    returns
+    returns-2
+    (λ c κs. search rules)
+    add-if3
+    (λ c κs. search rules)
+    add-if3-2
+    returns-3
+    put-line-requires
+    sub-put-rows
+    part-put-rows-start
+    (λ c. search rules)
+    put-rows-requires
+    add-t11
+    (λ c. search rules)
+    returns-4)

@@ -20,43 +20,50 @@ long : (s : tie.Start) → length (front s ++ line s) ≤ length s.args.out.now
 unfolding row_of
 long s = s.requires
 
-inside : (c : tie.After-put-decimal) → (let s : tie.Start = search in
-    c.put-decimal.result + length (line s) ≤ length c.put-decimal.new.0)
+inside : (c : tie.After-put_decimal-behind) → (let s : tie.Start = search in
+    c.put_decimal-behind.result + length (line s) ≤ length c.put_decimal-behind.new.out)
 inside c =
     let s : tie.Start = search in
-    fits (front s) (line s) s.args.out.now (long s) c.put-decimal.new.0 c.put-decimal.result c.put-decimal.ensures.0 c.put-decimal.ensures.1
+    fits (front s) (line s) s.args.out.now (long s) c.put_decimal-behind.new.out c.put_decimal-behind.result c.put_decimal-behind.ensures.0 c.put_decimal-behind.ensures.1
 
-put-decimal-requires : tie.Need-put-decimal-requires
+put-decimal-requires : tie.Need-put_decimal-behind-requires
 put-decimal-requires c κs = let s : tie.Start = search in first_fits (front s) (line s) s.args.out.now (long s)
 
-sub-put-line : tie.Need-overflow-sub-put-line
-sub-put-line c = let after-put-decimal : tie.After-put-decimal = search in omega (arith, inside after-put-decimal)
+sub-put-line : tie.Need-slice_bounds-put_line-count
+sub-put-line c = let after-put-decimal : tie.After-put_decimal-behind = search in omega (arith, inside after-put-decimal)
 
-part-put-line-start : tie.Need-slice-bounds-put-line-start
+part-put-line-start : tie.Need-slice_bounds-put_line-start
 part-put-line-start c =
-    let after-put-decimal : tie.After-put-decimal = search in
+    let after-put-decimal : tie.After-put_decimal-behind = search in
     omega (arith, inside after-put-decimal)
 
-put-line-requires : tie.Need-put-line-requires
+put-line-requires : tie.Need-put_line-requires
 put-line-requires c κs =
-    let p : tie.After-put-decimal = search in
+    let p : tie.After-put_decimal-behind = search in
     let s : tie.Start = search in
-    room (front s) (line s) s.args.out.now (long s) p.put-decimal.last.0 p.put-decimal.result p.put-decimal.ensures.0 p.put-decimal.ensures.1
+    room (front s) (line s) s.args.out.now (long s) p.put_decimal-behind.new.out p.put_decimal-behind.result p.put_decimal-behind.ensures.0 p.put_decimal-behind.ensures.1
 
-add-result : tie.Need-overflow-add-result
-add-result c = let p : tie.After-put-decimal = search in omega (arith, inside p)
+add-result : tie.Need-overflow_add-result
+add-result c = let p : tie.After-put_decimal-behind = search in omega (arith, inside p)
 
 returns : tie.Need-returns
 unfolding row_of
 returns c =
-    let l : tie.After-put-line = search in
-    let p : tie.After-put-decimal = search in
+    let l : tie.After-put_line = search in
+    let p : tie.After-put_decimal-behind = search in
     let s : tie.Start = search in
-    puts-rest (front s) (line s) s.args.out.now (long s) p.put-decimal.last.0 p.put-decimal.result p.put-decimal.ensures.0 p.put-decimal.ensures.1
-    l.put-line.last.0 l.put-line.result l.put-line.ensures.0 l.put-line.ensures.1
+    puts-rest (front s) (line s) s.args.out.now (long s) p.put_decimal-behind.new.out p.put_decimal-behind.result p.put_decimal-behind.ensures.0 p.put_decimal-behind.ensures.1
+    l.put_line.new.out l.put_line.result l.put_line.ensures.0 l.put_line.ensures.1
 
-pub put-row-spec : {M : Type 1} → statement M
-put-row-spec =
+pub put_row_spec : {M : Type 1} → statement M
+put_row_spec =
     tie.close
-    (tie.spec put-decimal-requires sub-put-line part-put-line-start (λ c. search rules) (λ c. search rules)
-    put-line-requires add-result (λ c. search rules) returns)
+    (tie.spec
+    put-decimal-requires
+    sub-put-line
+    part-put-line-start
+    (λ c. search rules)
+    put-line-requires
+    add-result
+    (λ c. search rules)
+    returns)

@@ -19,63 +19,68 @@ both : (fit : SpectrumFit) (budget : Float) (reply : Reply (Option ℕ)) → rep
     → (reply ≡ hole_cutoff_of fit budget) × Demanded fit budget reply
 both fit budget reply e = (e, λ s answer gave. hole-cutoff-keeps fit budget s answer (sym e ∙ gave))
 
-returns : tie.Need-returns
+returns : tie.Need-returns-then-end-gt-MOST
 unfolding hole_cutoff_of
 returns c =
-    let a = c.before.args in
-    both a.fit a.budget (refuse 2) (simp (lt-ltb _ _ c.if1.true))
+    let a = c.args in
+    both a.fit a.budget (refuse 2) (simp (lt-ltb _ _ c.if-end-gt-MOST.true))
 
-returns-2 : tie.Need-returns-2
+returns-2 : tie.Need-returns-then-end-eq0
 unfolding hole_cutoff_of
 returns-2 c =
     let s : tie.Start = search in
     let a = s.args in
-    both a.fit a.budget (refuse 5) (simp (le-ltb _ _ c.before.if1.false, eq-eqb _ _ c.if2.true))
+    both a.fit a.budget (refuse 5) (simp (le-ltb _ _ c.if-end-gt-MOST.false, eq-eqb _ _ c.if-end-eq0.true))
 
-returns-3 : tie.Need-returns-3
+returns-3 : tie.Need-returns-then-not-walk_starts
 unfolding hole_cutoff_of
 returns-3 c =
     let s : tie.Start = search in
-    let known = c.before in
-    let some = known.before in
+    let known = c in
+    let some = known in
     let a = s.args in
     both a.fit a.budget (give none)
     (simp
-    (le-ltb _ _ some.before.if1.false, ne_eqb _ _ some.if2.false, sym known.walk-starts.ensures ∙ not-true _ c.if3.true))
-
-enum_told : tie.Need-enum-told
-enum_told c = search rules
+    (le-ltb _ _ some.if-end-gt-MOST.false, ne_eqb _ _ some.if-end-eq0.false, sym known.walk_starts.ensures ∙ c.if-not-walk_starts.true))
 
 -- where the walk came back with something
-module _ (c : tie.After-hole-walk) where
+module _ (c : tie.After-hole_walk-found) where
   abbrev start : tie.Start
   start = search
 
-  came : give (part_says c.hole-walk.result) ≡ hole_cutoff_of start.args.fit start.args.budget
+  came : give (part_says c.hole_walk-found.result) ≡ hole_cutoff_of start.args.fit start.args.budget
   unfolding hole_cutoff_of
   came =
-      let known : tie.After-walk-starts = search in
-      let some = known.before in
+      let known : tie.After-walk_starts = search in
+      let some = known in
       simp
-      (le-ltb _ _ some.before.if1.left, ne_eqb _ _ some.if2.left, sym known.walk-starts.ensures ∙ not-false _ c.before.if3.false)
-      (ap give c.hole-walk.ensures)
+      (le-ltb _ _ some.if-end-gt-MOST.false, ne_eqb _ _ some.if-end-eq0.false, sym known.walk_starts.ensures ∙ c.if-not-walk_starts.false)
+      (ap give c.hole_walk-found.ensures)
 
-  part : (p : CutoffPart) → c.hole-walk.result ≡ p
+  part : (p : CutoffPart) → c.hole_walk-found.result ≡ p
       → (give (part_says p) ≡ hole_cutoff_of start.args.fit start.args.budget) × Demanded start.args.fit start.args.budget (give (part_says p))
   part p e =
       both start.args.fit start.args.budget (give (part_says p))
       (ap (λ (q : CutoffPart). give (part_says q)) (sym e) ∙ came)
 
-returns-4 : tie.Need-returns-4
-returns-4 c = let after-hole-walk : tie.After-hole-walk = search in part after-hole-walk _ c.enum_told.given.1
+returns-4 : tie.Need-returns-in-Absent
+returns-4 c = let after-hole-walk : tie.After-hole_walk-found = search in part after-hole-walk _ c.in-Absent.is
 
-returns-5 : tie.Need-returns-5
+returns-5 : tie.Need-returns-in-Present
 returns-5 c =
-    let after-hole-walk : tie.After-hole-walk = search in
-    let found = c.before in part after-hole-walk _ found.found.given.1
+    let after-hole-walk : tie.After-hole_walk-found = search in
+    let found = c in part after-hole-walk _ found.in-Present.is
 
-pub hole-cutoff-spec : {M : Type 1} → statement M
-hole-cutoff-spec =
+pub hole_cutoff_spec : {M : Type 1} → statement M
+hole_cutoff_spec =
     tie.close
-    (tie.spec returns returns-2 (λ c κs. search rules) returns-3 (λ c κs. search rules) enum_told (λ c. search rules)
-    returns-4 returns-5)
+    (tie.spec
+    returns
+    returns-2
+    (λ c κs. search rules)
+    returns-3
+    (λ c κs. search rules)
+    (λ c. search rules)
+    (λ c. search rules)
+    returns-4
+    returns-5)

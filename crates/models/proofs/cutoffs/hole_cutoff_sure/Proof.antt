@@ -19,20 +19,20 @@ both : (fit : SpectrumFit) (budget : Float) (reply : Reply Sureness) → reply �
     → (reply ≡ hole_cutoff_sure_of fit budget) × DemandedSure fit budget reply
 both fit budget reply e = (e, λ answer gave. sure-keeps fit budget answer (sym e ∙ gave))
 
-returns : tie.Need-returns
+returns : tie.Need-returns-then-end-gt-MOST
 unfolding hole_cutoff_sure_of
 returns c =
-    let a = c.before.args in
-    both a.fit a.budget (refuse 2) (simp (lt-ltb _ _ c.if1.true))
+    let a = c.args in
+    both a.fit a.budget (refuse 2) (simp (lt-ltb _ _ c.if-end-gt-MOST.true))
 
-returns-2 : tie.Need-returns-2
+returns-2 : tie.Need-returns-then-end-eq0
 unfolding hole_cutoff_sure_of
 returns-2 c =
     let s : tie.Start = search in
     let a = s.args in
-    both a.fit a.budget (refuse 5) (simp (le-ltb _ _ c.before.if1.false, eq-eqb _ _ c.if2.true))
+    both a.fit a.budget (refuse 5) (simp (le-ltb _ _ c.if-end-gt-MOST.false, eq-eqb _ _ c.if-end-eq0.true))
 
-returns-3 : tie.Need-returns-3
+returns-3 : tie.Need-returns-then-not-walk_starts
 unfolding hole_cutoff_sure_of
 returns-3 c =
     let s : tie.Start = search in
@@ -41,41 +41,48 @@ returns-3 c =
     let a = s.args in
     both a.fit a.budget (give no_walk)
     (simp
-    (le-ltb _ _ some.before.if1.false, ne_eqb _ _ some.if2.false, sym known.walk-starts.ensures ∙ not-true _ c.if3.true))
+    (le-ltb _ _ some.if-end-gt-MOST.false, ne_eqb _ _ some.if-end-eq0.false, sym known.walk_starts.ensures ∙ c.if-not-walk_starts.true))
 
 -- where the walk started
-module _ (c : tie.After-is-sure) where
+module _ (c : tie.After-is_sure) where
   abbrev start : tie.Start
   start = search
 
-  came : give (sureness c.is-sure.result (part_says c.before.hole-walk.result))
+  came : give (sureness c.is_sure.result (part_says c.hole_walk-found.result))
       ≡ hole_cutoff_sure_of start.args.fit start.args.budget
   unfolding hole_cutoff_sure_of
   came =
       let walked = c.before in
-      let known : tie.After-walk-starts = search in
+      let known : tie.After-walk_starts = search in
       let some = known.before in
       simp
-      (le-ltb _ _ some.before.if1.left, ne_eqb _ _ some.if2.left, sym known.walk-starts.ensures ∙ not-false _ walked.before.if3.false)
-      (ap (λ (b : Bool). give (sureness b (part_says walked.hole-walk.result))) c.is-sure.ensures
-      ∙ ap (λ (o : Option ℕ). give (sureness (sure_of start.args.fit start.args.budget) o)) walked.hole-walk.ensures)
+      (le-ltb _ _ some.if-end-gt-MOST.false, ne_eqb _ _ some.if-end-eq0.false, sym known.walk_starts.ensures ∙ walked.if-not-walk_starts.false)
+      (ap (λ (b : Bool). give (sureness b (part_says walked.hole_walk-found.result))) c.is_sure.ensures
+      ∙ ap (λ (o : Option ℕ). give (sureness (sure_of start.args.fit start.args.budget) o)) walked.hole_walk-found.ensures)
 
-  part : (b : Bool) → c.is-sure.result ≡ b
-      → let reply = give (sureness b (part_says c.before.hole-walk.result)) in
+  part : (b : Bool) → c.is_sure.result ≡ b
+      → let reply = give (sureness b (part_says c.hole_walk-found.result)) in
       (reply ≡ hole_cutoff_sure_of start.args.fit start.args.budget) × DemandedSure start.args.fit start.args.budget reply
   part b e =
       let after-hole-walk = c.before in
-      both start.args.fit start.args.budget (give (sureness b (part_says after-hole-walk.hole-walk.result)))
-      (ap (λ (b : Bool). give (sureness b (part_says after-hole-walk.hole-walk.result))) (sym e) ∙ came)
+      both start.args.fit start.args.budget (give (sureness b (part_says after-hole-walk.hole_walk-found.result)))
+      (ap (λ (b : Bool). give (sureness b (part_says after-hole-walk.hole_walk-found.result))) (sym e) ∙ came)
 
-returns-4 : tie.Need-returns-4
-returns-4 c = part c.before _ c.if4.true
+returns-4 : tie.Need-returns-then-is_sure
+returns-4 c = part c.before _ c.if-is_sure.true
 
-returns-5 : tie.Need-returns-5
-returns-5 c = part c.before _ c.if4.false
+returns-5 : tie.Need-returns
+returns-5 c = part c.before _ c.if-is_sure.false
 
-pub hole-cutoff-sure-spec : {M : Type 1} → statement M
-hole-cutoff-sure-spec =
+pub hole_cutoff_sure_spec : {M : Type 1} → statement M
+hole_cutoff_sure_spec =
     tie.close
-    (tie.spec returns returns-2 (λ c κs. search rules) returns-3 (λ c κs. search rules) (λ c κs. search rules)
-    returns-4 returns-5)
+    (tie.spec
+    returns
+    returns-2
+    (λ c κs. search rules)
+    returns-3
+    (λ c κs. search rules)
+    (λ c κs. search rules)
+    returns-4
+    returns-5)

@@ -11,10 +11,10 @@ use Rattle.models.proofs.WordsBack.{same_parts}
 use Rattle.models.proofs.fit_words.fit_of_words.Statement.{statement}
 use Rattle.models.proofs.fit_words.fit_of_words.Tie as tie
 
-abbrev genome : tie.After-shelf-from → tie.After-genome-of
+abbrev genome : tie.After-shelf_from-shelf → tie.After-genome_of-genome
 genome c = c.before.before.before.before
 
-abbrev start : tie.After-shelf-from → tie.Start
+abbrev start : tie.After-shelf_from-shelf → tie.Start
 start c = (genome c).before.before.before.before.before.before
 
 returns : tie.Need-returns
@@ -24,20 +24,54 @@ returns c =
     let x : ℕ → Float = λ i. get_or (start c).args.words.floats i nan in
     let held : Shelf = record { share = x 9; alpha = x 10; beta = x 11 } in
     same_parts (start c).args.words _ _ _ _ _ _ _ _
-    (g.before.before.error-of.ensures ∙ ap error_of g.before.before.before.bit-of.ensures)
-    (g.genome-of.ensures ∙ ap genome_of g.before.bit-of2.ensures)
-    (c.before.before.shape-of.ensures ∙ ap (λ (k : ℕ). shape_of k (x 8)) c.before.before.before.bit-of3.ensures)
-    (c.shelf-from.ensures ∙ ap (λ (k : ℕ). shelf_from k held) c.before.bit-of4.ensures)
+    (g.error_of-error.ensures ∙ ap error_of g.bit_of.ensures)
+    (g.genome_of-genome.ensures ∙ ap genome_of g.bit_of-2.ensures)
+    (c.shape_of-shape.ensures ∙ ap (λ (k : ℕ). shape_of k (x 8)) c.bit_of-3.ensures)
+    (c.shelf_from-shelf.ensures ∙ ap (λ (k : ℕ). shelf_from k held) c.bit_of-4.ensures)
 
-pub fit-of-words-spec : {M : Type 1} → statement M
-fit-of-words-spec =
+pub fit_of_words_spec : {M : Type 1} → statement M
+fit_of_words_spec =
     tie.close
-    (tie.spec (λ c. search rules) (λ c κs. search rules) (λ c κs. search rules) (λ c. search rules)
-    (λ c κs. search rules) (λ c κs. search rules) (λ c. search rules) (λ c κs. search rules) (λ c. search rules)
-    (λ c κs. search rules) (λ c. search rules) (λ c. search rules) (λ c. search rules) (λ c. search rules)
-    (λ c κs. search rules) (λ c κs. search rules) (λ c. search rules) (λ c. search rules) (λ c. search rules)
-    (λ c. search rules) (λ c. search rules) (λ c. search rules) (λ c. search rules) (λ c. search rules)
-    (λ c. search rules) (λ c. search rules) (λ c. search rules) (λ c. search rules) (λ c. search rules)
-    (λ c. search rules) (λ c. search rules) (λ c. search rules) (λ c. search rules) (λ c. search rules)
-    (λ c. search rules) (λ c. search rules) (λ c. search rules) (λ c. search rules) (λ c. search rules)
-    (λ c. search rules) (λ c. search rules) returns)
+    (tie.spec
+    (λ c. search rules)
+    (λ c κs. search rules)
+    (λ c κs. search rules)
+    (λ c. search rules)
+    (λ c κs. search rules)
+    (λ c κs. search rules)
+    (λ c. search rules)
+    (λ c κs. search rules)
+    (λ c. search rules)
+    (λ c κs. search rules)
+    (λ c. search rules)
+    (λ c. search rules)
+    (λ c. search rules)
+    (λ c. search rules)
+    (λ c κs. search rules)
+    (λ c κs. search rules)
+    (λ c. search rules)
+    (λ c. search rules)
+    (λ c. search rules)
+    (λ c. search rules)
+    (λ c. search rules)
+    (λ c. search rules)
+    (λ c. search rules)
+    (λ c. search rules)
+    (λ c. search rules)
+    (λ c. search rules)
+    (λ c. search rules)
+    (λ c. search rules)
+    (λ c. search rules)
+    (λ c. search rules)
+    (λ c. search rules)
+    (λ c. search rules)
+    (λ c. search rules)
+    (λ c. search rules)
+    (λ c. search rules)
+    (λ c. search rules)
+    (λ c. search rules)
+    (λ c. search rules)
+    (λ c. search rules)
+    (λ c. search rules)
+    (λ c. search rules)
+    returns)

@@ -21,76 +21,91 @@ use Rattle.models.proofs.height_cutoffs.crossing.Tie as tie
 abbrev heights-in : HeightTerms → ℕ → Heights
 heights-in t k = heights_of t (of_count k)
 
-abbrev invariant-loop : tie.invariant-loop
+abbrev invariant-loop : tie.invariant-loop-count
 invariant-loop t ceiling p here₀ count₀ here count =
     (here ≡ survival_of t.error_params (of_count count)) ×
     (crossing_of (heights-in t) ceiling ≡ crossing_from (heights-in t) (ceiling - count) count)
 
-abbrev decreases-loop : tie.decreases-loop
+abbrev decreases-loop : tie.decreases-loop-count
 decreases-loop t ceiling p here₀ count₀ here count = ceiling - count
 
 -- the turn of a comparison, and the call's start
-abbrev at : tie.After-single-height invariant-loop decreases-loop → tie.At-loop invariant-loop decreases-loop
+abbrev at : tie.After-single_height invariant-loop decreases-loop → tie.At-loop-count invariant-loop decreases-loop
 at c = search
 
-abbrev start : tie.After-single-height invariant-loop decreases-loop → tie.Start invariant-loop decreases-loop
+abbrev start : tie.After-single_height invariant-loop decreases-loop → tie.Start invariant-loop decreases-loop
 start c = search
 
-few : (c : tie.After-single-height invariant-loop decreases-loop) → (at c).loop.count ≤ 65535
-few c = let t : tie.In-loop invariant-loop decreases-loop = search in omega (arith, t.loop-test.taken, (start c).ranges)
+few : (c : tie.After-single_height invariant-loop decreases-loop) → (at c).loop-count.count ≤ 65535
+few c = let t : tie.In-loop-count invariant-loop decreases-loop = search in omega (arith, t.loop-count-test.true, (start c).ranges)
 
-survives : (c : tie.After-single-height invariant-loop decreases-loop)
-    → let after-survival-with : tie.After-survival-with invariant-loop decreases-loop = search in
-    after-survival-with.survival-with.result
-    ≡ survival_of (start c).args.t.error_params (of_count ((at c).loop.count + 1))
+survives : (c : tie.After-single_height invariant-loop decreases-loop)
+    → let after-survival-with : tie.After-survival_with-next invariant-loop decreases-loop = search in
+    after-survival-with.survival_with-next.result
+    ≡ survival_of (start c).args.t.error_params (of_count ((at c).loop-count.count + 1))
 survives c =
-    let next : tie.After-survival-with invariant-loop decreases-loop = search in
-    next-survival (at c).loop.count (few c) _ _ _ next.survival-with.ensures next.before.ln.ensures
+    let next : tie.After-survival_with-next invariant-loop decreases-loop = search in
+    next-survival (at c).loop-count.count (few c) _ _ _ next.survival_with-next.ensures next.ln.ensures
 
-tested : (c : tie.After-single-height invariant-loop decreases-loop) (b : Bool)
-    → let after-error-height-from : tie.After-error-height-from invariant-loop decreases-loop = search in
-    lt after-error-height-from.error-height-from.result c.single-height.result ≡ b
-    → outgrows (heights-in (start c).args.t) (at c).loop.count ≡ b
+tested : (c : tie.After-single_height invariant-loop decreases-loop) (b : Bool)
+    → let after-error-height-from : tie.After-error_height_from-error invariant-loop decreases-loop = search in
+    lt after-error-height-from.error_height_from-error.result c.single_height.result ≡ b
+    → outgrows (heights-in (start c).args.t) (at c).loop-count.count ≡ b
 tested c b h =
-    let after-error-height-from : tie.After-error-height-from invariant-loop decreases-loop = search in
+    let after-error-height-from : tie.After-error_height_from-error invariant-loop decreases-loop = search in
     let t = (start c).args.t in
-    let turn = (at c).loop in
-    let error = after-error-height-from.error-height-from.ensures ∙ error-from-is turn.count (few c) _ _ t
-    turn.inv.0 (survives c) in
-    outgrows-is t turn.count _ _ b error c.single-height.ensures h
+    let turn = (at c).loop-count in
+    let error = after-error-height-from.error_height_from-error.ensures ∙ error-from-is turn.count (few c) _ _ t
+    turn.invariant.0 (survives c) in
+    outgrows-is t turn.count _ _ b error c.single_height.ensures h
 
-loop-holds : tie.Need-loop-init invariant-loop decreases-loop
-loop-holds c = (first-survival _ _ c.log-survival-from-two.ensures, crossing-starts _ _)
+loop-holds : tie.Need-loop-count-init invariant-loop decreases-loop
+loop-holds c = (first-survival _ _ c.log_survival_from_two-here.ensures, crossing-starts _ _)
 
-returns : tie.Need-returns invariant-loop decreases-loop
+returns : tie.Need-returns-then-single_height-error invariant-loop decreases-loop
 returns c =
-    let compared : tie.After-single-height invariant-loop decreases-loop = search in
-    let turn = (at compared).loop in
+    let compared : tie.After-single_height invariant-loop decreases-loop = search in
+    let turn = (at compared).loop-count in
     sym
-    (turn.inv.1
-    ∙ crossing-hits _ _ turn.count (omega arith) (tested compared _ c.before.if1.true)
-    ∙ ap some (sym c.at-least-two.ensures))
+    (turn.invariant.1
+    ∙ crossing-hits _ _ turn.count (omega arith) (tested compared _ c.if-single_height-error.true)
+    ∙ ap some (sym c.at_least_two.ensures))
 
-add-count : tie.Need-overflow-add-count invariant-loop decreases-loop
+add-count : tie.Need-overflow_add-count invariant-loop decreases-loop
 add-count c = omega arith
 
-loop-less : tie.Need-loop-smaller invariant-loop decreases-loop
+loop-less : tie.Need-loop-count-smaller invariant-loop decreases-loop
 loop-less c = omega arith
 
-loop-again : tie.Need-loop-preserved invariant-loop decreases-loop
+loop-again : tie.Need-loop-count-preserved invariant-loop decreases-loop
 loop-again c =
     let compared = c.before in
-    let turn = (at compared).loop in
-    (survives compared, turn.inv.1 ∙ crossing-goes _ _ turn.count (omega arith) (tested compared _ c.if1.false))
+    let turn = (at compared).loop-count in
+    (survives compared, turn.invariant.1 ∙ crossing-goes _ _ turn.count (omega arith) (tested compared _ c.if-single_height-error.false))
 
-returns-2 : tie.Need-returns-2 invariant-loop decreases-loop
+returns-2 : tie.Need-returns invariant-loop decreases-loop
 returns-2 c =
-    let turn = c.before.loop in
+    let turn = c.loop-count in
     sym (turn.invariant.1 ∙ crossing-ends _ _ turn.count (omega arith))
 
-pub crossing-spec : {M : Type 1} → statement M
-crossing-spec =
+pub crossing_spec : {M : Type 1} → statement M
+crossing_spec =
     tie.close
-    (tie.spec invariant-loop decreases-loop (λ c κs. search rules) loop-holds (λ c. search rules) (λ c κs. search rules)
-    (λ c κs. search rules) (λ c. search rules) (λ c κs. search rules) (λ c. search rules) (λ c κs. search rules)
-    (λ c κs. search rules) returns add-count loop-less loop-again returns-2)
+    (tie.spec
+    invariant-loop
+    decreases-loop
+    (λ c κs. search rules)
+    loop-holds
+    (λ c. search rules)
+    (λ c κs. search rules)
+    (λ c κs. search rules)
+    (λ c. search rules)
+    (λ c κs. search rules)
+    (λ c. search rules)
+    (λ c κs. search rules)
+    (λ c κs. search rules)
+    returns
+    add-count
+    loop-less
+    loop-again
+    returns-2)

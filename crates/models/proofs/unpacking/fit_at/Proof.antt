@@ -10,17 +10,17 @@ use Rattle.models.proofs.unpacking.fit_at.Statement.{statement}
 use Rattle.models.proofs.unpacking.fit_at.Tie as tie
 
 -- where the table was written
-module _ (c : tie.After-fill-table) where
+module _ (c : tie.After-fill_table-items) where
   abbrev start : tie.Start
   start = search
 
   abbrev entries : List Float
   entries = let a = start.args in entries_in a.p.shelf a.p.mean a.window.end (length a.table.now)
 
-part-masses-of-end : tie.Need-slice-bounds-masses-of-end
+part-masses-of-end : tie.Need-slice_bounds-masses_of-end
 part-masses-of-end c =
-    let filled : tie.After-fill-table = search in
-    let fill = filled.fill-table in
+    let filled : tie.After-fill_table-items = search in
+    let fill = filled.fill_table-items in
     let a = (start filled).args in
     front-room (entries filled) a.table.now _ _ fill.ensures.0 fill.ensures.1
     (entries-few a.p.shelf a.p.mean a.window.end (length a.table.now))
@@ -28,17 +28,24 @@ part-masses-of-end c =
 returns : tie.Need-returns
 returns c =
     let measured = c.before in
-    let filled : tie.After-fill-table = search in
-    let fill = filled.fill-table in
+    let filled : tie.After-fill_table-items = search in
+    let fill = filled.fill_table-items in
     let a = (start filled).args in (
       fit_is a.bins.now a.window a.error a.genome a.p a.cost a.iterations _ (entries filled) _ _
           (front-is (entries filled) a.table.now _ _ fill.ensures.0 fill.ensures.1)
-          measured.masses-of.ensures c.fit_of.ensures,
+          measured.masses_of-m.ensures c.fit_of.ensures,
       fill.ensures.1,
     )
 
-pub fit-at-spec : {M : Type 1} → statement M
-fit-at-spec =
+pub fit_at_spec : {M : Type 1} → statement M
+fit_at_spec =
     tie.close
-    (tie.spec (λ c κs. search rules) (λ c. search rules) (λ c. search rules) part-masses-of-end (λ c κs. search rules)
-    (λ c κs. search rules) (λ c. search rules) returns)
+    (tie.spec
+    (λ c κs. search rules)
+    (λ c. search rules)
+    (λ c. search rules)
+    part-masses-of-end
+    (λ c κs. search rules)
+    (λ c κs. search rules)
+    (λ c. search rules)
+    returns)

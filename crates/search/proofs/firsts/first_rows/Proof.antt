@@ -14,7 +14,7 @@ use Rattle.search.proofs.RowLaws.{rows-length}
 use Rattle.search.proofs.firsts.first_rows.Statement.{statement}
 use Rattle.search.proofs.firsts.first_rows.Tie as tie
 
-abbrev invariant-loop : tie.invariant-loop
+abbrev invariant-loop : tie.invariant-loop-i
 invariant-loop bins problem w start point₀ rows₀ ready table₀ i₀ point rows table i =
     (length point ≡ length point₀)
     × (length rows ≡ length rows₀)
@@ -22,19 +22,19 @@ invariant-loop bins problem w start point₀ rows₀ ready table₀ i₀ point r
     × (drop (stands_from problem) table ≡ drop (stands_from problem) table₀)
     × Passed (first_at (ready_price_of bins problem ready (length table₀)) start) [] (rows_in w w rows₀) (rows_in w w rows) i
 
-abbrev decreases-loop : tie.decreases-loop
+abbrev decreases-loop : tie.decreases-loop-i
 decreases-loop bins problem w start point₀ rows₀ ready table₀ i₀ point rows table i = w - i
 
-abbrev begun : tie.At-loop invariant-loop decreases-loop → tie.Start invariant-loop decreases-loop
+abbrev begun : tie.At-loop-i invariant-loop decreases-loop → tie.Start invariant-loop decreases-loop
 begun l = search
 
-abbrev turn : tie.After-first-point invariant-loop decreases-loop → tie.In-loop invariant-loop decreases-loop
+abbrev turn : tie.After-first_point invariant-loop decreases-loop → tie.In-loop-i invariant-loop decreases-loop
 turn p = search
 
-abbrev priced : tie.After-put-arg2 invariant-loop decreases-loop → tie.After-price invariant-loop decreases-loop
+abbrev priced : tie.After-put-arg-1 invariant-loop decreases-loop → tie.After-price-cost invariant-loop decreases-loop
 priced k = search
 
-abbrev pointed : tie.After-price invariant-loop decreases-loop → tie.After-first-point invariant-loop decreases-loop
+abbrev pointed : tie.After-price-cost invariant-loop decreases-loop → tie.After-first_point invariant-loop decreases-loop
 pointed q = search
 
 abbrev price : tie.Start invariant-loop decreases-loop → List Float → Float
@@ -43,21 +43,21 @@ price s = let a = s.args in ready_price_of a.bins.now a.problem a.ready.now (len
 abbrev rows : tie.Start invariant-loop decreases-loop → List Vertex
 rows s = let a = s.args in rows_in a.w a.w a.rows.now
 
-loop-holds : tie.Need-loop-init invariant-loop decreases-loop
+loop-holds : tie.Need-loop-i-init invariant-loop decreases-loop
 loop-holds c =
     let s : tie.Start invariant-loop decreases-loop = search in
     (refl, refl, refl, refl, begins (first_at (price s) s.args.start.now) [] (rows s))
 
-first-point-requires : tie.Need-first-point-requires invariant-loop decreases-loop
+first-point-requires : tie.Need-first_point-requires invariant-loop decreases-loop
 first-point-requires c κs =
     let t = c.before in
     let l = t.before in
     let s = begun l in
     let a = s.args in
-    let e : length a.point.now ≡ length a.start.now = omega (arith, s.pre.1, s.pre.2) in
-    (l.loop.invariant.0 ∙ e, omega (arith, t.loop-test.true, s.pre.1))
+    let e : length a.point.now ≡ length a.start.now = omega (arith, s.requires.1, s.requires.2) in
+    (l.loop-i.invariant.0 ∙ e, omega (arith, t.loop-i-test.true, s.requires.1))
 
-price-requires : tie.Need-price-requires invariant-loop decreases-loop
+price-requires : tie.Need-price-cost-requires invariant-loop decreases-loop
 price-requires c κs = tt
 
 put-requires : tie.Need-put-requires invariant-loop decreases-loop
@@ -66,22 +66,22 @@ put-requires c κs =
     let t = turn p in
     let l = t.before in
     let s = begun l in (
-      l.loop.inv.1 ∙ s.pre.0,
-      t.loop-test.taken,
-      ap (λ (n : ℕ). n + 1) (p.first-point.kept.1.1.0 ∙ l.loop.inv.0) ∙ s.pre.2,
+      l.loop-i.invariant.1 ∙ s.requires.0,
+      t.loop-i-test.true,
+      ap (λ (n : ℕ). n + 1) (p.first_point.auto.point ∙ l.loop-i.invariant.0) ∙ s.requires.2,
     )
 
-add-i : tie.Need-overflow-add-i invariant-loop decreases-loop
+add-i : tie.Need-overflow_add-i invariant-loop decreases-loop
 add-i c = omega arith
 
-loop-less : tie.Need-loop-smaller invariant-loop decreases-loop
+loop-less : tie.Need-loop-i-smaller invariant-loop decreases-loop
 loop-less c = omega arith
 
 -- one more row is written
-more : (k : tie.After-put invariant-loop decreases-loop) → let l : tie.At-loop invariant-loop decreases-loop = search in
+more : (k : tie.After-put invariant-loop decreases-loop) → let l : tie.At-loop-i invariant-loop decreases-loop = search in
     let s = begun l in
     let a = s.args in
-    Passed (first_at (price s) a.start.now) [] (rows s) (rows_in a.w a.w k.put.new.0) (l.loop.i + 1)
+    Passed (first_at (price s) a.start.now) [] (rows s) (rows_in a.w a.w k.put.new.rows) (l.loop-i.i + 1)
 more k =
     let q = priced k.before in
     let p = pointed q in
@@ -89,36 +89,36 @@ more k =
     let l = t.before in
     let s = begun l in
     let a = s.args in
-    let point = p.first-point.last.1.1.0 in
-    subst (λ (us : List Vertex). Passed (first_at (price s) a.start.now) [] (rows s) us (l.loop.i + 1))
+    let point = p.first_point.new.point in
+    subst (λ (us : List Vertex). Passed (first_at (price s) a.start.now) [] (rows s) us (l.loop-i.i + 1))
     (sym k.put.ensures)
-    (first-goes-on (price s) a.start.now l.loop.inv.4
-    (rw (rows-length a.w a.w a.rows.now) t.loop-test.taken) point q.price.result
-    p.first-point.ensures
-    (q.price.ensures.0
-    ∙ ap (λ (n : ℕ). ready_price_of a.bins.now a.problem a.ready.now n point) l.loop.inv.2))
+    (first-goes-on (price s) a.start.now l.loop-i.invariant.4
+    (rw (rows-length a.w a.w a.rows.now) t.loop-i-test.true) point q.price-cost.result
+    p.first_point.ensures
+    (q.price-cost.ensures.0
+    ∙ ap (λ (n : ℕ). ready_price_of a.bins.now a.problem a.ready.now n point) l.loop-i.invariant.2))
 
-loop-again : tie.Need-loop-preserved invariant-loop decreases-loop
+loop-again : tie.Need-loop-i-preserved invariant-loop decreases-loop
 loop-again c =
     let k : tie.After-put invariant-loop decreases-loop = search in
     let q = priced k.before in
     let p = pointed q in
     let l = (turn p).before in (
-      p.first-point.kept.1.1.0 ∙ l.loop.inv.0,
-      k.put.kept.0 ∙ l.loop.inv.1,
-      q.price.kept.1.1.1.1.0 ∙ l.loop.inv.2,
-      q.price.ensures.1 ∙ l.loop.inv.3,
+      p.first_point.auto.point ∙ l.loop-i.invariant.0,
+      k.put.auto.rows ∙ l.loop-i.invariant.1,
+      q.price-cost.auto.table ∙ l.loop-i.invariant.2,
+      q.price-cost.ensures.1 ∙ l.loop-i.invariant.3,
       more k,
     )
 
-same_length : tie.Need-same-length invariant-loop decreases-loop
-same_length c = c.before.loop.invariant.0
+same_length : tie.Need-shape_of-point invariant-loop decreases-loop
+same_length c = c.loop-i.invariant.0
 
-same-length-2 : tie.Need-same-length-2 invariant-loop decreases-loop
-same-length-2 c = c.before.loop.invariant.1
+same-length-2 : tie.Need-shape_of-rows invariant-loop decreases-loop
+same-length-2 c = c.loop-i.invariant.1
 
-same-length-3 : tie.Need-same-length-3 invariant-loop decreases-loop
-same-length-3 c = c.before.loop.invariant.2
+same-length-3 : tie.Need-shape_of-table invariant-loop decreases-loop
+same-length-3 c = c.loop-i.invariant.2
 
 returns : tie.Need-returns invariant-loop decreases-loop
 returns c =
@@ -126,12 +126,12 @@ returns c =
     let s = begun l in
     let a = s.args in
     let n : length (rows s) ≡ a.w = rows-length a.w a.w a.rows.now in (
-      first_ends (price s) a.start.now l.loop.invariant.4 (n ∙ sym s.pre.1) (omega (arith, n, c.loop-test.false)),
-      l.loop.invariant.3,
+      first_ends (price s) a.start.now l.loop-i.invariant.4 (n ∙ sym s.requires.1) (omega (arith, n, c.loop-i-test.false)),
+      l.loop-i.invariant.3,
     )
 
-pub first-rows-spec : {M : Type 1} → statement M
-first-rows-spec =
+pub first_rows_spec : {M : Type 1} → statement M
+first_rows_spec =
     tie.close
     (tie.spec
     invariant-loop

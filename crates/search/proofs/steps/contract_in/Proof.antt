@@ -14,14 +14,14 @@ use Rattle.search.proofs.Stepped.{last-part, in_taken, in-shrunk}
 use Rattle.search.proofs.steps.contract_in.Statement.{statement}
 use Rattle.search.proofs.steps.contract_in.Tie as tie
 
-abbrev start : tie.After-slice-known4 → tie.Start
+abbrev start : tie.After-slice_known-4-1 → tie.Start
 start c = search
 
 -- the last row lies in the slice
-last_fits : (c : tie.After-slice-known4) → let w = (start c).args.w in (w - 1) * w + w ≤ w * w
+last_fits : (c : tie.After-slice_known-4-1) → let w = (start c).args.w in (w - 1) * w + w ≤ w * w
 last_fits c = row_fits ((start c).args.w - 1) (start c).args.w (start c).args.w (omega arith)
 
-module _ (t : tie.After-try-point) where
+module _ (t : tie.After-try_point-cost) where
   abbrev s : tie.Start
   s = search
 
@@ -31,63 +31,83 @@ module _ (t : tie.After-try-point) where
   some : 0 < s.args.w
   some = omega arith
 
-mul-worst : tie.Need-overflow-mul-worst
+mul-worst : tie.Need-overflow_mul-worst
 mul-worst c = omega (arith, last_fits c)
 
-add-from : tie.Need-overflow-add-from
+add-from : tie.Need-overflow_add-from
 add-from c = omega (arith, last_fits c)
 
-add-to : tie.Need-overflow-add-to
+add-to : tie.Need-overflow_add-to
 add-to c = omega (arith, last_fits c)
 
-mul-try-point : tie.Need-overflow-mul-try-point
-mul-try-point c = omega (arith, last_fits c.before)
+mul-try-point : tie.Need-offset_bounds-rows-from
+mul-try-point c = let k : tie.After-slice_known-4-1 = search in omega (arith, last_fits k)
 
-part-try-point-end : tie.Need-slice-bounds-try-point-end
+part-try-point-end : tie.Need-slice_bounds-try_point-end
 part-try-point-end c =
-    let after-slice-known4 : tie.After-slice-known4 = search in
+    let after-slice-known4 : tie.After-slice_known-4-1 = search in
     omega (arith, last_fits after-slice-known4)
 
-mul-if1 : tie.Need-overflow-mul-if1
-mul-if1 c = let after-slice-known4 : tie.After-slice-known4 = search in omega (arith, last_fits after-slice-known4)
+mul-if1 : tie.Need-offset_bounds-rows-worst
+mul-if1 c = let after-slice-known4 : tie.After-slice_known-4-1 = search in omega (arith, last_fits after-slice-known4)
 
-slice-read-if1 : tie.Need-slice-read-if1
+slice-read-if1 : tie.Need-bounds-rows-worst
 slice-read-if1 c =
-    let after-slice-known4 : tie.After-slice-known4 = search in
+    let after-slice-known4 : tie.After-slice_known-4-1 = search in
     omega (arith, last_fits after-slice-known4)
 
-returns : tie.Need-returns
+returns : tie.Need-returns-then-cost-rows
 returns c =
     let k : tie.After-put = search in
-    let then : tie.Then1 = search in
-    let t : tie.After-try-point = search in
+    let then : tie.Then-cost-rows = search in
+    let t : tie.After-try_point-cost = search in
     let a = (s t).args in (
       k.put.ensures
-          ∙ in_taken (price t) a.w a.rows.now (s t).pre.0 (some t) a.centre.now _
-          (last-part (price t) a.w a.rows.now (s t).pre.0 (some t)) _ _ _ t.try-point.ensures.0
-          t.try-point.ensures.1.0 then.if1.taken,
-      t.try-point.ensures.1.1,
+          ∙ in_taken (price t) a.w a.rows.now (s t).requires.0 (some t) a.centre.now _
+          (last-part (price t) a.w a.rows.now (s t).requires.0 (some t)) _ _ _ t.try_point-cost.ensures.0
+          t.try_point-cost.ensures.1.0 then.if-cost-rows.true,
+      t.try_point-cost.ensures.1.1,
     )
 
-returns-2 : tie.Need-returns-2
+returns-2 : tie.Need-returns
 returns-2 c =
     let k : tie.After-shrink = search in
-    let else : tie.Else1 = search in
-    let t : tie.After-try-point = search in
+    let else : tie.Else-cost-rows = search in
+    let t : tie.After-try_point-cost = search in
     let a = (s t).args in (
       k.shrink.ensures.0
           ∙ ap (λ (n : ℕ). shrunk (ready_price_of a.bins.now a.problem a.ready.now n) (rows_in a.w a.w a.rows.now))
-          t.try-point.kept.1.1.1.1.1.1.1.0
-          ∙ in-shrunk (price t) a.w a.rows.now (s t).pre.0 (some t) a.centre.now _
-          (last-part (price t) a.w a.rows.now (s t).pre.0 (some t)) _ _ _ t.try-point.ensures.0
-          t.try-point.ensures.1.0 else.if1.left,
-      k.shrink.ensures.1 ∙ t.try-point.ensures.1.1,
+          t.try_point-cost.auto.table
+          ∙ in-shrunk (price t) a.w a.rows.now (s t).requires.0 (some t) a.centre.now _
+          (last-part (price t) a.w a.rows.now (s t).requires.0 (some t)) _ _ _ t.try_point-cost.ensures.0
+          t.try_point-cost.ensures.1.0 else.if-cost-rows.false,
+      k.shrink.ensures.1 ∙ t.try_point-cost.ensures.1.1,
     )
 
-pub contract-in-spec : {M : Type 1} → statement M
-contract-in-spec =
+pub contract_in_spec : {M : Type 1} → statement M
+contract_in_spec =
     tie.close
-    (tie.spec (λ c. search rules) mul-worst add-from add-to mul-try-point (λ c. search rules) (λ c. search rules)
-    part-try-point-end (λ c κs. search rules) mul-if1 slice-read-if1 (λ c κs. search rules) (λ c. search rules)
-    (λ c. search rules) (λ c. search rules) (λ c. search rules) returns (λ c κs. search rules) (λ c. search rules)
-    (λ c. search rules) (λ c. search rules) (λ c. search rules) returns-2)
+    (tie.spec
+    (λ c. search rules)
+    mul-worst
+    add-from
+    add-to
+    mul-try-point
+    (λ c. search rules)
+    (λ c. search rules)
+    part-try-point-end
+    (λ c κs. search rules)
+    mul-if1
+    slice-read-if1
+    (λ c κs. search rules)
+    (λ c. search rules)
+    (λ c. search rules)
+    (λ c. search rules)
+    (λ c. search rules)
+    returns
+    (λ c κs. search rules)
+    (λ c. search rules)
+    (λ c. search rules)
+    (λ c. search rules)
+    (λ c. search rules)
+    returns-2)

@@ -14,7 +14,7 @@ use Rattle.search.proofs.Stepped.{out-taken, out-shrunk}
 use Rattle.search.proofs.steps.contract_out.Statement.{statement}
 use Rattle.search.proofs.steps.contract_out.Tie as tie
 
-module _ (t : tie.After-try-point) where
+module _ (t : tie.After-try_point-cost) where
   abbrev s : tie.Start
   s = search
 
@@ -24,35 +24,47 @@ module _ (t : tie.After-try-point) where
   some : 0 < s.args.w
   some = omega arith
 
-returns : tie.Need-returns
+returns : tie.Need-returns-then-cost-reflected
 returns c =
     let k : tie.After-put = search in
-    let then : tie.Then1 = search in
-    let t : tie.After-try-point = search in
+    let then : tie.Then-cost-reflected = search in
+    let t : tie.After-try_point-cost = search in
     let a = (s t).args in (
       k.put.ensures
-          ∙ out-taken (price t) a.w a.rows.now (s t).pre.0 (some t) a.centre.now a.point.now a.reflected _ _
-          t.try-point.ensures.0 t.try-point.ensures.1.0 then.if1.taken,
-      t.try-point.ensures.1.1,
+          ∙ out-taken (price t) a.w a.rows.now (s t).requires.0 (some t) a.centre.now a.point.now a.reflected _ _
+          t.try_point-cost.ensures.0 t.try_point-cost.ensures.1.0 then.if-cost-reflected.true,
+      t.try_point-cost.ensures.1.1,
     )
 
-returns-2 : tie.Need-returns-2
+returns-2 : tie.Need-returns
 returns-2 c =
     let k : tie.After-shrink = search in
-    let else : tie.Else1 = search in
-    let t : tie.After-try-point = search in
+    let else : tie.Else-cost-reflected = search in
+    let t : tie.After-try_point-cost = search in
     let a = (s t).args in (
       k.shrink.ensures.0
           ∙ ap (λ (n : ℕ). shrunk (ready_price_of a.bins.now a.problem a.ready.now n) (rows_in a.w a.w a.rows.now))
-          t.try-point.kept.1.1.1.1.1.1.1.0
-          ∙ out-shrunk (price t) a.w a.rows.now (s t).pre.0 (some t) a.centre.now a.point.now a.reflected _ _
-          t.try-point.ensures.0 t.try-point.ensures.1.0 else.if1.left,
-      k.shrink.ensures.1 ∙ t.try-point.ensures.1.1,
+          t.try_point-cost.auto.table
+          ∙ out-shrunk (price t) a.w a.rows.now (s t).requires.0 (some t) a.centre.now a.point.now a.reflected _ _
+          t.try_point-cost.ensures.0 t.try_point-cost.ensures.1.0 else.if-cost-reflected.false,
+      k.shrink.ensures.1 ∙ t.try_point-cost.ensures.1.1,
     )
 
-pub contract-out-spec : {M : Type 1} → statement M
-contract-out-spec =
+pub contract_out_spec : {M : Type 1} → statement M
+contract_out_spec =
     tie.close
-    (tie.spec (λ c κs. search rules) (λ c. search rules) (λ c κs. search rules) (λ c. search rules)
-    (λ c. search rules) (λ c. search rules) (λ c. search rules) returns (λ c κs. search rules) (λ c. search rules)
-    (λ c. search rules) (λ c. search rules) (λ c. search rules) returns-2)
+    (tie.spec
+    (λ c κs. search rules)
+    (λ c. search rules)
+    (λ c κs. search rules)
+    (λ c. search rules)
+    (λ c. search rules)
+    (λ c. search rules)
+    (λ c. search rules)
+    returns
+    (λ c κs. search rules)
+    (λ c. search rules)
+    (λ c. search rules)
+    (λ c. search rules)
+    (λ c. search rules)
+    returns-2)

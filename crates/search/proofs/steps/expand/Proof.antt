@@ -17,30 +17,30 @@ use Rattle.search.proofs.Stepped.{last-part, expanded-is}
 use Rattle.search.proofs.steps.expand.Statement.{statement}
 use Rattle.search.proofs.steps.expand.Tie as tie
 
-abbrev start : tie.After-slice-known3 → tie.Start
+abbrev start : tie.After-slice_known-3-1 → tie.Start
 start c = search
 
 -- the last row lies in the slice
-last_fits : (c : tie.After-slice-known3) → let w = (start c).args.w in (w - 1) * w + w ≤ w * w
+last_fits : (c : tie.After-slice_known-3-1) → let w = (start c).args.w in (w - 1) * w + w ≤ w * w
 last_fits c = row_fits ((start c).args.w - 1) (start c).args.w (start c).args.w (omega arith)
 
-mul-from : tie.Need-overflow-mul-from
+mul-from : tie.Need-overflow_mul-from
 mul-from c = omega (arith, last_fits c)
 
-add-from : tie.Need-overflow-add-from
+add-from : tie.Need-overflow_add-from
 add-from c = omega (arith, last_fits c)
 
-add-to : tie.Need-overflow-add-to
+add-to : tie.Need-overflow_add-to
 add-to c = omega (arith, last_fits c)
 
-mul-try-point : tie.Need-overflow-mul-try-point
+mul-try-point : tie.Need-offset_bounds-rows-from
 mul-try-point c = omega (arith, last_fits c)
 
-part-try-point-end : tie.Need-slice-bounds-try-point-end
-part-try-point-end c = omega (arith, last_fits c.before)
+part-try-point-end : tie.Need-slice_bounds-try_point-end
+part-try-point-end c = let k : tie.After-slice_known-3-1 = search in omega (arith, last_fits k)
 
 -- what is put into the last row is what the rule has
-module _ (t : tie.After-try-point) where
+module _ (t : tie.After-try_point-cost) where
   abbrev s : tie.Start
   s = search
 
@@ -61,31 +61,47 @@ module _ (t : tie.After-try-point) where
   left q e eq ee b eb =
       let a = s.args in
       let some : 0 < a.w = omega arith in
-      expanded-is price a.w a.rows.now s.pre.0 some a.centre.now a.point.now last_part
-      (last-part price a.w a.rows.now s.pre.0 some) a.reflected q e eq ee b eb
+      expanded-is price a.w a.rows.now s.requires.0 some a.centre.now a.point.now last_part
+      (last-part price a.w a.rows.now s.requires.0 some) a.reflected q e eq ee b eb
 
-returns : tie.Need-returns
+returns : tie.Need-returns-then-cost-reflected
 returns c =
     let k : tie.After-put = search in
-    let then : tie.Then1 = search in
-    let t : tie.After-try-point = search in (
-      k.put.ensures ∙ left t _ _ t.try-point.ensures.0 t.try-point.ensures.1.0 true then.if1.taken,
-      t.try-point.ensures.1.1,
+    let then : tie.Then-cost-reflected = search in
+    let t : tie.After-try_point-cost = search in (
+      k.put.ensures ∙ left t _ _ t.try_point-cost.ensures.0 t.try_point-cost.ensures.1.0 true then.if-cost-reflected.true,
+      t.try_point-cost.ensures.1.1,
     )
 
-returns-2 : tie.Need-returns-2
+returns-2 : tie.Need-returns
 returns-2 c =
-    let k : tie.After-put2 = search in
-    let else : tie.Else1 = search in
-    let t : tie.After-try-point = search in (
-      k.put2.ensures ∙ left t _ _ t.try-point.ensures.0 t.try-point.ensures.1.0 false else.if1.left,
-      t.try-point.ensures.1.1,
+    let k : tie.After-put-2 = search in
+    let else : tie.Else-cost-reflected = search in
+    let t : tie.After-try_point-cost = search in (
+      k.put-2.ensures ∙ left t _ _ t.try_point-cost.ensures.0 t.try_point-cost.ensures.1.0 false else.if-cost-reflected.false,
+      t.try_point-cost.ensures.1.1,
     )
 
-pub expand-spec : {M : Type 1} → statement M
-expand-spec =
+pub expand_spec : {M : Type 1} → statement M
+expand_spec =
     tie.close
-    (tie.spec (λ c. search rules) mul-from add-from add-to mul-try-point (λ c. search rules) (λ c. search rules)
-    part-try-point-end (λ c κs. search rules) (λ c κs. search rules) (λ c. search rules) (λ c. search rules)
-    (λ c. search rules) returns (λ c κs. search rules) (λ c. search rules) (λ c. search rules) (λ c. search rules)
+    (tie.spec
+    (λ c. search rules)
+    mul-from
+    add-from
+    add-to
+    mul-try-point
+    (λ c. search rules)
+    (λ c. search rules)
+    part-try-point-end
+    (λ c κs. search rules)
+    (λ c κs. search rules)
+    (λ c. search rules)
+    (λ c. search rules)
+    (λ c. search rules)
+    returns
+    (λ c κs. search rules)
+    (λ c. search rules)
+    (λ c. search rules)
+    (λ c. search rules)
     returns-2)

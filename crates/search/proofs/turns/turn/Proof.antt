@@ -24,27 +24,35 @@ price c =
 abbrev found : tie.After-order → State
 found c = let a = (start c).args in state_of a.w a.rows.now a.progress
 
-returns : tie.Need-returns
+returns : tie.Need-returns-then-is_settled
 returns c =
     let t = c.before in
     let o : tie.After-order = search in
-    (settles (price o) (found o) _ o.order.ensures (sym t.is-settled.ensures ∙ c.if1.true), refl)
+    (settles (price o) (found o) _ o.order.ensures (sym t.is_settled.ensures ∙ c.if-is_settled.true), refl)
 
-add-t18 : tie.Need-overflow-add-t18
+add-t18 : tie.Need-overflow_add-result
 add-t18 c = omega arith
 
-returns-2 : tie.Need-returns-2
+returns-2 : tie.Need-returns
 returns-2 c =
     let p : tie.After-step = search in
-    let i : tie.Else1 = search in
+    let i : tie.Else-is_settled = search in
     let t = i.before in
     let o : tie.After-order = search in (
-      steps (price o) (found o) _ o.order.ensures _ (sym t.is-settled.ensures ∙ i.if1.left) p.step.ensures.0,
+      steps (price o) (found o) _ o.order.ensures _ (sym t.is_settled.ensures ∙ i.if-is_settled.false) p.step.ensures.0,
       p.step.ensures.1,
     )
 
 pub turn_spec : {M : Type 1} → statement M
 turn_spec =
     tie.close
-    (tie.spec (λ c κs. search rules) (λ c κs. search rules) (λ c. search rules) returns (λ c κs. search rules) add-t18
-    (λ c. search rules) (λ c. search rules) returns-2)
+    (tie.spec
+    (λ c κs. search rules)
+    (λ c κs. search rules)
+    (λ c. search rules)
+    returns
+    (λ c κs. search rules)
+    add-t18
+    (λ c. search rules)
+    (λ c. search rules)
+    returns-2)

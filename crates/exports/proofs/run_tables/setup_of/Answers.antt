@@ -1,0 +1,6 @@
+-- `exports::run_tables::setup_of` meets its contract. Assumes nothing.
+use borrow.Author.Rules.{rules}
+use Rattle.exports.proofs.run_tables.setup_of.Goals as goal
+
+pub returns : goal.returns
+returns c = rw (c.genome_of.ensures, c.error_of.ensures)

@@ -1,0 +1,90 @@
+// The cost of a parameter list, and a converged list as a fit.
+ghost use Rattle.std.specs.Prelude.{◌≡◌, length};
+ghost use Rattle.meaning.specs.Lent.{laid, counted};
+ghost use Rattle.models.specs.Costs.{cost_of, cost_table};
+ghost use Rattle.models.specs.Prepared.{prepare_of, prepared_cost_of, prepared_cost_table};
+ghost use Rattle.models.specs.Unpacking.{unpack_of, unpack_table, fit_answer_of};
+ghost use Rattle.exports.specs.Flat.{say_number, say_written};
+ghost use Rattle.models.specs.Parts.{error_of, genome_of};
+ghost use Rattle.exports.specs.FlatFits.{of_fit_answer};
+
+use exports::answers::{FlatNumber, FlatWritten};
+use exports::costs::FlatFitAnswer;
+
+#[unsafe(no_mangle)]
+pub extern "C" fn fog_cost(
+    bins: &[u32],
+    scale: f64,
+    window_end: usize,
+    peak: usize,
+    error: u8,
+    genome: u8,
+    theta: &[f64],
+    table: &mut [f64],
+) -> FlatNumber
+    ensures value { result
+        ≡ say_number (cost_of bins.now scale window_end peak (error_of error) (genome_of genome)
+        theta.now (length table.old)) }
+    ensures table_after { table.new
+        ≡ cost_table bins.now scale window_end peak (error_of error) (genome_of genome) theta.now
+        table.old }
+{
+    exports::costs::fog_cost(bins, scale, window_end, peak, error, genome, theta, table)
+}
+
+#[unsafe(no_mangle)]
+pub extern "C" fn fog_prepare_window(window_end: usize, out: &mut [f64]) -> FlatWritten
+    ensures value { result ≡ say_written (counted (prepare_of window_end (length out.old))) }
+    ensures out_after { out.new ≡ laid (prepare_of window_end (length out.old)) out.old }
+{
+    exports::costs::fog_prepare_window(window_end, out)
+}
+
+#[unsafe(no_mangle)]
+pub extern "C" fn fog_cost_prepared(
+    bins: &[u32],
+    scale: f64,
+    window_end: usize,
+    peak: usize,
+    error: u8,
+    genome: u8,
+    theta: &[f64],
+    ready: &[f64],
+    table: &mut [f64],
+) -> FlatNumber
+    ensures value { result
+        ≡ say_number (prepared_cost_of bins.now scale window_end peak (error_of error) (genome_of genome)
+        theta.now ready.now (length table.old)) }
+    ensures table_after { table.new
+        ≡ prepared_cost_table bins.now scale window_end peak (error_of error) (genome_of genome)
+        theta.now ready.now table.old }
+{
+    exports::costs::fog_cost_prepared(
+        bins, scale, window_end, peak, error, genome, theta, ready, table,
+    )
+}
+
+#[unsafe(no_mangle)]
+pub extern "C" fn fog_unpack(
+    bins: &[u32],
+    scale: f64,
+    window_end: usize,
+    peak: usize,
+    error: u8,
+    genome: u8,
+    theta: &[f64],
+    cost: f64,
+    iterations: u64,
+    table: &mut [f64],
+) -> FlatFitAnswer
+    ensures value { result
+        ≡ of_fit_answer (fit_answer_of (unpack_of bins.now scale window_end peak (error_of error)
+        (genome_of genome) theta.now cost iterations (length table.old))) }
+    ensures table_after { table.new
+        ≡ unpack_table bins.now scale window_end peak (error_of error) (genome_of genome)
+        theta.now cost iterations table.old }
+{
+    exports::costs::fog_unpack(
+        bins, scale, window_end, peak, error, genome, theta, cost, iterations, table,
+    )
+}

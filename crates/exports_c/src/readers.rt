@@ -1,0 +1,65 @@
+// What is read off a fit.
+ghost use Rattle.std.specs.Prelude.{◌≡◌, length};
+ghost use Rattle.meaning.specs.Lent.{laid, counted};
+ghost use Rattle.models.specs.Fits.{total_ratio_of, roundtrip_error_of, primary_mode_of, repeat_mode_of};
+ghost use Rattle.models.specs.Heights.{component_heights_of, heights_to_of};
+ghost use Rattle.models.specs.Modes.{error_mode_of};
+ghost use Rattle.exports.specs.Flat.{say_count, say_written};
+ghost use Rattle.exports.specs.FlatFits.{fit_of, say_heights};
+
+use exports::answers::{FlatCount, FlatHeights, FlatWritten};
+use exports::fits::FlatFit;
+
+#[unsafe(no_mangle)]
+pub extern "C" fn fog_component_total_ratio(fit: FlatFit) -> f64
+    ensures { result ≡ total_ratio_of (fit_of fit) }
+{
+    exports::readers::fog_component_total_ratio(fit)
+}
+
+#[unsafe(no_mangle)]
+pub extern "C" fn fog_mode_roundtrip_error(fit: FlatFit) -> f64
+    ensures { result ≡ roundtrip_error_of (fit_of fit) }
+{
+    exports::readers::fog_mode_roundtrip_error(fit)
+}
+
+#[unsafe(no_mangle)]
+pub extern "C" fn fog_primary_mode(fit: FlatFit) -> u64
+    ensures { result ≡ primary_mode_of (fit_of fit) }
+{
+    exports::readers::fog_primary_mode(fit)
+}
+
+#[unsafe(no_mangle)]
+pub extern "C" fn fog_repeat_mode(fit: FlatFit) -> u64
+    ensures { result ≡ repeat_mode_of (fit_of fit) }
+{
+    exports::readers::fog_repeat_mode(fit)
+}
+
+#[unsafe(no_mangle)]
+pub extern "C" fn fog_error_mode(fit: FlatFit) -> FlatCount
+    ensures { result ≡ say_count (error_mode_of (fit_of fit)) }
+{
+    exports::readers::fog_error_mode(fit)
+}
+
+#[unsafe(no_mangle)]
+pub extern "C" fn fog_component_heights(fit: FlatFit, count: usize) -> FlatHeights
+    ensures { result ≡ say_heights (component_heights_of (fit_of fit) count) }
+{
+    exports::readers::fog_component_heights(fit, count)
+}
+
+#[unsafe(no_mangle)]
+pub extern "C" fn fog_component_heights_to(
+    fit: FlatFit,
+    last: usize,
+    out: &mut [f64],
+) -> FlatWritten
+    ensures value { result ≡ say_written (counted (heights_to_of (fit_of fit) last (length out.old))) }
+    ensures out_after { out.new ≡ laid (heights_to_of (fit_of fit) last (length out.old)) out.old }
+{
+    exports::readers::fog_component_heights_to(fit, last, out)
+}

@@ -1,0 +1,62 @@
+// The starts of a search, and the tables that they are made from. An exported function can't return a reference, so
+ghost use Rattle.std.specs.Prelude.{◌≡◌, length};
+ghost use Rattle.meaning.specs.Lent.{counted, laid};
+ghost use Rattle.meaning.specs.Reply.{first_of};
+ghost use Rattle.routines.specs.Starts.{pareto_starts, weibull_starts};
+ghost use Rattle.fitter.specs.StartTables.{wrong_tables};
+ghost use Rattle.fitter.specs.Starts.{starts_of};
+ghost use Rattle.exports.specs.Flat.{say_written};
+ghost use Rattle.models.specs.Parts.{error_of, genome_of};
+
+use exports::answers::FlatWritten;
+
+#[unsafe(no_mangle)]
+pub extern "C" fn fog_start_tables_refusal(pareto: &[f64], weibull: &[f64]) -> u8
+    ensures { result ≡ first_of (wrong_tables (length pareto.now) (length weibull.now)) }
+{
+    exports::starts::fog_start_tables_refusal(pareto, weibull)
+}
+
+#[unsafe(no_mangle)]
+pub extern "C" fn fog_fit_starts(
+    error: u8,
+    genome: u8,
+    seeds: &[f64],
+    hint: f64,
+    share: f64,
+    shapes: &[f64],
+    out: &mut [f64],
+) -> FlatWritten
+    ensures value { result
+        ≡ say_written (counted (starts_of (error_of error) (genome_of genome) pareto_starts weibull_starts
+        seeds.now hint share shapes.now (length out.old))) }
+    ensures out_after { out.new
+        ≡ laid (starts_of (error_of error) (genome_of genome) pareto_starts weibull_starts seeds.now hint share
+        shapes.now (length out.old)) out.old }
+{
+    exports::starts::fog_fit_starts(error, genome, seeds, hint, share, shapes, out)
+}
+
+#[unsafe(no_mangle)]
+pub extern "C" fn fog_fit_starts_lent<'a>(
+    error: u8,
+    genome: u8,
+    pareto: &'a [f64],
+    weibull: &'a [f64],
+    seeds: &[f64],
+    hint: f64,
+    share: f64,
+    shapes: &[f64],
+    out: &mut [f64],
+) -> FlatWritten
+    ensures value { result
+        ≡ say_written (counted (starts_of (error_of error) (genome_of genome) pareto.now weibull.now
+        seeds.now hint share shapes.now (length out.old))) }
+    ensures out_after { out.new
+        ≡ laid (starts_of (error_of error) (genome_of genome) pareto.now weibull.now
+        seeds.now hint share shapes.now (length out.old)) out.old }
+{
+    exports::starts::fog_fit_starts_lent(
+        error, genome, pareto, weibull, seeds, hint, share, shapes, out,
+    )
+}

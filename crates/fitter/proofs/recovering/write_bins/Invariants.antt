@@ -1,0 +1,20 @@
+-- `fitter::recovering::write_bins` meets its contract. The loop's invariant: the first i bins are written. Assumes nothing.
+use Prim.Native.Nat.{ℕ, ◌-◌, ◌≤◌, zero-le}
+use mathlib.Core.Path.{◌≡◌, refl, ◌∙◌, ap}
+use mathlib.Core.List.{List}
+use native.Mathlib.Omega.{arith}
+use lib.ListN.{length, take, set, length-set}
+use lib.Seq.{take-length}
+use borrow.Author.Rules.{rules}
+use Rattle.meaning.specs.Over.{over}
+use Rattle.fitter.specs.Recovering.{recovered}
+use Rattle.fitter.proofs.Recovered.{none_written, one_more}
+use Rattle.fitter.proofs.recovering.write_bins.Given as goal
+
+abbrev pub invariant-loop-i : goal.invariant-loop-i
+invariant-loop-i l =
+    (l.i ≤ length l.bins) × (length l.out ≡ length l.initial.out) × (length l.bins ≤ length l.initial.out)
+    × (l.out ≡ over (recovered l.used (take l.i l.bins)) l.initial.out)
+
+abbrev pub decreases-loop-i : goal.decreases-loop-i
+decreases-loop-i l = length l.bins - l.i

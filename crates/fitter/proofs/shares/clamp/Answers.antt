@@ -1,0 +1,15 @@
+-- `fitter::shares::clamp` meets its contract. Assumes nothing.
+use Rattle.fitter.specs.Shares.{clamp_of}
+use Rattle.fitter.proofs.shares.clamp.Goals as goal
+
+pub returns-then-x-low : goal.returns-then-x-low
+unfolding clamp_of
+returns-then-x-low c = rw c.if-x-low.true
+
+pub returns-then-x-high : goal.returns-then-x-high
+unfolding clamp_of
+returns-then-x-high c = rw (c.if-x-low.false, c.if-x-high.true)
+
+pub returns : goal.returns
+unfolding clamp_of
+returns c = rw (c.if-x-low.false, c.if-x-high.false)

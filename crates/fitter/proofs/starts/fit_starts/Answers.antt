@@ -1,0 +1,31 @@
+-- `fitter::starts::fit_starts` meets its contract. Assumes nothing.
+use Prim.Native.Nat.{ℕ}
+use mathlib.Core.Path.{◌≡◌, ap, ◌∙◌}
+use mathlib.Core.List.{List}
+use lib.Ieee.{Float}
+use lib.ListN.{length}
+use Rattle.meaning.specs.Lent.{counted, laid}
+use Rattle.meaning.specs.Reply.{Reply}
+use Rattle.routines.specs.Starts.{pareto_starts, weibull_starts}
+use Rattle.models.specs.declared.families.ErrorModel.{ErrorModel}
+use Rattle.models.specs.declared.families.GenomeModel.{GenomeModel}
+use Rattle.fitter.specs.Starts.{starts_of}
+use borrow.Author.Rules.{rules}
+use Rattle.fitter.proofs.starts.fit_starts.Goals as goal
+
+-- the same tables have the same starts
+fixed : (error : ErrorModel) (genome : GenomeModel) (p w seeds : List Float) (hint share : Float) (shapes : List Float) (room : ℕ)
+    → p ≡ pareto_starts → w ≡ weibull_starts
+    → starts_of error genome p w seeds hint share shapes room
+    ≡ starts_of error genome pareto_starts weibull_starts seeds hint share shapes room
+fixed error genome p w seeds hint share shapes room ep ew = rw (ep, ew)
+
+pub returns : goal.returns
+returns c =
+    let s = c in
+    let k = c in
+    let w = c in
+    let p = w in
+    let a = s.args in
+    let e = fixed a.error a.genome p.pareto_starts-pareto.result w.weibull_starts-weibull.result a.seeds.now a.hint a.share
+    a.shapes.now (length a.out.now) p.pareto_starts-pareto.ensures w.weibull_starts-weibull.ensures in record { result_value = k.fit_starts_lent.ensures.result_value ∙ ap (λ (r : Reply (List Float)). counted r) e; out_after = k.fit_starts_lent.ensures.out_after ∙ ap (λ (r : Reply (List Float)). laid r a.out.now) e }

@@ -1,0 +1,6 @@
+-- `fitter::turns::begin_turns` meets its contract. Assumes nothing.
+use borrow.Author.Rules.{rules}
+use Rattle.fitter.proofs.turns.begin_turns.Goals as goal
+
+pub returns : goal.returns
+returns c = rw (c.settle_empty.ensures, c.no_survey.ensures)

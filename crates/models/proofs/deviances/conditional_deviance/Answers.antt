@@ -1,0 +1,66 @@
+-- `models::deviances::conditional_deviance` meets its contract. What the loop carries stands ready for its count, or for
+-- an earlier one. Assumes nothing.
+use mathlib.Core.Path.{◌≡◌, refl, sym, ap, ◌∙◌, fun_ext}
+use mathlib.Core.List.{List}
+use Prim.Native.Nat.{ℕ, ◌+◌, ◌-◌}
+use native.Mathlib.Omega.{arith}
+use lib.Ieee.{Float, neg, of_bits}
+use Rattle.meaning.proofs.Loops.{Folded, begins, goes_on, ends}
+use Rattle.routines.specs.Constants.{zero}
+use Rattle.routines.specs.Ops.{of_count}
+use Rattle.models.specs.Deviances.{expected_of, deviance_term, deviance_of}
+use Rattle.models.specs.HeightTerms.{height_terms_of, heights_of, ready_of}
+use Rattle.models.specs.Spectra.{observed_step, over_observed, seen_term}
+use Rattle.models.specs.declared.deviances.Ready.{Ready}
+use Rattle.models.specs.declared.fit.SpectrumFit.{SpectrumFit}
+use Rattle.models.specs.declared.height_terms.HeightTerms.{HeightTerms}
+use Rattle.models.proofs.HeightTerms.{terms-heights}
+use borrow.Author.Rules.{rules}
+use Rattle.models.proofs.deviances.conditional_deviance.Invariants.{term_from}
+use Rattle.models.proofs.deviances.conditional_deviance.Goals as goal
+
+from-terms : (bins : List ℕ) (scale : Float) (top : ℕ) (fit : SpectrumFit)
+    → over_observed bins scale top (term_from (height_terms_of fit) scale) ≡ deviance_of bins scale top fit
+unfolding deviance_of
+from-terms bins scale top fit =
+    ap (over_observed bins scale top) (fun_ext (λ (n : ℕ). fun_ext (λ (i : ℕ). rw (terms-heights))))
+
+pub loop-i-init : goal.loop-i-init
+unfolding neg of_bits
+loop-i-init c =
+    let first = c.ready_of.ensures in
+    let p = c.height_terms-t.result.error_params in (
+      first ∙ ap (λ (r : Ready). ready_of p r.count) (sym first),
+      begins _ _ _ _ _ (omega arith) refl,
+    )
+
+pub add_deviance-reached-requires : goal.add_deviance-reached-requires
+add_deviance-reached-requires c = let l = c in record { ready_value = l.loop-i.invariant.0; i_bound = omega arith }
+
+pub overflow_add-i : goal.overflow_add-i
+overflow_add-i c = omega arith
+
+pub loop-i-smaller : goal.loop-i-smaller
+loop-i-smaller c = omega arith
+
+pub loop-i-preserved : goal.loop-i-preserved
+loop-i-preserved c =
+    let s = c in
+    let at = c in
+    let terms = c in
+    let turn = at.loop-i in
+    let scale = s.args.scale in (
+      c.add_deviance-reached.ensures.ready_value_2,
+      goes_on _ _ _ _ turn.invariant.1 _ (omega arith)
+          (c.add_deviance-reached.ensures.total_value
+          ∙ ap (λ (n : ℕ). seen_term n turn.reached.total (term_from terms.height_terms-t.result scale n turn.i))
+          c.recovered_at-n.ensures),
+    )
+
+pub returns : goal.returns
+unfolding over_observed
+returns c =
+    let after-height-terms = c in
+    let at = c in
+    ends _ _ _ _ at.loop-i.invariant.1 (omega arith)
+    ∙ rw after-height-terms.height_terms-t.ensures (from-terms _ _ _ _)

@@ -1,0 +1,21 @@
+-- `models::errors::ErrorParams::log_window_mass` meets its contract. Assumes nothing.
+use mathlib.Core.Path.{ap}
+use Rattle.meaning.specs.Reply.{give}
+use borrow.Author.Tests.{lt-ltb, le-ltb, eq-eqb, ne_eqb}
+use Rattle.models.specs.Errors.{log_window_mass_of}
+use borrow.Author.Rules.{rules}
+use Rattle.models.proofs.errors.ErrorParams.log_window_mass.Goals as goal
+
+pub returns-then-top-gt-MOST : goal.returns-then-top-gt-MOST
+unfolding log_window_mass_of
+returns-then-top-gt-MOST c = simp (lt-ltb _ _ c.if-top-gt-MOST.true)
+
+pub returns-then-top-eq0 : goal.returns-then-top-eq0
+unfolding log_window_mass_of
+returns-then-top-eq0 c = simp (le-ltb _ _ c.if-top-gt-MOST.false, eq-eqb _ _ c.if-top-eq0.true)
+
+pub returns : goal.returns
+unfolding log_window_mass_of
+returns c =
+    let some = c in
+    simp (le-ltb _ _ some.if-top-gt-MOST.false, ne_eqb _ _ some.if-top-eq0.false) (ap give c.log_window_mass_to.ensures)

@@ -1,0 +1,25 @@
+-- `models::height_cutoffs::last_bad` meets its contract. The survival that the loop carries is that of its count.
+-- Assumes nothing.
+use mathlib.Core.Path.{◌≡◌, refl, ap, ◌∙◌}
+use Prim.Native.Nat.{ℕ, ◌+◌, ◌-◌, ◌≤◌}
+use native.Mathlib.Omega.{arith}
+use lib.Ieee.{Float}
+use Rattle.meaning.proofs.Loops.{Folded, begins, goes_on, ends}
+use Rattle.routines.specs.Ops.{of_count}
+use Rattle.models.specs.Errors.{survival_of}
+use Rattle.models.specs.HeightTerms.{error_height_of}
+use Rattle.models.specs.declared.height_terms.HeightTerms.{HeightTerms}
+use Rattle.models.proofs.Survivals.{first-survival, next-survival, error-from-is}
+use Rattle.models.specs.HeightCutoffs.{later_bad, last_bad_of}
+use borrow.Author.Rules.{rules}
+use Rattle.models.proofs.height_cutoffs.last_bad.Given as goal
+
+abbrev pub step : HeightTerms → Float → ℕ → ℕ → ℕ
+step t reference k = later_bad reference (error_height_of t (of_count k)) k
+
+abbrev pub invariant-loop-i : goal.invariant-loop-i
+invariant-loop-i l =
+    (l.here ≡ survival_of l.t.error_params (of_count (l.i + 1))) × Folded (step l.t l.reference) 0 1 (l.top + 1) l.last (l.i + 1)
+
+abbrev pub decreases-loop-i : goal.decreases-loop-i
+decreases-loop-i l = l.top - l.i

@@ -1,0 +1,12 @@
+-- `models::parts::shelf_held` meets its contract. Assumes nothing.
+use borrow.Author.Rules.{rules}
+use Rattle.models.proofs.parts.shelf_held.Goals as goal
+
+pub enum_told-1 : goal.enum_told-1
+enum_told-1 c = search rules
+
+pub returns-in-Absent : goal.returns-in-Absent
+returns-in-Absent c = rw c.in-Absent.is
+
+pub returns-in-Present : goal.returns-in-Present
+returns-in-Present c = rw c.in-Present.is

@@ -1,0 +1,17 @@
+-- `models::prepared::write_rows` meets its contract. Assumes nothing.
+use mathlib.Core.Path.{◌≡◌, refl, ap, ◌∙◌}
+use Prim.Native.Nat.{ℕ, ◌-◌, ◌*◌, ◌≤◌, zero-le}
+use native.Mathlib.Omega.{arith}
+use lib.ListN.{length, length-set}
+use Rattle.meaning.specs.Over.{over}
+use Rattle.models.specs.Prepared.{ready_rows}
+use Rattle.models.proofs.ReadyCost.{rows_none, rows_more}
+use borrow.Author.Rules.{rules}
+use Rattle.models.proofs.prepared.write_rows.Given as goal
+
+abbrev pub invariant-loop-n : goal.invariant-loop-n
+invariant-loop-n l =
+    (l.n ≤ l.rows) × (length l.out ≡ length l.initial.out) × (2 * l.rows ≤ length l.initial.out) × (l.out ≡ over (ready_rows l.n) l.initial.out)
+
+abbrev pub decreases-loop-n : goal.decreases-loop-n
+decreases-loop-n l = l.rows - l.n

@@ -1,0 +1,36 @@
+-- `models::spectra::all_zero` meets its contract. Assumes nothing.
+use borrow.Author.Rules.{rules}
+use mathlib.Core.Path.{refl}
+use mathlib.Core.Bool.{true}
+use Prim.Native.Nat.{ℕ, ◌-◌}
+use native.Mathlib.Omega.{arith}
+use borrow.Author.Tests.{eq-eqb, ne_eqb}
+use lib.Dec.{eqb}
+use lib.ListN.{length, get_or}
+use Rattle.meaning.proofs.Loops.{Folded, begins}
+use Rattle.models.proofs.Loops.{all-holds, all_more, all-fails}
+use Rattle.models.specs.Spectra.{all_step}
+use Rattle.models.proofs.spectra.all_zero.Goals as goal
+
+pub loop-i-init : goal.loop-i-init
+loop-i-init c = begins _ _ _ _ _ (omega arith) refl
+
+pub bounds-bins-i : goal.bounds-bins-i
+bounds-bins-i c = omega arith
+
+pub returns-then-bins-i-ne0 : goal.returns-then-bins-i-ne0
+returns-then-bins-i-ne0 c = all-fails _ _ _ (omega arith) (ne_eqb _ _ c.if-bins-i-ne0.true)
+
+pub overflow_add-i : goal.overflow_add-i
+overflow_add-i c = omega arith
+
+pub loop-i-smaller : goal.loop-i-smaller
+loop-i-smaller c = omega arith
+
+pub loop-i-preserved : goal.loop-i-preserved
+loop-i-preserved c =
+    let l = c in
+    all_more _ _ l.loop-i.invariant (omega arith) (eq-eqb _ _ c.if-bins-i-ne0.false)
+
+pub returns : goal.returns
+returns c = all-holds _ _ c.loop-i.invariant (omega arith)

@@ -1,0 +1,16 @@
+-- `search::points::move_point` meets its contract. Assumes nothing.
+use Prim.Native.Nat.{ℕ, ◌-◌, ◌<◌}
+use native.Mathlib.Omega.{arith}
+use lib.ListN.{length, get_or}
+use lib.Ieee.{Float, nan}
+use borrow.Author.Rules.{rules}
+use Rattle.search.specs.Points.{moved_of}
+use Rattle.search.proofs.Elements.{Passed, begins, goes_on, ends}
+use Rattle.search.proofs.Moved.{moved_length, moved_at}
+use Rattle.search.proofs.points.move_point.Given as goal
+
+abbrev pub invariant-loop-j : goal.invariant-loop-j
+invariant-loop-j l = Passed (λ (i : ℕ) (x : Float). moved_of l.how x (get_or l.other i nan)) nan l.initial.point l.point l.j
+
+abbrev pub decreases-loop-j : goal.decreases-loop-j
+decreases-loop-j l = length l.initial.point - l.j

@@ -1,0 +1,18 @@
+-- `search::spread::deviation` meets its contract. Assumes nothing.
+use borrow.Author.Rules.{rules}
+use Prim.Native.Nat.{◌-◌, ◌*◌, ◌^◌, ◌<◌}
+use mathlib.Core.Path.{sym, ap, ◌∙◌}
+use native.Mathlib.Omega.{arith}
+use lib.Ieee.{Float}
+use Rattle.routines.specs.Ops.{◌⊕◌, ◌⊘◌, of_count}
+use Rattle.meaning.proofs.Loops.{Folded, begins, goes_on, ends}
+use Rattle.search.specs.Spread.{square_at}
+use Rattle.search.specs.Vertices.{rows_in}
+use Rattle.search.proofs.Costs.{add_square, deviation-is, width-held}
+use Rattle.search.proofs.spread.deviation.Given as goal
+
+abbrev pub invariant-loop-i : goal.invariant-loop-i
+invariant-loop-i l = Folded (add_square l.w l.rows l.mean) (square_at (rows_in l.w l.w l.rows) l.mean 0) 1 l.w l.sum l.i
+
+abbrev pub decreases-loop-i : goal.decreases-loop-i
+decreases-loop-i l = l.w - l.i
