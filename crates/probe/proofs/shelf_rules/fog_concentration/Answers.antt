@@ -1,0 +1,6 @@
+-- `probe::shelf_rules::fog_concentration` meets its contract. Assumes nothing.
+use borrow.Author.Rules.{rules}
+use Rattle.probe.proofs.shelf_rules.fog_concentration.Goals as goal
+
+pub returns : goal.returns
+returns c = rw (c.concentration.ensures, c.shelf_of.ensures)
