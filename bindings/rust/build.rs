@@ -12,7 +12,7 @@ fn main() {
     println!("cargo:rerun-if-changed={}", library.display());
     if !library.is_file() {
         eprintln!("fogatise: there is no file {}.", library.display());
-        eprintln!("`rt staticlib exports`, run at the top of the repository, writes libexports.a into target/staticlib.");
+        eprintln!("`tools/build exports`, run at the top of the repository, writes libexports.a into target/staticlib.");
         eprintln!("Where it lies elsewhere, set the variable FOGATISE_LIB to the full path of its folder.");
         process::exit(1);
     }

@@ -1,5 +1,7 @@
-// What the kit's library os has in C, for a program that oracle/native builds: the kit has it for x86-64 alone.
+// What the kit's libraries have in C, for a program that oracle/native builds: a kit for x86-64 has it for x86-64 alone.
 #include <errno.h>
+#include <stdbool.h>
+#include <stdlib.h>
 #include <string.h>
 
 static int count;
@@ -23,3 +25,22 @@ long rattle_arg(unsigned long i, unsigned char *to, unsigned long room) {
 int rattle_errno(void) { return errno; }
 
 void rattle_set_errno(int error) { errno = error; }
+
+// Whether there is memory, and where: at a byte that is nobody's if there is none.
+struct tried {
+    bool is_there;
+    void *place;
+};
+
+static char nowhere;
+
+static struct tried tried(void *place) { return (struct tried){place != NULL, place ? place : &nowhere}; }
+
+struct tried rattle_alloc(size_t size, size_t alignment) { return tried(malloc(size ? size : alignment)); }
+
+struct tried rattle_realloc(void *place, size_t kept, size_t size, size_t alignment) {
+    (void)kept;
+    return tried(realloc(place, size ? size : alignment));
+}
+
+void rattle_dealloc(void *place) { free(place); }

@@ -1,5 +1,5 @@
 /*
- * Fogatise for C and Rust: the static library that `rt staticlib exports` writes. Link it alone: it has the four routines too.
+ * Fogatise for C and Rust: the static library that `tools/build exports` writes. Link it alone: it has the four routines too.
  *
  * Every function ends and answers for every argument, NaN and infinities included. None keeps a pointer, allocates, or reads or writes
  * anything but its arguments, so any of them may be called from several threads at once. A cost keeps up to 32 KiB of numbers on the stack.
