@@ -1,6 +1,5 @@
 -- Empty programs of document 01, each at one input: what the contract's definition leaves in the lent memory is not what
 -- such a program leaves there. Those of the hole cutoff stand in crates/models/proofs/Slips.antt. Assumes nothing.
-use Prim.Native.Nat.{ℕ, ◌/◌}
 use mathlib.Core.Path.{◌≡◌, refl}
 use mathlib.Core.Bool.{false}
 use mathlib.Core.List.{List, [], ◌∷◌}
@@ -17,7 +16,6 @@ use Rattle.routines.specs.Pick.{max_of, min_of}
 use Rattle.routines.specs.Starts.{dec, pareto_starts, weibull_starts}
 use Rattle.routines.specs.Whole.{round_of}
 use Rattle.helpers.specs.Shelves.{shelf_trials_of, ln_dbetabinom_of, table_start, table_step, table_of, last_of, shelf_log_table_of, table_after}
-use Rattle.helpers.specs.declared.shelves.Shelf.{Shelf}
 use Rattle.models.specs.declared.families.ErrorModel.TheVariants.{SingletonPareto}
 use Rattle.models.specs.declared.families.GenomeModel.TheVariants.{NegativeBinomial}
 use Rattle.fitter.specs.InTurn.{in_turn}

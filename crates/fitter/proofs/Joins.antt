@@ -7,7 +7,7 @@ use lib.ListN.{length, take, drop, length-append}
 use Rattle.meaning.specs.Over.{over}
 use Rattle.meaning.proofs.Overs.{over-length}
 use Rattle.fitter.specs.InTurn.{in_turn}
-use Rattle.fitter.proofs.Writing.{Writing, asks, stays-in, goes_on, ends}
+use Rattle.fitter.proofs.Writing.{Writing, asks, goes_on, ends}
 
 module _ {A : Type 0} where
   abbrev two-lists : List A → List A → ℕ → List A

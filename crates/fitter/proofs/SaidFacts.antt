@@ -1,7 +1,7 @@
 -- Facts beside what is held: one, as a callee's `requires` asks for, and two, as a contract with two `ensures` does.
 -- Assumes nothing.
 use seplogic.Ra.Ura.{Ura}
-use base.Logic.{SProp, ent, sep, emp, via, emp∗, mono_l, mono_r, comm∗}
+use base.Logic.{SProp, ent, sep, emp, via, emp∗, mono_l, comm∗}
 use contract.Monad.{fact, fact_i}
 
 module _ {M : Type 1} (𝓤 : Ura M) where

@@ -1,11 +1,10 @@
 -- What an attempt is settled to, and its answer, by the tests that the code makes. Assumes nothing.
 use Prim.Native.Nat.{ℕ}
-use mathlib.Core.Path.{◌≡◌, refl, sym, subst}
+use mathlib.Core.Path.{◌≡◌, refl, sym}
 use mathlib.Core.Bool.{Bool, true, false, cond, false≢true}
 use mathlib.Core.List.{List}
 use borrow.Author.Tests.{eq-eqb, ne_eqb, eqb-true}
 use lib.Dec.{eqb}
-use lib.ListN.{drop}
 use lib.Ieee.{Float}
 use Rattle.meaning.specs.Reply.{first_of}
 use Rattle.fitter.specs.Attempting.{survey_tests, refused_answer}

@@ -7,7 +7,7 @@ use native.Mathlib.Nat.{le_trans, le_of_eq, le_of_lt, le_of_suc-le-suc, mul_asso
 use native.Mathlib.Omega.{arith}
 use lib.IntN.{ℤ, pos, neg_ℤ, ◌+ℤ◌, ◌*ℤ◌, pos-+ℤ-pos, negsuc-*ℤ-pos}
 use lib.Signed.{◌≤ℤ◌, ◌<ℤ◌}
-use lib.Dec.{T, ltb, ltb→lt, lt→ltb, le→leb, nltb→le}
+use lib.Dec.{T, ltb→lt, lt→ltb, le→leb, nltb→le}
 use lib.Pow.{pow_pos}
 use lib.Ieee.{Float, nan, inf, fin, binary64, low, up, down, le, of_bits, fits}
 use lib.Ieee.Fits.{and_l, and_r, up_pos, down_pos}

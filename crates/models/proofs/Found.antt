@@ -15,7 +15,6 @@ use Rattle.meaning.specs.Reply.{give, Test, first_of}
 use Rattle.meaning.specs.Rows.{window_tests}
 use Rattle.meaning.proofs.Chains.{chain-passed}
 use Rattle.meaning.proofs.Replies.{gave-answer}
-use Rattle.routines.specs.Ops.{◌⊕◌}
 use Rattle.models.specs.declared.fit.SpectrumFit.{SpectrumFit}
 use Rattle.models.specs.ClaimsCutoff.{running, FirstAbove, Finds, HoleFinds}
 use Rattle.models.specs.Cutoffs.{probability_in, walk_starts, allowed_of, ceiling_of, hole_walk_of, hole_cutoff_of}

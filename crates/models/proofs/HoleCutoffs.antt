@@ -24,7 +24,7 @@ use Rattle.routines.proofs.Shapes.{exp-fits}
 use Rattle.routines.proofs.Tests.{yes}
 use Rattle.routines.proofs.Values.{has-units}
 use Rattle.models.specs.declared.fit.SpectrumFit.{SpectrumFit}
-use Rattle.models.specs.ClaimsCutoff.{Supposed, Keeps, Demanded, DemandedSure, told_of}
+use Rattle.models.specs.ClaimsCutoff.{Supposed, Demanded, DemandedSure, told_of}
 use Rattle.models.specs.Cutoffs.{probability_in, walk_starts, allowed_of, ceiling_of, hole_walk_of, hole_cutoff_of}
 use Rattle.models.specs.Cutoffs.{sure_of, Sureness, sure, no_walk, sureness, hole_cutoff_sure_of}
 use Rattle.models.specs.Walk.{all_probable}

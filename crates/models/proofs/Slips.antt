@@ -3,11 +3,10 @@
 -- another cutoff, so no program that adds them so is the walk. Assumes nothing.
 use Prim.Native.Nat.{ℕ, ◌^◌, ◌+◌}
 use mathlib.Core.Path.{◌≡◌, refl}
-use mathlib.Core.Bool.{cond}
 use mathlib.Core.List.{[], ◌∷◌}
 use mathlib.Core.Option.{none, some}
 use lib.Dec.{T}
-use lib.IntN.{pos, neg_ℤ, ◌+ℤ◌, ◌*ℤ◌}
+use lib.IntN.{pos, ◌*ℤ◌}
 use lib.ListN.{get_or}
 use lib.Signed.{lt_z, le_z}
 use lib.Ieee.{Float, nan, round, to_unsigned, of_int, to_bits, of_bits, neg, add, sub, mul, div, lt, le, eq}

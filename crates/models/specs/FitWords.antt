@@ -2,11 +2,9 @@
 -- Rust's order. What is absent has zeros. Definitions only. Assumes nothing.
 use Rattle.std.specs.Prelude.{ℕ, cond, List, [], ◌∷◌, eqb, Float, get_or}
 use Rattle.std.specs.Float.{nan}
-use Rattle.helpers.specs.declared.shelves.Shelf.{Shelf}
 use Rattle.helpers.specs.declared.shelves.ShelfPart.{ShelfPart}
 use Rattle.models.specs.Parts.{error_number, genome_number, error_of, genome_of}
 use Rattle.models.specs.Parts.{shape_there, shape_number, shape_of, shelf_there, shelf_held, shelf_from}
-use Rattle.models.specs.declared.errors.ErrorParams.{ErrorParams}
 use Rattle.models.specs.declared.errors.ShapePart.{ShapePart}
 use Rattle.models.specs.declared.families.ErrorModel.{ErrorModel}
 use Rattle.models.specs.declared.families.GenomeModel.{GenomeModel}

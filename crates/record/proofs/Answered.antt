@@ -1,14 +1,12 @@
 -- Closed cases on either side of each limit of the answer: (how sure the hole is, its cutoff, the error floor) beside a
 -- valley, and the last line. Assumes nothing.
-use Prim.Native.Nat.{ℕ, min, max}
+use Prim.Native.Nat.{ℕ}
 use mathlib.Core.Path.{◌≡◌, refl}
-use mathlib.Core.List.{List, [], ◌∷◌}
-use lib.Dec.{ltb, leb}
+use mathlib.Core.List.{[], ◌∷◌}
 use Rattle.record.specs.Answers.{smaller_of, answer_of, backed_by, last_in}
 use Rattle.record.specs.declared.answers.Last.{Last}
 use Rattle.record.specs.declared.answers.Last.TheVariants as last
 use Rattle.record.specs.declared.attempt_lines.Cutoffs.{Cutoffs}
-use Rattle.record.specs.declared.values.Hole.{Hole}
 use Rattle.record.specs.declared.values.HowSure.{HowSure}
 use Rattle.record.specs.declared.values.HowSure.TheVariants.{Sure, NotFinite, NotProbable, NoWalk, Refused}
 use Rattle.record.specs.declared.values.HowSure.TheVariants.{NoFit}

@@ -1,6 +1,6 @@
 -- A record ends in its last line, which is the selected fit's. Assumes nothing.
 use Prim.Native.Nat.{ℕ}
-use mathlib.Core.Path.{◌≡◌, refl, sym, ap, ◌∙◌}
+use mathlib.Core.Path.{◌≡◌, refl, ap, ◌∙◌}
 use mathlib.Core.Bool.{Bool, true, false, cond}
 use mathlib.Core.List.{List, [], ◌∷◌, ◌++◌, append_assoc}
 use Rattle.fitter.specs.Selection.{select_of}
@@ -12,7 +12,6 @@ use Rattle.record.specs.Record.{found_text, leaning_text, chosen_last, last_of, 
 use Rattle.record.specs.Record.{chosen_of, chosen_text, selected_text, attempts_text, head_text, record_of}
 use Rattle.record.specs.declared.answers.Last.{Last}
 use Rattle.record.specs.declared.answers.Last.TheVariants.{NoFit}
-use Rattle.record.specs.declared.records.Chosen.{Chosen}
 use Rattle.record.specs.declared.records.Recorded.{Recorded}
 
 -- what stands in front of the last line of the selected fit

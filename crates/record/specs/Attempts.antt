@@ -1,6 +1,6 @@
 -- The lines of an attempt: its families, what speaks against it, its cost and BIC, what the search took, and the cutoffs of
 -- its own fit. Definitions only. Assumes nothing.
-use Rattle.std.specs.Prelude.{ℕ, Bool, cond, List, [], ◌∷◌, ◌++◌, Float}
+use Rattle.std.specs.Prelude.{ℕ, cond, List, [], ◌∷◌, ◌++◌, Float}
 use Rattle.std.specs.Float.Ieee.{neg}
 use Rattle.meaning.specs.Flags.{byte_of}
 use Rattle.models.specs.HeightCutoffs.{crossover_of, error_floor_of}
@@ -11,10 +11,7 @@ use Rattle.record.specs.Lines.{lines_of}
 use Rattle.routines.specs.Bits.{pattern_of}
 use Rattle.record.specs.Values.{error_number, genome_number, rejection_number, place_numbers, sure_number}
 use Rattle.record.specs.Values.{no_hole, crossover_place, floor_place, hole_of}
-use Rattle.record.specs.declared.values.Hole.{Hole}
-use Rattle.record.specs.declared.values.Place.{Place}
 use Rattle.record.specs.declared.values.Place.TheVariants.{Unknown}
-use Rattle.record.specs.declared.values.PlaceNumbers.{PlaceNumbers}
 use Rattle.record.specs.declared.attempt_lines.CutoffNumbers.{CutoffNumbers}
 use Rattle.record.specs.declared.attempt_lines.Cutoffs.{Cutoffs}
 

@@ -1,10 +1,8 @@
 -- The lines of the selected fit: every field, by the Rust's name. Definitions only. Assumes nothing.
 use Rattle.std.specs.Prelude.{ℕ, List, [], ◌∷◌, ◌++◌, Float, get_or}
 use Rattle.std.specs.Float.{nan}
-use Rattle.helpers.specs.declared.shelves.Shelf.{Shelf}
 use Rattle.helpers.specs.declared.shelves.ShelfPart.{ShelfPart}
 use Rattle.helpers.specs.declared.shelves.ShelfPart.TheVariants as shelf
-use Rattle.models.specs.declared.errors.ErrorParams.{ErrorParams}
 use Rattle.models.specs.declared.errors.ShapePart.{ShapePart}
 use Rattle.models.specs.declared.errors.ShapePart.TheVariants as shape
 use Rattle.models.specs.declared.fit.SpectrumFit.{SpectrumFit}

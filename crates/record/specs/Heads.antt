@@ -1,11 +1,10 @@
 -- What was asked, what the spectrum has, and what is refused, as lines. Definitions only. Assumes nothing.
-use Rattle.std.specs.Prelude.{ℕ, not, List, [], ◌∷◌, ◌++◌, map, ltb, leb, Float}
+use Rattle.std.specs.Prelude.{ℕ, not, List, [], ◌∷◌, ◌++◌, map, ltb, leb}
 use Rattle.std.specs.Float.Ieee.{lt, le}
 use Rattle.meaning.specs.Flags.{byte_of}
 use Rattle.routines.specs.Constants.{one}
 use Rattle.fitter.specs.Asking.{seeds, shapes, window_end_of, window_kind_of, configuration_of}
 use Rattle.fitter.specs.declared.asking.Asked.{Asked}
-use Rattle.fitter.specs.declared.asking.Families.{Families}
 use Rattle.fitter.specs.declared.asking.WindowKind.{WindowKind}
 use Rattle.fitter.specs.declared.asking.WindowKind.TheVariants as window
 use Rattle.listing.specs.Listing.{ascii}

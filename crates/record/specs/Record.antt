@@ -22,16 +22,13 @@ use Rattle.record.specs.Values.{place_numbers, sure_number}
 use Rattle.record.specs.declared.answers.Answer.{Answer}
 use Rattle.record.specs.declared.answers.Last.{Last}
 use Rattle.record.specs.declared.answers.Last.TheVariants.{NoFit, Refused}
-use Rattle.record.specs.declared.attempt_lines.CutoffNumbers.{CutoffNumbers}
 use Rattle.record.specs.declared.attempt_lines.Cutoffs.{Cutoffs}
 use Rattle.record.specs.declared.leaning.Leaning.{Leaning}
 use Rattle.record.specs.declared.records.Chosen.{Chosen}
 use Rattle.record.specs.declared.records.LeastNumbers.{LeastNumbers}
 use Rattle.record.specs.declared.records.Recorded.{Recorded}
-use Rattle.record.specs.declared.values.Hole.{Hole}
 use Rattle.record.specs.declared.values.HowSure.{HowSure}
 use Rattle.record.specs.declared.values.Place.{Place}
-use Rattle.record.specs.declared.values.PlaceNumbers.{PlaceNumbers}
 
 -- ---- the cutoffs of the selected fit
 unfoldable pub cutoff_text : Float → Cutoffs → List ℕ

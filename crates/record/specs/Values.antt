@@ -1,12 +1,9 @@
 -- The numbers that a record's marks take, for what is no number itself. Definitions only. Assumes nothing.
 use Rattle.std.specs.Prelude.{ℕ, cond, Float}
 use Rattle.std.proofs.Math.Option.{Option, none, some}
-use Rattle.std.specs.Float.{nan, binary64}
-use Rattle.std.specs.Float.Ieee.{is_nan, to_bits}
 use Rattle.std.specs.Float.Ieee.Scale.{finite}
 use Rattle.meaning.specs.Reply.{Reply, refuse, broken, give}
 use Rattle.models.specs.Cutoffs.{Sureness, sure, not_sure, no_walk, allowed_of, hole_cutoff_sure_of}
-use Rattle.models.specs.HeightCutoffs.{crossover_of, error_floor_of}
 use Rattle.fitter.specs.declared.attempts.RejectionPart.{RejectionPart}
 use Rattle.fitter.specs.declared.attempts.RejectionPart.TheVariants as rejection
 use Rattle.fitter.specs.declared.rejections.FitRejection.{FitRejection}

@@ -3,7 +3,7 @@
 use Prim.Native.Nat.{ℕ, zero, suc, ◌+◌, ◌-◌, ◌≤◌, ◌<◌}
 use mathlib.Core.Path.{◌≡◌, refl, sym, ap, ◌∙◌}
 use mathlib.Core.List.{List, [], ◌∷◌}
-use native.Mathlib.Nat.{not-suc-le-zero, le_of_suc-le-suc, suc-ne-zero}
+use native.Mathlib.Nat.{not-suc-le-zero, suc-ne-zero}
 use native.Mathlib.Numerals.{add-one}
 use native.Mathlib.Omega.{arith}
 use lib.ListN.{length, get_or, set, length-set}
@@ -11,7 +11,6 @@ use lib.Ieee.{Float, nan}
 use Rattle.routines.specs.Constants.{half}
 use Rattle.routines.specs.Ops.{◌⊕◌}
 use Rattle.search.specs.Firsts.{first_point, first_simplex}
-use Rattle.search.specs.Lists.{list_of}
 use Rattle.search.specs.Rule.{vertex_of}
 use Rattle.search.specs.Vertices.{Vertex, vertex_at}
 use Rattle.search.proofs.Elements.{Passed, goes_on, ends}

@@ -9,7 +9,7 @@ use lib.ListN.{length}
 use lib.Ieee.{Float}
 use Rattle.meaning.specs.Lent.{laid}
 use Rattle.meaning.specs.Reply.{give}
-use Rattle.meaning.specs.Rows.{most, window_tests}
+use Rattle.meaning.specs.Rows.{most}
 use Rattle.models.specs.Prepared.{ready_rows, ready_demand, prepare_of}
 use Rattle.models.proofs.ReadyCost.{prepared-is-cost}
 use Rattle.search.specs.Prices.{price_said, price_of, ready_price_of}

@@ -1,24 +1,22 @@
 -- What a cost leaves of the shelf's table: entries past the window end stand as found, and all of it where the family is
 -- plain. Assumes nothing.
-use Prim.Native.Nat.{ℕ, zero, suc, ◌+◌, ◌≤◌}
-use mathlib.Core.Path.{◌≡◌, refl, sym, ap, ◌∙◌}
+use Prim.Native.Nat.{ℕ, suc, ◌≤◌}
+use mathlib.Core.Path.{◌≡◌, refl}
 use mathlib.Core.Bool.{Bool, true, false, cond}
-use mathlib.Core.List.{List, [], ◌∷◌, ◌++◌}
+use mathlib.Core.List.{List, [], ◌∷◌}
 use native.Mathlib.Omega.{arith}
 use lib.ListN.{length, drop}
 use lib.Ieee.{Float}
 use Rattle.meaning.specs.Lent.{on_give}
 use Rattle.meaning.specs.Over.{over}
-use Rattle.meaning.specs.Reply.{Reply, refuse, broken, give, first_of}
+use Rattle.meaning.specs.Reply.{Reply, refuse, broken, give}
 use Rattle.meaning.specs.Rows.{most, too_short, in_order}
 use Rattle.meaning.proofs.Overs.{over-stands}
 use Rattle.meaning.proofs.Chains.{parts, gave-passed}
 use Rattle.routines.specs.Ops.{of_count}
 use Rattle.helpers.specs.Shelves.{shelf_trials_of, last_of}
-use Rattle.helpers.specs.declared.shelves.Shelf.{Shelf}
-use Rattle.helpers.specs.declared.shelves.ShelfPart.TheVariants.{Present}
 use Rattle.helpers.proofs.Tables.{table-length, last-few}
-use Rattle.models.specs.Costs.{table_with, table_at, started}
+use Rattle.models.specs.Costs.{table_at, started}
 use Rattle.models.specs.Masses.{entries_of}
 use Rattle.models.specs.Params.{shelf_part_of, params_of}
 use Rattle.models.specs.Prepared.{prepared_tests, prepared_cost_of, prepared_cost_table, ready_demand}

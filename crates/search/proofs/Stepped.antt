@@ -12,7 +12,7 @@ use Rattle.search.specs.Points.{moved, centroid_of}
 use Rattle.search.specs.Rule.{best, second_worst, worst, taken, shrunk, expanded, contracted_out, contracted_in, stepped}
 use Rattle.search.specs.Vertices.{Vertex, rows_in, vertex_at, cost_in, point_in}
 use Rattle.search.specs.declared.points.Move.TheVariants.{Reflect, Expand, Half}
-use Rattle.search.proofs.RowLaws.{rows-length, row_fits, cost-at, point_at}
+use Rattle.search.proofs.RowLaws.{rows-length, cost-at, point_at}
 
 module _ (cost : List Float → Float) (w : ℕ) (xs : List Float) (square : length xs ≡ w * w) (some : 0 < w) where
   abbrev R : List Vertex

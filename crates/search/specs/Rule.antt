@@ -1,6 +1,6 @@
 -- What an iteration of the simplex search does once the vertices are in order: Nelder and Mead's rule, as document 02
 -- writes it under ask 6, over any cost of a point. Definitions only. Assumes nothing.
-use Rattle.std.specs.Prelude.{ℕ, ◌-◌, cond, List, ◌∷◌, map, length, drop, set, Float}
+use Rattle.std.specs.Prelude.{◌-◌, cond, List, ◌∷◌, map, length, drop, set, Float}
 use Rattle.std.specs.Float.Ieee.{lt, le}
 use Rattle.search.specs.Points.{moved, centroid_of}
 use Rattle.search.specs.Vertices.{Vertex, vertex_at, cost_in, point_in}

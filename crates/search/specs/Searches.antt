@@ -1,14 +1,14 @@
 -- Many runs, one behind the other in lent slices: for each its rows, its iterations and whether the test stopped it.
 -- What stands there once each has gone on for a number of turns, over any cost of a point. Definitions only. Assumes
 -- nothing.
-use Rattle.std.specs.Prelude.{ℕ, ◌+◌, ◌*◌, false, List, [], length, get_or, Float}
+use Rattle.std.specs.Prelude.{ℕ, false, List, length, get_or, Float}
 use Rattle.meaning.specs.Flags.{is_set, byte_of}
 use Rattle.meaning.specs.Lent.{on_give, laid}
 use Rattle.meaning.specs.Over.{over}
 use Rattle.meaning.specs.Reply.{Reply, give, chain}
 use Rattle.models.specs.Prepared.{prepare_of}
 use Rattle.search.specs.Lists.{list_of}
-use Rattle.search.specs.Prices.{price_of, cap_of, width_of, stands_from}
+use Rattle.search.specs.Prices.{stands_from}
 use Rattle.search.specs.Refusing.{search_tests}
 use Rattle.search.specs.Turns.{State, turns_of}
 use Rattle.search.specs.Vertices.{block_at, flat}

@@ -3,7 +3,7 @@
 use Rattle.accuracy.proofs.Prelude.{◌≡◌, refl, sym, ap, ◌∙◌, subst, ◌⊎◌, inl, inr, Bool, true, false, not, cond}
 use Rattle.accuracy.proofs.Prelude.{ℕ, suc, ◌+◌, ◌-◌, ◌*◌, ◌^◌, ◌≤◌, ◌<◌, arith, T, lit≤, lit<}
 use native.Mathlib.Nat.{le_refl, le_trans, le_of_eq, mul_comm, mul-le-mul_right, mul_assoc, mul-zero, one-mul}
-use lib.Ieee.{Float, inf, binary64, up, down, lt, le}
+use lib.Ieee.{Float, inf, binary64, lt, le}
 use Rattle.routines.specs.Constants.{zero as nought}
 use Rattle.routines.specs.Exp.{out_of_range}
 use Rattle.routines.proofs.Compared.{le_is}

@@ -5,7 +5,7 @@ use Rattle.accuracy.proofs.Prelude.{suc, ◌+◌, ◌*◌, ◌/◌, ◌^◌, ◌
 use Rattle.accuracy.proofs.Prelude.{ltb→lt, nltb→le, lit≤, lit<}
 use native.Mathlib.Nat.{le_trans, le_of_suc-le-suc, lt_of_not-le, le_of_eq, le_of_lt, mul-pos, mul-le-mul_left}
 use native.Mathlib.Nat.{mul-le-mul_right, le_of_mul-le-mul_left, le_of_mul-le-mul_right, mul_comm}
-use lib.Ieee.{Float, nan, inf, fin, binary64, down, unlike, round, add, mul, le, of_bits, size, sub}
+use lib.Ieee.{Float, nan, inf, fin, binary64, unlike, round, add, mul, le, of_bits, size, sub}
 use lib.Ieee.Exact.{HasValue}
 use lib.Ieee.Fits.{add-fits, mul-fits}
 use lib.Ieee.Order.{le_of_values}

@@ -1,5 +1,4 @@
 -- `exports::answers::flat_count` meets its contract. Assumes nothing.
-use borrow.Author.Rules.{rules}
 use Rattle.exports.proofs.answers.flat_count.Goals as goal
 
 pub returns-in-Whole : goal.returns-in-Whole

@@ -1,5 +1,4 @@
 -- `exports::answers::flat_heights` meets its contract. Assumes nothing.
-use borrow.Author.Rules.{rules}
 use Rattle.exports.proofs.answers.flat_heights.Goals as goal
 
 pub returns-in-At : goal.returns-in-At

@@ -1,5 +1,4 @@
 -- `exports::answers::flat_number` meets its contract. Assumes nothing.
-use borrow.Author.Rules.{rules}
 use Rattle.exports.proofs.answers.flat_number.Goals as goal
 
 pub returns-in-Value : goal.returns-in-Value

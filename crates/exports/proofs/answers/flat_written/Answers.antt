@@ -1,5 +1,4 @@
 -- `exports::answers::flat_written` meets its contract. Assumes nothing.
-use borrow.Author.Rules.{rules}
 use Rattle.exports.proofs.answers.flat_written.Goals as goal
 
 pub returns-in-Items : goal.returns-in-Items

@@ -1,5 +1,4 @@
 -- `exports::costs::flat_fit_answer` meets its contract. Assumes nothing.
-use borrow.Author.Rules.{rules}
 use Rattle.exports.proofs.costs.flat_fit_answer.Goals as goal
 
 pub returns : goal.returns

@@ -1,5 +1,4 @@
 -- `exports::densities::fog_ln_single_copy` meets its contract. Assumes nothing.
-use borrow.Author.Rules.{rules}
 use Rattle.exports.proofs.densities.fog_ln_single_copy.Goals as goal
 
 pub returns : goal.returns

@@ -1,5 +1,4 @@
 -- `exports::families::fog_extra_parameters` meets its contract. Assumes nothing.
-use borrow.Author.Rules.{rules}
 use Rattle.exports.proofs.families.fog_extra_parameters.Goals as goal
 
 pub returns : goal.returns

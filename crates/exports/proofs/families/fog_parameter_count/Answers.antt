@@ -1,5 +1,4 @@
 -- `exports::families::fog_parameter_count` meets its contract. Assumes nothing.
-use borrow.Author.Rules.{rules}
 use Rattle.exports.proofs.families.fog_parameter_count.Goals as goal
 
 pub returns : goal.returns

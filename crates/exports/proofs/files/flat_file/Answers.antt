@@ -1,5 +1,4 @@
 -- `exports::files::flat_file` meets its contract. Assumes nothing.
-use borrow.Author.Rules.{rules}
 use Rattle.exports.proofs.files.flat_file.Goals as goal
 
 pub returns-in-Bins : goal.returns-in-Bins

@@ -1,5 +1,4 @@
 -- `exports::fits::errors_of` meets its contract. Assumes nothing.
-use borrow.Author.Rules.{rules}
 use Rattle.exports.proofs.fits.errors_of.Goals as goal
 
 pub returns : goal.returns

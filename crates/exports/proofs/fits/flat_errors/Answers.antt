@@ -1,5 +1,4 @@
 -- `exports::fits::flat_errors` meets its contract. Assumes nothing.
-use borrow.Author.Rules.{rules}
 use Rattle.exports.proofs.fits.flat_errors.Goals as goal
 
 pub returns : goal.returns

@@ -1,6 +1,5 @@
 -- `exports::flat_attempts::flat_selected` meets its contract. Assumes nothing.
 use Rattle.exports.specs.FlatAttempts.{of_selected}
-use borrow.Author.Rules.{rules}
 use Rattle.exports.proofs.flat_attempts.flat_selected.Goals as goal
 
 pub returns-then-selected : goal.returns-then-selected

@@ -5,7 +5,6 @@ use native.Mathlib.Omega.{arith}
 use lib.ListN.{get_or-eq_default}
 use Rattle.fitter.specs.declared.rejections.FitRejection.TheVariants as reason
 use Rattle.exports.specs.FlatAttempts.{reasons, reason_of}
-use borrow.Author.Rules.{rules}
 use Rattle.exports.proofs.flat_attempts.reason_of.Goals as goal
 
 -- n is none of 1 to k, in the order in which the arms were passed

@@ -1,6 +1,5 @@
 -- `exports::flat_attempts::rejection_of` meets its contract. Assumes nothing.
 use borrow.Author.Tests.{eq-eqb, ne_eqb}
-use borrow.Author.Rules.{rules}
 use Rattle.exports.proofs.flat_attempts.rejection_of.Goals as goal
 
 pub returns-then-present-eq0 : goal.returns-then-present-eq0

@@ -1,5 +1,4 @@
 -- `exports::flat_cutoffs::flat_floor` meets its contract. Assumes nothing.
-use borrow.Author.Rules.{rules}
 use Rattle.exports.proofs.flat_cutoffs.flat_floor.Goals as goal
 
 pub returns-in-At : goal.returns-in-At

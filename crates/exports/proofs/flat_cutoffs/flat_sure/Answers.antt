@@ -6,12 +6,10 @@ pub enum_told-1 : goal.enum_told-1
 enum_told-1 c = search rules
 
 pub returns-in-Sure : goal.returns-in-Sure
-returns-in-Sure c = let after-answer = c in rw (after-answer.in-Sure.is, c.or_zero.ensures)
+returns-in-Sure c = rw (c.in-Sure.is, c.or_zero.ensures)
 
 pub returns-in-NotSure : goal.returns-in-NotSure
-returns-in-NotSure c =
-    let after-answer2 = c in
-    rw (after-answer2.in-NotSure.is, c.or_zero-in-NotSure.ensures)
+returns-in-NotSure c = rw (c.in-NotSure.is, c.or_zero-in-NotSure.ensures)
 
 pub returns-in-NoWalk : goal.returns-in-NoWalk
 returns-in-NoWalk c = rw c.in-NoWalk.is

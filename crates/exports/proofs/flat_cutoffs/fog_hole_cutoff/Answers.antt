@@ -1,8 +1,5 @@
 -- `exports::flat_cutoffs::fog_hole_cutoff` meets its contract. Assumes nothing.
-use borrow.Author.Rules.{rules}
 use Rattle.exports.proofs.flat_cutoffs.fog_hole_cutoff.Goals as goal
 
 pub returns : goal.returns
-returns c =
-    let after-fit-of = c in
-    rw (c.flat_cutoff.ensures, c.hole_cutoff.ensures.result_value, after-fit-of.fit_of.ensures)
+returns c = rw (c.flat_cutoff.ensures, c.hole_cutoff.ensures.result_value, c.fit_of.ensures)

@@ -1,5 +1,4 @@
 -- `exports::masses::fog_log_nb_mass` meets its contract. Assumes nothing.
-use borrow.Author.Rules.{rules}
 use Rattle.exports.proofs.masses.fog_log_nb_mass.Goals as goal
 
 pub returns : goal.returns

@@ -1,5 +1,4 @@
 -- `exports::readers::fog_component_total_ratio` meets its contract. Assumes nothing.
-use borrow.Author.Rules.{rules}
 use Rattle.exports.proofs.readers.fog_component_total_ratio.Goals as goal
 
 pub returns : goal.returns

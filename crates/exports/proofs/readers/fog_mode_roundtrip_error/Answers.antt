@@ -1,5 +1,4 @@
 -- `exports::readers::fog_mode_roundtrip_error` meets its contract. Assumes nothing.
-use borrow.Author.Rules.{rules}
 use Rattle.exports.proofs.readers.fog_mode_roundtrip_error.Goals as goal
 
 pub returns : goal.returns

@@ -1,5 +1,4 @@
 -- `exports::readers::fog_primary_mode` meets its contract. Assumes nothing.
-use borrow.Author.Rules.{rules}
 use Rattle.exports.proofs.readers.fog_primary_mode.Goals as goal
 
 pub returns : goal.returns

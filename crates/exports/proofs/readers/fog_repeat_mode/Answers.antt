@@ -1,5 +1,4 @@
 -- `exports::readers::fog_repeat_mode` meets its contract. Assumes nothing.
-use borrow.Author.Rules.{rules}
 use Rattle.exports.proofs.readers.fog_repeat_mode.Goals as goal
 
 pub returns : goal.returns

@@ -1,6 +1,5 @@
 -- `exports::run_tables::flat_attempt_answer` meets its contract. Assumes nothing.
 use Rattle.exports.specs.FlatTables.{say_attempt}
-use borrow.Author.Rules.{rules}
 use Rattle.exports.proofs.run_tables.flat_attempt_answer.Goals as goal
 
 pub returns : goal.returns

@@ -8,7 +8,6 @@ use Rattle.fitter.specs.Attempting.{stands_from}
 use Rattle.models.specs.declared.problems.Problem.{Problem}
 use Rattle.exports.specs.FlatTables.{say_attempt}
 use Rattle.exports.specs.declared.run_tables.FlatAttemptAnswer.{FlatAttemptAnswer}
-use borrow.Author.Rules.{rules}
 use Rattle.exports.proofs.run_tables.fog_attempt_from_numbers.Goals as goal
 
 -- what stands in the table, by the setup and the number that C sees
@@ -22,10 +21,9 @@ stands s t k m before after e f h =
 pub returns : goal.returns
 unfolding say_attempt
 returns c =
-    let call = c in
-    let made = c in record {
-      value = rw (c.flat_attempt_answer.ensures, call.attempt_from_numbers-answer.ensures.value, made.setup_of-setup.ensures);
-      table_unchanged = stands _ _ _ _ _ _ made.setup_of-setup.ensures
+    record {
+      value = rw (c.flat_attempt_answer.ensures, c.attempt_from_numbers-answer.ensures.value, c.setup_of-setup.ensures);
+      table_unchanged = stands _ _ _ _ _ _ c.setup_of-setup.ensures
           (ap (λ (a : FlatAttemptAnswer). a.number) c.flat_attempt_answer.ensures)
-          call.attempt_from_numbers-answer.ensures.table_unchanged;
+          c.attempt_from_numbers-answer.ensures.table_unchanged;
     }

@@ -9,6 +9,4 @@ pub returns-in-Absent : goal.returns-in-Absent
 returns-in-Absent c = rw c.in-Absent.is
 
 pub returns-in-Present : goal.returns-in-Present
-returns-in-Present c =
-    let after-rejection = c in
-    rw (after-rejection.in-Present.is, c.reason_number.ensures)
+returns-in-Present c = rw (c.in-Present.is, c.reason_number.ensures)

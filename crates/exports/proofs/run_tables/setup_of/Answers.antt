@@ -1,5 +1,4 @@
 -- `exports::run_tables::setup_of` meets its contract. Assumes nothing.
-use borrow.Author.Rules.{rules}
 use Rattle.exports.proofs.run_tables.setup_of.Goals as goal
 
 pub returns : goal.returns

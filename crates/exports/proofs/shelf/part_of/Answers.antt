@@ -1,6 +1,5 @@
 -- `exports::shelf::part_of` meets its contract. Assumes nothing.
 use borrow.Author.Tests.{eq-eqb, ne_eqb}
-use borrow.Author.Rules.{rules}
 use Rattle.exports.proofs.shelf.part_of.Goals as goal
 
 pub returns-then-present-eq0 : goal.returns-then-present-eq0

@@ -1,5 +1,4 @@
 -- `exports::spectra::fog_empirical_shelf_share` meets its contract. Assumes nothing.
-use borrow.Author.Rules.{rules}
 use Rattle.exports.proofs.spectra.fog_empirical_shelf_share.Goals as goal
 
 pub returns : goal.returns

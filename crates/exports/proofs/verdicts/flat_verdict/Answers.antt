@@ -9,9 +9,7 @@ pub returns-in-Valid : goal.returns-in-Valid
 returns-in-Valid c = rw c.in-Valid.is
 
 pub returns-in-Rejected : goal.returns-in-Rejected
-returns-in-Rejected c =
-    let after-verdict = c in
-    rw (after-verdict.in-Rejected.is, c.reason_number.ensures)
+returns-in-Rejected c = rw (c.in-Rejected.is, c.reason_number.ensures)
 
 pub returns-in-Refused : goal.returns-in-Refused
 returns-in-Refused c = rw c.in-Refused.is

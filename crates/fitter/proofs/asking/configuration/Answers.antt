@@ -13,12 +13,8 @@ returns-then-k-eq2 c = rw (ne_eqb _ _ c.if-k-eq1.false, eq-eqb _ _ c.if-k-eq2.tr
 
 pub returns-then-k-eq3 : goal.returns-then-k-eq3
 unfolding configuration_of
-returns-then-k-eq3 c =
-    let two = c in
-    rw (ne_eqb _ _ two.if-k-eq1.false, ne_eqb _ _ two.if-k-eq2.false, eq-eqb _ _ c.if-k-eq3.true)
+returns-then-k-eq3 c = rw (ne_eqb _ _ c.if-k-eq1.false, ne_eqb _ _ c.if-k-eq2.false, eq-eqb _ _ c.if-k-eq3.true)
 
 pub returns : goal.returns
 unfolding configuration_of
-returns c =
-    let two = c in
-    rw (ne_eqb _ _ two.if-k-eq1.false, ne_eqb _ _ two.if-k-eq2.false, ne_eqb _ _ c.if-k-eq3.false)
+returns c = rw (ne_eqb _ _ c.if-k-eq1.false, ne_eqb _ _ c.if-k-eq2.false, ne_eqb _ _ c.if-k-eq3.false)

@@ -4,7 +4,6 @@ use mathlib.Core.Path.{sym}
 use native.Mathlib.Omega.{arith}
 use borrow.Author.Tests.{le-ltb}
 use Rattle.fitter.proofs.Windows.{full_is}
-use borrow.Author.Rules.{rules}
 use Rattle.fitter.proofs.asking.is_full.Goals as goal
 
 pub returns-then-bins-eq0 : goal.returns-then-bins-eq0

@@ -1,6 +1,5 @@
 -- `fitter::asking::window_end_of` meets its contract. Assumes nothing.
 use Rattle.fitter.specs.Asking.{window_end_of}
-use borrow.Author.Rules.{rules}
 use Rattle.fitter.proofs.asking.window_end_of.Goals as goal
 
 pub returns-then-asked : goal.returns-then-asked

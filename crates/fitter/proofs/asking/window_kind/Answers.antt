@@ -1,7 +1,6 @@
 -- `fitter::asking::window_kind` meets its contract. Assumes nothing.
 use mathlib.Core.Path.{sym, ◌∙◌}
 use Rattle.fitter.specs.Asking.{window_kind_of}
-use borrow.Author.Rules.{rules}
 use Rattle.fitter.proofs.asking.window_kind.Goals as goal
 
 pub returns-then-asked : goal.returns-then-asked

@@ -4,7 +4,6 @@ use mathlib.Core.Path.{sym, ◌∙◌}
 use native.Mathlib.Omega.{arith}
 use borrow.Author.Tests.{ltb-true}
 use Rattle.fitter.specs.Asking.{window_rule}
-use borrow.Author.Rules.{rules}
 use Rattle.fitter.proofs.asking.window_rule.Goals as goal
 
 pub overflow_mul-result : goal.overflow_mul-result

@@ -1,5 +1,4 @@
 -- `fitter::fit_rules::bad_shelf` meets its contract. Assumes nothing.
-use borrow.Author.Rules.{rules}
 use Rattle.fitter.proofs.fit_rules.bad_shelf.Goals as goal
 
 pub returns-in-Present : goal.returns-in-Present

@@ -3,12 +3,10 @@ use Prim.Native.Nat.{ℕ}
 use mathlib.Core.Path.{ap, ◌∙◌}
 use Rattle.meaning.specs.Reply.{Reply}
 use Rattle.fitter.specs.Validation.{mode_past, error_mode_past_valley}
-use borrow.Author.Rules.{rules}
 use Rattle.fitter.proofs.fit_rules.error_mode_past_valley.Goals as goal
 
 pub returns : goal.returns
 unfolding error_mode_past_valley
 returns c =
-    let s = c in
-    let a = s.args in
+    let a = c.args in
     c.mode_past.ensures ∙ ap (λ (mode : Reply ℕ). mode_past mode a.valley) c.error_mode.ensures

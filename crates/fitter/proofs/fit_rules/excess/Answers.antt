@@ -1,6 +1,5 @@
 -- `fitter::fit_rules::excess` meets its contract. Assumes nothing.
 use Rattle.fitter.specs.Validation.{excess_of}
-use borrow.Author.Rules.{rules}
 use Rattle.fitter.proofs.fit_rules.excess.Goals as goal
 
 pub returns : goal.returns

@@ -1,6 +1,5 @@
 -- `fitter::fit_rules::lobe_outside_window` meets its contract. Assumes nothing.
 use Rattle.fitter.specs.Validation.{lobe_outside_window}
-use borrow.Author.Rules.{rules}
 use Rattle.fitter.proofs.fit_rules.lobe_outside_window.Goals as goal
 
 pub returns : goal.returns

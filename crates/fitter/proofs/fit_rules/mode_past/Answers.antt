@@ -1,5 +1,4 @@
 -- `fitter::fit_rules::mode_past` meets its contract. Assumes nothing.
-use borrow.Author.Rules.{rules}
 use Rattle.fitter.proofs.fit_rules.mode_past.Goals as goal
 
 pub returns-in-Whole : goal.returns-in-Whole

@@ -1,6 +1,5 @@
 -- `fitter::fit_rules::repeat_mode_too_early` meets its contract. Assumes nothing.
 use Rattle.fitter.specs.Validation.{repeat_mode_too_early}
-use borrow.Author.Rules.{rules}
 use Rattle.fitter.proofs.fit_rules.repeat_mode_too_early.Goals as goal
 
 pub returns : goal.returns

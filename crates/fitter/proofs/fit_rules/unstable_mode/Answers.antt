@@ -1,6 +1,5 @@
 -- `fitter::fit_rules::unstable_mode` meets its contract. Assumes nothing.
 use Rattle.fitter.specs.Validation.{unstable_mode}
-use borrow.Author.Rules.{rules}
 use Rattle.fitter.proofs.fit_rules.unstable_mode.Goals as goal
 
 pub returns : goal.returns

@@ -1,12 +1,11 @@
 -- `fitter::judging::could_win` meets its contract. Assumes nothing.
 use mathlib.Core.Path.{sym, ◌∙◌}
 use Rattle.fitter.specs.Retrying.{could_win}
-use borrow.Author.Rules.{rules}
 use Rattle.fitter.proofs.judging.could_win.Goals as goal
 
 pub returns-then-is_unrejected : goal.returns-then-is_unrejected
 unfolding could_win
-returns-then-is_unrejected c = let t = c in rw (sym t.is_unrejected.ensures ∙ t.if-is_unrejected.true)
+returns-then-is_unrejected c = rw (sym c.is_unrejected.ensures ∙ c.if-is_unrejected.true)
 
 pub returns : goal.returns
 unfolding could_win

@@ -1,5 +1,4 @@
 -- `fitter::judging::rejection_of_verdict` meets its contract. Assumes nothing.
-use borrow.Author.Rules.{rules}
 use Rattle.fitter.proofs.judging.rejection_of_verdict.Goals as goal
 
 pub returns-in-Rejected : goal.returns-in-Rejected

@@ -7,7 +7,7 @@ use Rattle.fitter.specs.Attempts.{unrejected}
 use Rattle.fitter.specs.Judging.{judged_fit_of}
 use Rattle.fitter.specs.Surveys.{best_of}
 use Rattle.fitter.specs.declared.judging.JudgedFit.{JudgedFit}
-use Rattle.fitter.proofs.Judgements.{passed-by, looked-at, from-not, from-not-not}
+use Rattle.fitter.proofs.Judgements.{passed-by, looked-at}
 use Rattle.fitter.proofs.judging.retry_run.Statement.{statement}
 use Rattle.fitter.proofs.judging.retry_run.Tie as tie
 

@@ -1,20 +1,17 @@
 -- `fitter::recovering::write_bins` meets its contract. The loop's invariant: the first i bins are written. Assumes nothing.
-use Prim.Native.Nat.{ℕ, ◌-◌, ◌≤◌, zero-le}
+use Prim.Native.Nat.{ℕ, zero-le}
 use mathlib.Core.Path.{◌≡◌, refl, ◌∙◌, ap}
 use mathlib.Core.List.{List}
 use native.Mathlib.Omega.{arith}
 use lib.ListN.{length, take, set, length-set}
 use lib.Seq.{take-length}
-use borrow.Author.Rules.{rules}
 use Rattle.meaning.specs.Over.{over}
 use Rattle.fitter.specs.Recovering.{recovered}
 use Rattle.fitter.proofs.Recovered.{none_written, one_more}
 use Rattle.fitter.proofs.recovering.write_bins.Goals as goal
 
 pub loop-i-init : goal.loop-i-init
-loop-i-init c =
-    let s = c in
-    (zero-le, refl, s.requires, none_written s.args.used s.args.bins.now s.args.out.now)
+loop-i-init c = (zero-le, refl, c.requires, none_written c.args.used c.args.bins.now c.args.out.now)
 
 pub bounds-bins-i : goal.bounds-bins-i
 bounds-bins-i c = omega arith
@@ -30,13 +27,11 @@ loop-i-smaller c = omega arith
 
 pub loop-i-preserved : goal.loop-i-preserved
 loop-i-preserved c =
-    let s = c in
-    let at = c in
-    let a = s.args in
-    let i = at.loop-i.i in
-    let inv = at.loop-i.invariant in (
+    let a = c.args in
+    let i = c.loop-i.i in
+    let inv = c.loop-i.invariant in (
       omega arith,
-      length-set at.loop-i.out i c.rounded_quotient.result ∙ inv.1,
+      length-set c.loop-i.out i c.rounded_quotient.result ∙ inv.1,
       inv.2,
       ap (λ (b : List ℕ). set b i c.rounded_quotient.result) inv.3
           ∙ ap (set (over (recovered a.used (take i a.bins.now)) a.out.now) i) c.rounded_quotient.ensures
@@ -48,10 +43,8 @@ shape_of-out c = c.loop-i.invariant.1
 
 pub returns : goal.returns
 returns c =
-    let s = c in
-    let at = c in
-    let a = s.args in
-    let e : at.loop-i.i ≡ length a.bins.now = omega arith in
-    at.loop-i.invariant.3
+    let a = c.args in
+    let e : c.loop-i.i ≡ length a.bins.now = omega arith in
+    c.loop-i.invariant.3
     ∙ ap (λ (j : ℕ). over (recovered a.used (take j a.bins.now)) a.out.now) e
     ∙ ap (λ (xs : List ℕ). over (recovered a.used xs) a.out.now) (take-length a.bins.now)

@@ -1,14 +1,9 @@
 -- `fitter::recovering::write_bins` meets its contract. The loop's invariant: the first i bins are written. Assumes nothing.
-use Prim.Native.Nat.{ℕ, ◌-◌, ◌≤◌, zero-le}
-use mathlib.Core.Path.{◌≡◌, refl, ◌∙◌, ap}
-use mathlib.Core.List.{List}
-use native.Mathlib.Omega.{arith}
-use lib.ListN.{length, take, set, length-set}
-use lib.Seq.{take-length}
-use borrow.Author.Rules.{rules}
+use Prim.Native.Nat.{◌-◌, ◌≤◌}
+use mathlib.Core.Path.{◌≡◌}
+use lib.ListN.{length, take}
 use Rattle.meaning.specs.Over.{over}
 use Rattle.fitter.specs.Recovering.{recovered}
-use Rattle.fitter.proofs.Recovered.{none_written, one_more}
 use Rattle.fitter.proofs.recovering.write_bins.Given as goal
 
 abbrev pub invariant-loop-i : goal.invariant-loop-i

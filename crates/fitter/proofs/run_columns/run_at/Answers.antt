@@ -3,7 +3,7 @@ use Prim.Native.Nat.{◌<◌}
 use borrow.Author.Rules.{rules}
 use lib.ListN.{length}
 use Rattle.fitter.specs.Columns.{count_of_runs, run_of}
-use Rattle.fitter.proofs.Columned.{Within, within_all}
+use Rattle.fitter.proofs.Columned.{within_all}
 use Rattle.fitter.proofs.run_columns.run_at.Goals as goal
 
 pub bounds-converged-i : goal.bounds-converged-i

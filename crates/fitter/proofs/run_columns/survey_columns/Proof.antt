@@ -9,7 +9,6 @@ use Rattle.fitter.specs.Runs.{point_of}
 use Rattle.fitter.specs.Surveys.{no_survey, after_point, count_of, weigh_of, survey_step, survey_of}
 use Rattle.fitter.specs.declared.runs.Run.{Run}
 use Rattle.fitter.specs.declared.runs.RunPoint.{RunPoint}
-use Rattle.fitter.specs.declared.runs.RunPoint.TheVariants as RunPoint
 use Rattle.fitter.specs.declared.surveys.Survey.{Survey}
 use Rattle.fitter.proofs.Surveyed.{point-step}
 use Rattle.fitter.proofs.run_columns.survey_columns.Statement.{statement}

@@ -7,7 +7,7 @@ use Rattle.fitter.specs.declared.turns.Turns.{Turns}
 use Rattle.fitter.specs.Columns.{run_in, past_lent}
 use Rattle.fitter.specs.Runs.{run_from}
 use Rattle.fitter.specs.Turns.{turn_of}
-use Rattle.fitter.proofs.Turned.{Turning, begins, goes_on, ends}
+use Rattle.fitter.proofs.Turned.{begins, goes_on, ends}
 use Rattle.fitter.proofs.run_table.attempt_from.Goals as goal
 
 pub loop-t-init : goal.loop-t-init

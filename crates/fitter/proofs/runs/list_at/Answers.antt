@@ -7,7 +7,6 @@ use borrow.Author.Tests.{lt-ltb, le-ltb}
 use lib.ListN.{length, take, drop}
 use lib.Ieee.{Float}
 use Rattle.fitter.specs.Runs.{list_at}
-use borrow.Author.Rules.{rules}
 use Rattle.fitter.proofs.runs.list_at.Goals as goal
 
 module _ (lists : List Float) (place n : ℕ) where
@@ -25,7 +24,7 @@ pub returns-then-lent-length : goal.returns-then-lent-length
 returns-then-lent-length c = none _ _ _ (omega (arith, c.if-lent-length.true))
 
 pub returns-then-lent-length-2 : goal.returns-then-lent-length-2
-returns-then-lent-length-2 c = let else1 = c in none _ _ _ (omega (arith, else1.if-lent-length.false, c.if-lent-length-2.true))
+returns-then-lent-length-2 c = none _ _ _ (omega (arith, c.if-lent-length.false, c.if-lent-length-2.true))
 
 pub returns : goal.returns
-returns c = let else1 = c in part _ _ _ (omega (arith, else1.if-lent-length.false, c.if-lent-length-2.false))
+returns c = part _ _ _ (omega (arith, c.if-lent-length.false, c.if-lent-length-2.false))

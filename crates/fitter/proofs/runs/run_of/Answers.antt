@@ -1,5 +1,4 @@
 -- `fitter::runs::run_of` meets its contract. Assumes nothing.
-use borrow.Author.Rules.{rules}
 use Rattle.fitter.proofs.runs.run_of.Goals as goal
 
 pub returns : goal.returns

@@ -1,5 +1,4 @@
 -- `fitter::selection::none_yet` meets its contract. Assumes nothing.
-use borrow.Author.Rules.{rules}
 use Rattle.fitter.proofs.selection.none_yet.Goals as goal
 
 pub returns : goal.returns

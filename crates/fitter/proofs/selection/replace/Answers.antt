@@ -1,7 +1,6 @@
 -- `fitter::selection::replace` meets its contract. Assumes nothing.
 use mathlib.Core.Path.{sym, ◌∙◌}
 use Rattle.fitter.specs.Selection.{replace_of}
-use borrow.Author.Rules.{rules}
 use Rattle.fitter.proofs.selection.replace.Goals as goal
 
 pub returns-then-wins : goal.returns-then-wins

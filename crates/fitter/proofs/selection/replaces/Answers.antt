@@ -2,7 +2,6 @@
 use mathlib.Core.Path.{◌≡◌, refl}
 use lib.Ieee.{binary64, of_bits, round}
 use Rattle.fitter.specs.Selection.{tolerance, replaces_of}
-use borrow.Author.Rules.{rules}
 use Rattle.fitter.proofs.selection.replaces.Goals as goal
 
 tolerance-is : tolerance ≡ of_bits binary64 0x3e112e0be826d695
@@ -11,6 +10,4 @@ tolerance-is = refl
 
 pub returns : goal.returns
 unfolding replaces_of
-returns c =
-    let after-abs = c in
-    rw (tolerance-is, c.max.ensures, c.abs-2.ensures, after-abs.abs.ensures)
+returns c = rw (tolerance-is, c.max.ensures, c.abs-2.ensures, c.abs.ensures)

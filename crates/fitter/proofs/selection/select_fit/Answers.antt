@@ -7,7 +7,6 @@ use lib.ListN.{length, get_or}
 use Rattle.fitter.specs.Selection.{nothing, replace_of, select_of}
 use Rattle.fitter.specs.declared.attempts.FitAttempt.{FitAttempt}
 use Rattle.fitter.specs.declared.selection.Selected.{Selected}
-use borrow.Author.Rules.{rules}
 use Rattle.fitter.proofs.selection.select_fit.Goals as goal
 
 -- the step on the element at i
@@ -35,9 +34,5 @@ four-steps l d none one two three four h p q r s t =
 
 pub returns : goal.returns
 returns c =
-    let third = c in
-    let second = c in
-    let first = c in
-    let begun = c in
-    four-steps _ _ _ _ _ _ _ begun.well_formed.0.1.0.1 begun.none_yet.ensures first.replace-first.ensures
-    second.replace-second.ensures third.replace-third.ensures c.replace.ensures
+    four-steps _ _ _ _ _ _ _ c.well_formed.0.1.0.1 c.none_yet.ensures c.replace-first.ensures
+    c.replace-second.ensures c.replace-third.ensures c.replace.ensures

@@ -5,7 +5,6 @@ use Rattle.fitter.specs.Attempts.{valid_of}
 use Rattle.fitter.specs.Selection.{replaces_of, wins_of}
 use Rattle.fitter.specs.declared.attempts.FitAttempt.{FitAttempt}
 use Rattle.fitter.specs.declared.selection.Selected.{Selected}
-use borrow.Author.Rules.{rules}
 use Rattle.fitter.proofs.selection.wins.Goals as goal
 
 module _ (best : Selected) (next : FitAttempt) where
@@ -24,14 +23,11 @@ module _ (best : Selected) (next : FitAttempt) where
 
 pub returns-then-best : goal.returns-then-best
 returns-then-best c =
-    let valid = c in
     c.replaces.ensures
-    ∙ by-bic _ _ (sym valid.is_valid.ensures ∙ valid.if-is_valid.true) c.if-best.true
+    ∙ by-bic _ _ (sym c.is_valid.ensures ∙ c.if-is_valid.true) c.if-best.true
 
 pub returns-then-is_valid : goal.returns-then-is_valid
-returns-then-is_valid c =
-    let valid = c in
-    over_none _ _ (sym valid.is_valid.ensures ∙ valid.if-is_valid.true) c.if-best.false
+returns-then-is_valid c = over_none _ _ (sym c.is_valid.ensures ∙ c.if-is_valid.true) c.if-best.false
 
 pub returns : goal.returns
 returns c = invalid _ _ (sym c.is_valid.ensures ∙ c.if-is_valid.false)

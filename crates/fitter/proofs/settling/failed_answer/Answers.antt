@@ -1,5 +1,4 @@
 -- `fitter::settling::failed_answer` meets its contract. Assumes nothing.
-use borrow.Author.Rules.{rules}
 use Rattle.fitter.proofs.settling.failed_answer.Goals as goal
 
 pub returns : goal.returns

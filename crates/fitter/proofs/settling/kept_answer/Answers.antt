@@ -1,5 +1,4 @@
 -- `fitter::settling::kept_answer` meets its contract. Assumes nothing.
-use borrow.Author.Rules.{rules}
 use Rattle.fitter.proofs.settling.kept_answer.Goals as goal
 
 pub returns : goal.returns

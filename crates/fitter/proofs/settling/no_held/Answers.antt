@@ -1,6 +1,5 @@
 -- `fitter::settling::no_held` meets its contract. Assumes nothing.
 use Rattle.fitter.specs.Settling.{no_held}
-use borrow.Author.Rules.{rules}
 use Rattle.fitter.proofs.settling.no_held.Goals as goal
 
 pub returns : goal.returns

@@ -1,5 +1,4 @@
 -- `fitter::settling::refused_answer` meets its contract. Assumes nothing.
-use borrow.Author.Rules.{rules}
 use Rattle.fitter.proofs.settling.refused_answer.Goals as goal
 
 pub returns : goal.returns

@@ -1,5 +1,5 @@
 -- `fitter::settling::settle` meets its contract. Assumes nothing.
-use mathlib.Core.Path.{refl, sym, ◌∙◌}
+use mathlib.Core.Path.{refl}
 use borrow.Author.Rules.{rules}
 use Rattle.fitter.proofs.Judgements.{from-not, from-not-not}
 use Rattle.fitter.proofs.Settlement.{settled-refused, settled-none, settled-some}

@@ -1,14 +1,13 @@
 -- `fitter::shares::mass` meets its contract. The loop's end is its start where the range is inverted. Assumes nothing.
-use borrow.Author.Rules.{rules}
-use mathlib.Core.Path.{◌≡◌, refl, sym, ap, ◌∙◌}
-use Prim.Native.Nat.{ℕ, ◌+◌, ◌-◌, min}
+use mathlib.Core.Path.{refl, sym, ap, ◌∙◌}
+use Prim.Native.Nat.{ℕ, ◌-◌, min}
 use native.Mathlib.Omega.{arith}
 use lib.Ieee.{neg, of_bits}
 use Rattle.routines.specs.Constants.{zero}
 use Rattle.routines.specs.Ops.{◌⊕◌, of_count}
 use Rattle.meaning.specs.Fold.{fold}
 use Rattle.meaning.proofs.Folds.{fold-reach}
-use Rattle.meaning.proofs.Loops.{Folded, begins, goes_on, ends}
+use Rattle.meaning.proofs.Loops.{begins, goes_on, ends}
 use Rattle.fitter.specs.Recovering.{recovered}
 use Rattle.fitter.specs.Shares.{mass_step, mass_of}
 use Rattle.fitter.proofs.Recovered.{recovered-length, recovered-at}
@@ -32,22 +31,17 @@ loop-i-smaller c = omega arith
 
 pub loop-i-preserved : goal.loop-i-preserved
 loop-i-preserved c =
-    let s = c in
-    let at = c in
-    let a = s.args in
-    goes_on _ _ _ _ at.loop-i.invariant _ (omega arith)
-    (ap (λ (n : ℕ). at.loop-i.total ⊕ of_count n)
-    (c.rounded_quotient.ensures ∙ recovered-at a.used a.bins.now at.loop-i.i (omega arith)))
+    let a = c.args in
+    goes_on _ _ _ _ c.loop-i.invariant _ (omega arith)
+    (ap (λ (n : ℕ). c.loop-i.total ⊕ of_count n)
+    (c.rounded_quotient.ensures ∙ recovered-at a.used a.bins.now c.loop-i.i (omega arith)))
 
 pub returns : goal.returns
 unfolding mass_of
 returns c =
-    let after-reach = c in
-    let s = c in
-    let at = c in
-    let a = s.args in
+    let a = c.args in
     let step = mass_step (recovered a.used a.bins.now) in
-    let end = after-reach.reach-end.ensures ∙ ap (min a.to) (sym (recovered-length a.used a.bins.now)) in
-    ends _ _ _ _ at.loop-i.invariant (omega arith)
-    ∙ fold-reach step (a.from - 1) after-reach.reach-end.result (neg zero)
+    let end = c.reach-end.ensures ∙ ap (min a.to) (sym (recovered-length a.used a.bins.now)) in
+    ends _ _ _ _ c.loop-i.invariant (omega arith)
+    ∙ fold-reach step (a.from - 1) c.reach-end.result (neg zero)
     ∙ ap (λ (n : ℕ). fold step (a.from - 1) n (neg zero)) end

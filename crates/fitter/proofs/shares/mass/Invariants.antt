@@ -1,17 +1,10 @@
 -- `fitter::shares::mass` meets its contract. The loop's end is its start where the range is inverted. Assumes nothing.
-use borrow.Author.Rules.{rules}
-use mathlib.Core.Path.{◌≡◌, refl, sym, ap, ◌∙◌}
-use Prim.Native.Nat.{ℕ, ◌+◌, ◌-◌, min}
-use native.Mathlib.Omega.{arith}
-use lib.Ieee.{neg, of_bits}
+use Prim.Native.Nat.{◌+◌, ◌-◌}
+use lib.Ieee.{neg}
 use Rattle.routines.specs.Constants.{zero}
-use Rattle.routines.specs.Ops.{◌⊕◌, of_count}
-use Rattle.meaning.specs.Fold.{fold}
-use Rattle.meaning.proofs.Folds.{fold-reach}
-use Rattle.meaning.proofs.Loops.{Folded, begins, goes_on, ends}
+use Rattle.meaning.proofs.Loops.{Folded}
 use Rattle.fitter.specs.Recovering.{recovered}
-use Rattle.fitter.specs.Shares.{mass_step, mass_of}
-use Rattle.fitter.proofs.Recovered.{recovered-length, recovered-at}
+use Rattle.fitter.specs.Shares.{mass_step}
 use Rattle.fitter.proofs.shares.mass.Given as goal
 
 abbrev pub invariant-loop-i : goal.invariant-loop-i

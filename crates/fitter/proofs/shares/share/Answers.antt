@@ -1,5 +1,4 @@
 -- `fitter::shares::share` meets its contract. Assumes nothing.
-use borrow.Author.Rules.{rules}
 use mathlib.Core.Path.{refl, ◌∙◌}
 use native.Mathlib.Omega.{arith}
 use lib.Ieee.{of_bits, round}
@@ -16,11 +15,10 @@ pub returns-then-lobe : goal.returns-then-lobe
 returns-then-lobe c = empty-lobe _ _ _ _ c.mass-lobe.ensures _ (unfold of_bits round in refl) c.if-lobe.true
 
 pub mass-requires : goal.mass-requires
-mass-requires c = let s = c in s.requires.0
+mass-requires c = c.requires.0
 
 pub returns : goal.returns
 returns c =
-    let some = c in
     c.clamp.ensures
-    ∙ full-lobe _ _ _ _ some.mass-lobe.ensures _ _ _ c.mass.ensures
-    (unfold of_bits round in refl) (unfold of_bits round in refl) some.if-lobe.false
+    ∙ full-lobe _ _ _ _ c.mass-lobe.ensures _ _ _ c.mass.ensures
+    (unfold of_bits round in refl) (unfold of_bits round in refl) c.if-lobe.false

@@ -1,6 +1,5 @@
 -- `fitter::start_writers::logit` meets its contract. Assumes nothing.
 use Rattle.fitter.specs.Starts.{logit_of}
-use borrow.Author.Rules.{rules}
 use Rattle.fitter.proofs.start_writers.logit.Goals as goal
 
 pub returns : goal.returns

@@ -8,22 +8,16 @@ enum_told-1 c = search rules
 
 pub write_plain-requires : goal.write_plain-requires
 unfolding row_starts
-write_plain-requires c = let s = c in rw c.in-NegativeBinomial.is at s.requires
+write_plain-requires c = rw c.in-NegativeBinomial.is at c.requires
 
 pub write_shapes-requires : goal.write_shapes-requires
 unfolding row_starts
-write_shapes-requires c = let s = c in rw c.in-ShelfNegativeBinomial.is at s.requires
+write_shapes-requires c = rw c.in-ShelfNegativeBinomial.is at c.requires
 
 pub returns-in-NegativeBinomial : goal.returns-in-NegativeBinomial
 unfolding row_starts
-returns-in-NegativeBinomial c =
-    let after-enum-told = c in
-    let p = c in
-    rw after-enum-told.in-NegativeBinomial.is p.write_plain.ensures
+returns-in-NegativeBinomial c = rw c.in-NegativeBinomial.is c.write_plain.ensures
 
 pub returns-in-ShelfNegativeBinomial : goal.returns-in-ShelfNegativeBinomial
 unfolding row_starts
-returns-in-ShelfNegativeBinomial c =
-    let after-enum-told2 = c in
-    let p = c in
-    rw after-enum-told2.in-ShelfNegativeBinomial.is p.write_shapes.ensures
+returns-in-ShelfNegativeBinomial c = rw c.in-ShelfNegativeBinomial.is c.write_shapes.ensures

@@ -10,7 +10,6 @@ use Rattle.routines.specs.Starts.{pareto_starts, weibull_starts}
 use Rattle.models.specs.declared.families.ErrorModel.{ErrorModel}
 use Rattle.models.specs.declared.families.GenomeModel.{GenomeModel}
 use Rattle.fitter.specs.Starts.{starts_of}
-use borrow.Author.Rules.{rules}
 use Rattle.fitter.proofs.starts.fit_starts.Goals as goal
 
 -- the same tables have the same starts
@@ -22,10 +21,6 @@ fixed error genome p w seeds hint share shapes room ep ew = rw (ep, ew)
 
 pub returns : goal.returns
 returns c =
-    let s = c in
-    let k = c in
-    let w = c in
-    let p = w in
-    let a = s.args in
-    let e = fixed a.error a.genome p.pareto_starts-pareto.result w.weibull_starts-weibull.result a.seeds.now a.hint a.share
-    a.shapes.now (length a.out.now) p.pareto_starts-pareto.ensures w.weibull_starts-weibull.ensures in record { result_value = k.fit_starts_lent.ensures.result_value ∙ ap (λ (r : Reply (List Float)). counted r) e; out_after = k.fit_starts_lent.ensures.out_after ∙ ap (λ (r : Reply (List Float)). laid r a.out.now) e }
+    let a = c.args in
+    let e = fixed a.error a.genome c.pareto_starts-pareto.result c.weibull_starts-weibull.result a.seeds.now a.hint a.share
+    a.shapes.now (length a.out.now) c.pareto_starts-pareto.ensures c.weibull_starts-weibull.ensures in record { result_value = c.fit_starts_lent.ensures.result_value ∙ ap (λ (r : Reply (List Float)). counted r) e; out_after = c.fit_starts_lent.ensures.out_after ∙ ap (λ (r : Reply (List Float)). laid r a.out.now) e }

@@ -1,5 +1,4 @@
 -- `fitter::starts::per_row` meets its contract. Assumes nothing.
-use borrow.Author.Rules.{rules}
 use Rattle.fitter.proofs.starts.per_row.Goals as goal
 
 pub returns-in-ShelfNegativeBinomial : goal.returns-in-ShelfNegativeBinomial

@@ -1,6 +1,5 @@
 -- `fitter::starts::start_tables_refusal` meets its contract. Assumes nothing.
 use mathlib.Core.Path.{sym, ◌∙◌}
-use borrow.Author.Rules.{rules}
 use Rattle.fitter.proofs.starts.start_tables_refusal.Goals as goal
 
 pub returns-then-not_rows : goal.returns-then-not_rows
@@ -8,10 +7,8 @@ returns-then-not_rows c = simp (sym c.not_rows.ensures ∙ c.if-not_rows.true)
 
 pub returns-then-not_rows-2 : goal.returns-then-not_rows-2
 returns-then-not_rows-2 c =
-    let one = c in
-    simp (sym one.not_rows.ensures ∙ one.if-not_rows.false, sym c.not_rows-2.ensures ∙ c.if-not_rows-2.true)
+    simp (sym c.not_rows.ensures ∙ c.if-not_rows.false, sym c.not_rows-2.ensures ∙ c.if-not_rows-2.true)
 
 pub returns : goal.returns
 returns c =
-    let one = c in
-    simp (sym one.not_rows.ensures ∙ one.if-not_rows.false, sym c.not_rows-2.ensures ∙ c.if-not_rows-2.false)
+    simp (sym c.not_rows.ensures ∙ c.if-not_rows.false, sym c.not_rows-2.ensures ∙ c.if-not_rows-2.false)

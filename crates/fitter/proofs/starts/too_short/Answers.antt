@@ -2,7 +2,6 @@
 use mathlib.Core.Path.{sym}
 use native.Mathlib.Omega.{arith}
 use Rattle.fitter.proofs.Divided.{none-short, divided}
-use borrow.Author.Rules.{rules}
 use Rattle.fitter.proofs.starts.too_short.Goals as goal
 
 pub returns-then-each-eq0 : goal.returns-then-each-eq0
@@ -12,6 +11,5 @@ returns-then-each-eq0 c =
 
 pub returns : goal.returns
 returns c =
-    let s = c in
-    let a = s.args in
-    divided a.room a.width a.each a.rows a.seeds s.requires.width_nonzero (omega (arith, c.if-each-eq0.false)) s.requires.rows_nonzero
+    let a = c.args in
+    divided a.room a.width a.each a.rows a.seeds c.requires.width_nonzero (omega (arith, c.if-each-eq0.false)) c.requires.rows_nonzero

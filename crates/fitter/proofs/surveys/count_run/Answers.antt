@@ -1,5 +1,4 @@
 -- `fitter::surveys::count_run` meets its contract. Assumes nothing.
-use borrow.Author.Rules.{rules}
 use Rattle.fitter.proofs.surveys.count_run.Goals as goal
 
 pub returns : goal.returns

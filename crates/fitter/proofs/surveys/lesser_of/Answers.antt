@@ -1,7 +1,6 @@
 -- `fitter::surveys::lesser_of` meets its contract. Assumes nothing.
 use mathlib.Core.Path.{sym, ◌∙◌}
 use Rattle.fitter.specs.Surveys.{lesser}
-use borrow.Author.Rules.{rules}
 use Rattle.fitter.proofs.surveys.lesser_of.Goals as goal
 
 pub returns-then-is_less : goal.returns-then-is_less

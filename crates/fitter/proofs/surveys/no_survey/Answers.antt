@@ -1,5 +1,4 @@
 -- `fitter::surveys::no_survey` meets its contract. Assumes nothing.
-use borrow.Author.Rules.{rules}
 use Rattle.fitter.proofs.surveys.no_survey.Goals as goal
 
 pub returns : goal.returns

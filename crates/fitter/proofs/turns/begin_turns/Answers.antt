@@ -1,5 +1,4 @@
 -- `fitter::turns::begin_turns` meets its contract. Assumes nothing.
-use borrow.Author.Rules.{rules}
 use Rattle.fitter.proofs.turns.begin_turns.Goals as goal
 
 pub returns : goal.returns

@@ -1,6 +1,5 @@
 -- `helpers::hoists::density` meets its contract. Assumes nothing.
 use Rattle.helpers.specs.Hoists.{density_of, density_with}
-use borrow.Author.Rules.{rules}
 use Rattle.helpers.proofs.hoists.density.Goals as goal
 
 pub returns : goal.returns

@@ -1,5 +1,4 @@
 -- `helpers::hoists::poisson_lobe` meets its contract. Assumes nothing.
-use borrow.Author.Rules.{rules}
 use Rattle.helpers.proofs.hoists.poisson_lobe.Goals as goal
 
 pub returns : goal.returns

@@ -5,24 +5,19 @@ use lib.ListN.{get_or-eq_default}
 use Rattle.meaning.proofs.Overs.{get_d_any}
 use Rattle.helpers.specs.Kept.{growth_of, density_from, growth_at}
 use Rattle.helpers.proofs.Growths.{density-from-is}
-use borrow.Author.Rules.{rules}
 use Rattle.helpers.proofs.kept.density_at.Goals as goal
 
 pub returns-then-i-kept : goal.returns-then-i-kept
 unfolding growth_at
 returns-then-i-kept c =
-    let s = c in
-    let inside = c in
-    let a = s.args in
+    let a = c.args in
     c.density_from.ensures
-    ∙ ap (density_from a.lobe a.x a.gamma) (get_d_any a.kept.now a.i nan (growth_of a.lobe a.x) inside.if-i-kept.true)
+    ∙ ap (density_from a.lobe a.x a.gamma) (get_d_any a.kept.now a.i nan (growth_of a.lobe a.x) c.if-i-kept.true)
 
 pub returns : goal.returns
 unfolding growth_at
 returns c =
-    let s = c in
-    let past = c in
-    let a = s.args in
+    let a = c.args in
     c.density_with.ensures
     ∙ sym (density-from-is a.lobe a.x a.gamma)
-    ∙ ap (density_from a.lobe a.x a.gamma) (sym (get_or-eq_default a.kept.now _ past.if-i-kept.false))
+    ∙ ap (density_from a.lobe a.x a.gamma) (sym (get_or-eq_default a.kept.now _ c.if-i-kept.false))

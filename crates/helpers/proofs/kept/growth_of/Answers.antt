@@ -1,6 +1,5 @@
 -- `helpers::kept::growth_of` meets its contract. Assumes nothing.
 use Rattle.helpers.specs.Kept.{growth_of}
-use borrow.Author.Rules.{rules}
 use Rattle.helpers.proofs.kept.growth_of.Goals as goal
 
 pub returns-then-lobe : goal.returns-then-lobe
@@ -9,4 +8,4 @@ returns-then-lobe c = rw c.if-lobe.true
 
 pub returns : goal.returns
 unfolding growth_of
-returns c = let else1 = c in rw (else1.if-lobe.false, c.ln.ensures)
+returns c = rw (c.if-lobe.false, c.ln.ensures)

@@ -1,7 +1,6 @@
 -- `helpers::kept::keep` meets its contract. Assumes nothing.
 use mathlib.Core.Path.{sym}
 use lib.Seq.{set_out}
-use borrow.Author.Rules.{rules}
 use Rattle.helpers.proofs.kept.keep.Goals as goal
 
 pub returns-else-i-kept : goal.returns-else-i-kept

@@ -1,7 +1,6 @@
 -- `helpers::lobes::ln_dnbinom` meets its contract: a lobe's density is the density. Assumes nothing.
 use mathlib.Core.Path.{◌∙◌}
 use Rattle.helpers.proofs.Densities.{density-is}
-use borrow.Author.Rules.{rules}
 use Rattle.helpers.proofs.lobes.ln_dnbinom.Goals as goal
 
 pub returns : goal.returns

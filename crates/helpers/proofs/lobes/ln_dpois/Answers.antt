@@ -1,6 +1,5 @@
 -- `helpers::lobes::ln_dpois` meets its contract. Assumes nothing.
 use Rattle.helpers.specs.Lobes.{ln_dpois_of}
-use borrow.Author.Rules.{rules}
 use Rattle.helpers.proofs.lobes.ln_dpois.Goals as goal
 
 pub returns : goal.returns

@@ -1,5 +1,4 @@
 -- `helpers::log_sums::ln_softmax3` meets its contract. Assumes nothing.
-use borrow.Author.Rules.{rules}
 use Rattle.helpers.proofs.log_sums.ln_softmax3.Goals as goal
 
 pub returns : goal.returns

@@ -2,28 +2,23 @@
 use mathlib.Core.Path.{sym, ap, ◌∙◌}
 use lib.Ieee.Scale.{finite}
 use Rattle.helpers.specs.LogSums.{lse2_of}
-use borrow.Author.Rules.{rules}
 use Rattle.helpers.proofs.log_sums.lse2.Goals as goal
 
 pub weights-requires : goal.weights-requires
 weights-requires c =
-    let after-max = c in
-    let most = after-max.max-m.ensures in
+    let most = c.max-m.ensures in
     sym (ap finite most) ∙ sym c.is_finite.ensures ∙ c.if-is_finite.true
 
 pub returns-then-is_finite : goal.returns-then-is_finite
 unfolding lse2_of
 returns-then-is_finite c =
-    let after-max = c in
-    let test = c in
-    let most = sym after-max.max-m.ensures in
-    let known = sym test.is_finite.ensures ∙ test.if-is_finite.true in
+    let most = sym c.max-m.ensures in
+    let known = sym c.is_finite.ensures ∙ c.if-is_finite.true in
     rw (most, known) (rw (c.with_log.ensures, c.weights.ensures, most))
 
 pub returns : goal.returns
 unfolding lse2_of
 returns c =
-    let after-max = c in
-    let most = sym after-max.max-m.ensures in
+    let most = sym c.max-m.ensures in
     let known = sym c.is_finite.ensures ∙ c.if-is_finite.false in
     rw (most, known)

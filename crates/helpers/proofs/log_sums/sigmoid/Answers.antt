@@ -1,6 +1,5 @@
 -- `helpers::log_sums::sigmoid` meets its contract. Assumes nothing.
 use Rattle.helpers.specs.LogSums.{sigmoid_of}
-use borrow.Author.Rules.{rules}
 use Rattle.helpers.proofs.log_sums.sigmoid.Goals as goal
 
 pub returns-then-value : goal.returns-then-value

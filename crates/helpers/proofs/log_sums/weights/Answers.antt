@@ -10,7 +10,7 @@ pub added-requires-else-a-b : goal.added-requires-else-a-b
 added-requires-else-a-b c = one-least
 
 pub returns-then-a-b : goal.returns-then-a-b
-returns-then-a-b c = let s = c in c.added.ensures ∙ second-weight _ _ s.requires c.if-a-b.true
+returns-then-a-b c = c.added.ensures ∙ second-weight _ _ c.requires c.if-a-b.true
 
 pub returns-else-a-b : goal.returns-else-a-b
-returns-else-a-b c = let s = c in c.added-else-a-b.ensures ∙ first-weight _ _ s.requires c.if-a-b.false
+returns-else-a-b c = c.added-else-a-b.ensures ∙ first-weight _ _ c.requires c.if-a-b.false

@@ -1,7 +1,6 @@
 -- `helpers::log_sums::with_log` meets its contract. Assumes nothing.
 use Rattle.routines.proofs.Tests.{yes}
 use Rattle.helpers.proofs.Weights.{log-of-one}
-use borrow.Author.Rules.{rules}
 use Rattle.helpers.proofs.log_sums.with_log.Goals as goal
 
 pub returns-then-s : goal.returns-then-s

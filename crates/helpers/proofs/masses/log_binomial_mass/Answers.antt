@@ -1,13 +1,9 @@
 -- `helpers::masses::log_binomial_mass` meets its contract. Assumes nothing.
-use borrow.Author.Rules.{rules}
-use mathlib.Core.Path.{◌≡◌, refl}
-use Prim.Native.Nat.{◌+◌, ◌-◌}
+use mathlib.Core.Path.{refl}
 use native.Mathlib.Omega.{arith}
 use lib.Ieee.{div, neg, of_bits}
-use Rattle.routines.specs.Constants.{one}
-use Rattle.helpers.specs.Lobes.{ln_dnbinom_of, size_of, log_QOf}
-use Rattle.helpers.specs.Masses.{binomial_mass_of, binomial_ratio}
-use Rattle.helpers.proofs.Recurrences.{Summed, sum-begins, sum-goes-on, sum-ends}
+use Rattle.helpers.specs.Masses.{binomial_mass_of}
+use Rattle.helpers.proofs.Recurrences.{sum-begins, sum-goes-on, sum-ends}
 use Rattle.helpers.proofs.masses.log_binomial_mass.Goals as goal
 
 pub loop-count-init : goal.loop-count-init
@@ -24,11 +20,8 @@ loop-count-smaller c = omega arith
 
 pub loop-count-preserved : goal.loop-count-preserved
 loop-count-preserved c =
-    let l = c in
-    let second = c in
-    let summed = c in
-    let inv = l.loop-count.invariant in
-    (inv.0, inv.1, sum-goes-on _ _ _ inv.2 _ _ (omega arith) summed.lse2-total.ensures (rw (c.ln-in-loop-count.ensures, second.ln.ensures, inv.0, inv.1)))
+    let inv = c.loop-count.invariant in
+    (inv.0, inv.1, sum-goes-on _ _ _ inv.2 _ _ (omega arith) c.lse2-total.ensures (rw (c.ln-in-loop-count.ensures, c.ln.ensures, inv.0, inv.1)))
 
 pub returns : goal.returns
 unfolding binomial_mass_of

@@ -1,6 +1,5 @@
 -- `helpers::masses::log_nb_mass_to` meets its contract. Assumes nothing.
 use Rattle.helpers.specs.Masses.{log_nb_mass_to}
-use borrow.Author.Rules.{rules}
 use Rattle.helpers.proofs.masses.log_nb_mass_to.Goals as goal
 
 pub returns-then-dispersion : goal.returns-then-dispersion

@@ -1,14 +1,9 @@
 -- `helpers::masses::log_poisson_mass` meets its contract. Assumes nothing.
-use borrow.Author.Rules.{rules}
-use mathlib.Core.Path.{◌≡◌, refl}
-use Prim.Native.Nat.{◌+◌, ◌-◌}
+use mathlib.Core.Path.{refl}
 use native.Mathlib.Omega.{arith}
 use lib.Ieee.{div, neg, of_bits}
-use Rattle.routines.specs.Constants.{one}
-use Rattle.routines.specs.Ln.{ln_of}
-use Rattle.helpers.specs.Lobes.{ln_dpois_of}
-use Rattle.helpers.specs.Masses.{poisson_mass_of, poisson_ratio}
-use Rattle.helpers.proofs.Recurrences.{Summed, sum-begins, sum-goes-on, sum-ends}
+use Rattle.helpers.specs.Masses.{poisson_mass_of}
+use Rattle.helpers.proofs.Recurrences.{sum-begins, sum-goes-on, sum-ends}
 use Rattle.helpers.proofs.masses.log_poisson_mass.Goals as goal
 
 pub loop-count-init : goal.loop-count-init
@@ -26,10 +21,8 @@ loop-count-smaller c = omega arith
 
 pub loop-count-preserved : goal.loop-count-preserved
 loop-count-preserved c =
-    let after-lse2 = c in
-    let l = c in
-    let inv = l.loop-count.invariant in
-    (inv.0, sum-goes-on _ _ _ inv.1 _ _ (omega arith) after-lse2.lse2-total.ensures (rw (c.ln.ensures, inv.0)))
+    let inv = c.loop-count.invariant in
+    (inv.0, sum-goes-on _ _ _ inv.1 _ _ (omega arith) c.lse2-total.ensures (rw (c.ln.ensures, inv.0)))
 
 pub returns : goal.returns
 unfolding poisson_mass_of

@@ -1,16 +1,13 @@
 -- `helpers::masses::log_shelf_mass` meets its contract. The loop's invariant: entries 1 to i - 1 are added up; with no
 -- entry to add i stays 1. Assumes nothing.
-use borrow.Author.Rules.{rules}
-use mathlib.Core.Path.{◌≡◌, refl, ap, ◌∙◌}
+use mathlib.Core.Path.{◌≡◌}
 use mathlib.Core.Bool.{true}
-use mathlib.Core.Logic.{◌⊎◌, inl, inr}
-use Prim.Native.Nat.{ℕ, ◌+◌, ◌-◌, ◌≤◌, min}
-use native.Mathlib.Omega.{arith}
+use mathlib.Core.Logic.{◌⊎◌}
+use Prim.Native.Nat.{◌+◌, ◌-◌, ◌≤◌, min}
 use lib.ListN.{length}
-use lib.Ieee.{nan, inf, div, neg, of_bits}
+use lib.Ieee.{inf}
 use Rattle.meaning.specs.Fold.{fold}
-use Rattle.helpers.specs.Masses.{shelf_mass_of, shelf_step}
-use Rattle.helpers.proofs.Recurrences.{shelf-begins, shelf-more, shelf-ends}
+use Rattle.helpers.specs.Masses.{shelf_step}
 use Rattle.helpers.proofs.masses.log_shelf_mass.Given as goal
 
 abbrev pub invariant-loop-i : goal.invariant-loop-i

@@ -3,7 +3,6 @@ use mathlib.Core.Path.{ap}
 use Rattle.meaning.specs.Reply.{give}
 use borrow.Author.Tests.{lt-ltb, le-ltb, eq-eqb, ne_eqb}
 use Rattle.helpers.specs.Masses.{single_copy_log_mass_of}
-use borrow.Author.Rules.{rules}
 use Rattle.helpers.proofs.masses.single_copy_log_mass.Goals as goal
 
 pub returns-then-top-gt-MOST : goal.returns-then-top-gt-MOST
@@ -17,6 +16,5 @@ returns-then-top-eq0 c = simp (le-ltb _ _ c.if-top-gt-MOST.false, eq-eqb _ _ c.i
 pub returns : goal.returns
 unfolding single_copy_log_mass_of
 returns c =
-    let else1 = c in
-    simp (le-ltb _ _ else1.if-top-gt-MOST.false, ne_eqb _ _ c.if-top-eq0.false)
+    simp (le-ltb _ _ c.if-top-gt-MOST.false, ne_eqb _ _ c.if-top-eq0.false)
     (ap give c.single_copy_log_mass_to.ensures)

@@ -8,18 +8,14 @@ enum_told-1 c = search rules
 
 pub returns-in-Absent : goal.returns-in-Absent
 unfolding single_copy_mass_to
-returns-in-Absent c =
-    let after-log-nb-mass-to = c in
-    rw c.in-Absent.is after-log-nb-mass-to.log_nb_mass_to-lobe.ensures
+returns-in-Absent c = rw c.in-Absent.is c.log_nb_mass_to-lobe.ensures
 
 pub returns-in-Present : goal.returns-in-Present
 unfolding single_copy_mass_to
 returns-in-Present c =
-    let after-log-nb-mass-to = c in
-    let arm = c in
     rw (
-      arm.in-Present.is,
+      c.in-Present.is,
       c.mix_shelf.ensures,
       c.log_shelf_mass.ensures,
-      after-log-nb-mass-to.log_nb_mass_to-lobe.ensures,
+      c.log_nb_mass_to-lobe.ensures,
     )

@@ -4,13 +4,11 @@ use mathlib.Core.Bool.{true}
 use lib.ListN.{get_or-eq_default}
 use lib.Ieee.{nan, inf, div, neg, of_bits}
 use Rattle.meaning.proofs.Overs.{get_d_any}
-use borrow.Author.Rules.{rules}
 use Rattle.helpers.proofs.mixtures.entry_of.Goals as goal
 
 pub returns-then-n-table : goal.returns-then-n-table
 returns-then-n-table c =
-    let s = c in
-    let a = s.args in get_d_any a.table.now a.n nan (inf true) c.if-n-table.true
+    let a = c.args in get_d_any a.table.now a.n nan (inf true) c.if-n-table.true
 
 pub returns-else-n-table : goal.returns-else-n-table
 unfolding div neg of_bits

@@ -1,17 +1,12 @@
 -- `helpers::pairs::lobe_masses_to` meets its contract: the terms of both lobes are added up side by side, and their
 -- growths are kept. Assumes nothing.
-use borrow.Author.Rules.{rules}
-use mathlib.Core.Path.{◌≡◌, refl, ◌∙◌}
-use Prim.Native.Nat.{◌+◌, ◌-◌}
+use mathlib.Core.Path.{refl, ◌∙◌}
 use native.Mathlib.Omega.{arith}
 use lib.Ieee.{div, neg, of_bits}
-use lib.ListN.{length}
-use Rattle.meaning.proofs.Loops.{Folded, begins, goes_on, ends}
-use Rattle.routines.specs.Constants.{one}
-use Rattle.helpers.specs.Hoists.{density_of}
-use Rattle.helpers.specs.Kept.{keep_step, kept_after}
-use Rattle.helpers.specs.Pairs.{lobe_ratio, lobe_mass_of}
-use Rattle.helpers.proofs.Recurrences.{Summed, sum-begins, sum-goes-on, sum-ends}
+use Rattle.meaning.proofs.Loops.{begins, goes_on, ends}
+use Rattle.helpers.specs.Kept.{kept_after}
+use Rattle.helpers.specs.Pairs.{lobe_mass_of}
+use Rattle.helpers.proofs.Recurrences.{sum-begins, sum-goes-on, sum-ends}
 use Rattle.helpers.proofs.pairs.lobe_masses_to.Goals as goal
 
 pub loop-count-init : goal.loop-count-init
@@ -39,23 +34,15 @@ loop-count-smaller c = omega arith
 
 pub loop-count-preserved : goal.loop-count-preserved
 loop-count-preserved c =
-    let l = c in
-    let first = c in
-    let sums = first in
-    let kept2 = c in
-    let kept1 = c in
-    let growth2 = c in
-    let growth1 = c in
-    let log = c in
-    let turn = l.loop-count in
+    let turn = c.loop-count in
     let inv = turn.invariant in (
-      sum-goes-on _ _ _ inv.0 _ _ (omega arith) sums.lse2-total.ensures
-          (rw (first.ratio_with-term.ensures, growth1.growth_of-growth.ensures, log.log_at-log.ensures)),
-      sum-goes-on _ _ _ inv.1 _ _ (omega arith) sums.lse2-other_total.ensures
-          (rw (c.ratio_with-other_term.ensures, growth2.growth_of-other_growth.ensures, log.log_at-log.ensures)),
+      sum-goes-on _ _ _ inv.0 _ _ (omega arith) c.lse2-total.ensures
+          (rw (c.ratio_with-term.ensures, c.growth_of-growth.ensures, c.log_at-log.ensures)),
+      sum-goes-on _ _ _ inv.1 _ _ (omega arith) c.lse2-other_total.ensures
+          (rw (c.ratio_with-other_term.ensures, c.growth_of-other_growth.ensures, c.log_at-log.ensures)),
       goes_on _ _ 1 _ inv.2 _ (omega arith)
-          (rw (kept2.keep-in-loop-count.ensures, kept1.keep.ensures, growth1.growth_of-growth.ensures, growth2.growth_of-other_growth.ensures)),
-      kept2.keep-in-loop-count.auto.kept ∙ kept1.keep.auto.kept ∙ inv.3,
+          (rw (c.keep-in-loop-count.ensures, c.keep.ensures, c.growth_of-growth.ensures, c.growth_of-other_growth.ensures)),
+      c.keep-in-loop-count.auto.kept ∙ c.keep.auto.kept ∙ inv.3,
     )
 
 pub shape_of-kept : goal.shape_of-kept
@@ -64,6 +51,5 @@ shape_of-kept c = c.loop-count.invariant.3
 pub returns : goal.returns
 unfolding lobe_mass_of kept_after
 returns c =
-    let turn = c in
-    let inv = turn.loop-count.invariant in
+    let inv = c.loop-count.invariant in
     record { value = rw (sum-ends _ _ _ inv.0 (omega arith), sum-ends _ _ _ inv.1 (omega arith)); kept_after = ends _ _ 1 _ inv.2 (omega arith) }

@@ -1,17 +1,14 @@
 -- `helpers::pairs::lobe_masses_to` meets its contract: the terms of both lobes are added up side by side, and their
 -- growths are kept. Assumes nothing.
-use borrow.Author.Rules.{rules}
-use mathlib.Core.Path.{◌≡◌, refl, ◌∙◌}
+use mathlib.Core.Path.{◌≡◌}
 use Prim.Native.Nat.{◌+◌, ◌-◌}
-use native.Mathlib.Omega.{arith}
-use lib.Ieee.{div, neg, of_bits}
 use lib.ListN.{length}
-use Rattle.meaning.proofs.Loops.{Folded, begins, goes_on, ends}
+use Rattle.meaning.proofs.Loops.{Folded}
 use Rattle.routines.specs.Constants.{one}
 use Rattle.helpers.specs.Hoists.{density_of}
-use Rattle.helpers.specs.Kept.{keep_step, kept_after}
-use Rattle.helpers.specs.Pairs.{lobe_ratio, lobe_mass_of}
-use Rattle.helpers.proofs.Recurrences.{Summed, sum-begins, sum-goes-on, sum-ends}
+use Rattle.helpers.specs.Kept.{keep_step}
+use Rattle.helpers.specs.Pairs.{lobe_ratio}
+use Rattle.helpers.proofs.Recurrences.{Summed}
 use Rattle.helpers.proofs.pairs.lobe_masses_to.Given as goal
 
 abbrev pub invariant-loop-count : goal.invariant-loop-count

@@ -5,17 +5,13 @@ use lib.ListN.{get_or-eq_default}
 use lib.Ieee.{inf, div, neg, of_bits}
 use Rattle.meaning.proofs.Overs.{get_d_any}
 use Rattle.helpers.specs.Shelves.{entry_at_of}
-use borrow.Author.Rules.{rules}
 use Rattle.helpers.proofs.shelves.entry_at.Goals as goal
 
 pub returns-then-i-table : goal.returns-then-i-table
 unfolding entry_at_of
-returns-then-i-table c =
-    let after-to-u64 = c in
-    rw (get_d_any _ _ _ (inf true) c.if-i-table.true, after-to-u64.to_u64-i.ensures)
+returns-then-i-table c = rw (get_d_any _ _ _ (inf true) c.if-i-table.true, c.to_u64-i.ensures)
 
 pub returns-else-i-table : goal.returns-else-i-table
 unfolding entry_at_of div neg of_bits
 returns-else-i-table c =
-    let s = c in
-    rw (sym c.to_u64-i.ensures) (sym (get_or-eq_default s.args.table.now (inf true) c.if-i-table.false))
+    rw (sym c.to_u64-i.ensures) (sym (get_or-eq_default c.args.table.now (inf true) c.if-i-table.false))

@@ -8,20 +8,15 @@ enum_told-1 c = search rules
 
 pub returns-in-Absent : goal.returns-in-Absent
 unfolding ln_single_copy_of
-returns-in-Absent c =
-    let after-ln-dnbinom = c in
-    rw c.in-Absent.is after-ln-dnbinom.ln_dnbinom-lobe.ensures
+returns-in-Absent c = rw c.in-Absent.is c.ln_dnbinom-lobe.ensures
 
 pub returns-in-Present : goal.returns-in-Present
 unfolding ln_single_copy_of
 returns-in-Present c =
-    let after-shelf-trials = c in
-    let after-ln-dnbinom = c in
-    let arm = c in
     rw (
-      arm.in-Present.is,
+      c.in-Present.is,
       c.mix_shelf.ensures,
       c.ln_dbetabinom.ensures,
-      after-shelf-trials.shelf_trials.ensures,
-      after-ln-dnbinom.ln_dnbinom-lobe.ensures,
+      c.shelf_trials.ensures,
+      c.ln_dnbinom-lobe.ensures,
     )

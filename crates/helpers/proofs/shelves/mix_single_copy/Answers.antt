@@ -1,6 +1,5 @@
 -- `helpers::shelves::mix_single_copy` meets its contract. Assumes nothing.
 use Rattle.helpers.proofs.Densities.{mix-entry-is}
-use borrow.Author.Rules.{rules}
 use Rattle.helpers.proofs.shelves.mix_single_copy.Goals as goal
 
 pub returns : goal.returns

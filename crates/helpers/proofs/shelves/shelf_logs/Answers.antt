@@ -11,6 +11,4 @@ unfolding neg div of_bits
 returns-in-Absent c = rw c.in-Absent.is
 
 pub returns-in-Present : goal.returns-in-Present
-returns-in-Present c =
-    let after-shelf = c in
-    rw (after-shelf.in-Present.is, c.ln-in-Present.ensures, c.ln.ensures)
+returns-in-Present c = rw (c.in-Present.is, c.ln-in-Present.ensures, c.ln.ensures)

@@ -1,6 +1,5 @@
 -- `helpers::shelves::shelf_trials` meets its contract. Assumes nothing.
 use Rattle.helpers.specs.Shelves.{shelf_trials_of}
-use borrow.Author.Rules.{rules}
 use Rattle.helpers.proofs.shelves.shelf_trials.Goals as goal
 
 pub returns : goal.returns

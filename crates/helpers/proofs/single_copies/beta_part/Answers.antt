@@ -1,8 +1,5 @@
 -- `helpers::single_copies::beta_part` meets its contract. Assumes nothing.
-use borrow.Author.Rules.{rules}
 use Rattle.helpers.proofs.single_copies.beta_part.Goals as goal
 
 pub returns-in-Present : goal.returns-in-Present
-returns-in-Present c =
-    let after-shelf = c in
-    rw (after-shelf.in-Present.is, c.beta_binomial_of.ensures, c.shelf_trials.ensures)
+returns-in-Present c = rw (c.in-Present.is, c.beta_binomial_of.ensures, c.shelf_trials.ensures)

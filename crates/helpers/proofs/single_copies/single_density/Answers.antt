@@ -1,6 +1,5 @@
 -- `helpers::single_copies::single_density` meets its contract. Assumes nothing.
 use Rattle.helpers.specs.SingleCopies.{single_density_of}
-use borrow.Author.Rules.{rules}
 use Rattle.helpers.proofs.single_copies.single_density.Goals as goal
 
 pub returns : goal.returns

@@ -8,14 +8,8 @@ enum_told-1 c = search rules
 
 pub returns-in-Absent : goal.returns-in-Absent
 unfolding single_density_with
-returns-in-Absent c =
-    let after-density-with = c in
-    rw c.in-Absent.is after-density-with.density_with-lobe.ensures
+returns-in-Absent c = rw c.in-Absent.is c.density_with-lobe.ensures
 
 pub returns-in-Present : goal.returns-in-Present
 unfolding single_density_with
-returns-in-Present c =
-    let after-density-with = c in
-    let shelf = c in
-    let arm = c in
-    rw (arm.in-Present.is, c.lse2.ensures, shelf.beta_density.ensures, after-density-with.density_with-lobe.ensures)
+returns-in-Present c = rw (c.in-Present.is, c.lse2.ensures, c.beta_density.ensures, c.density_with-lobe.ensures)

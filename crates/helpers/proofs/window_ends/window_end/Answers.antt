@@ -1,7 +1,6 @@
 -- `helpers::window_ends::window_end` meets its contract. Assumes nothing.
 use borrow.Author.Tests.{lt-ltb, le-ltb, eq-eqb, ne_eqb}
 use Rattle.helpers.specs.WindowEnds.{window_end_of}
-use borrow.Author.Rules.{rules}
 use Rattle.helpers.proofs.window_ends.window_end.Goals as goal
 
 pub returns-then-count-gt-MOST : goal.returns-then-count-gt-MOST

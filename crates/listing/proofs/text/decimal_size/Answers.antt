@@ -10,8 +10,7 @@ pub loop-left-init : goal.loop-left-init
 loop-left-init c = refl
 
 pub overflow_add-size : goal.overflow_add-size
-overflow_add-size c =
-    omega (arith, twenty c.args.n c.well_formed.0.1)
+overflow_add-size c = omega (arith, twenty c.args.n c.well_formed.0.1)
 
 pub loop-left-smaller : goal.loop-left-smaller
 loop-left-smaller c = omega arith

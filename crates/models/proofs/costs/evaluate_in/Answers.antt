@@ -1,8 +1,6 @@
 -- `models::costs::evaluate_in` meets its contract. Assumes nothing.
-use mathlib.Core.Path.{◌≡◌, sym, ◌∙◌}
-use mathlib.Core.Bool.{true}
+use mathlib.Core.Path.{sym, ◌∙◌}
 use lib.Ieee.{div, of_bits}
-use Rattle.models.specs.Masses.{masses_usable}
 use Rattle.models.proofs.Costed.{not_finite, above_zero, at-most-zero, masses-stop, likelihood-stops, evaluates}
 use Rattle.models.proofs.costs.evaluate_in.Goals as goal
 use Rattle.models.proofs.costs.evaluate_in.Goals.{else-is_finite-via-then-is_finite+else-total, else-is_finite-via-else-is_finite}

@@ -1,6 +1,5 @@
 -- `models::costs::mode_held` meets its contract. Assumes nothing.
 use Rattle.models.specs.Costs.{mode_held}
-use borrow.Author.Rules.{rules}
 use Rattle.models.proofs.costs.mode_held.Goals as goal
 
 pub returns : goal.returns

@@ -2,7 +2,6 @@
 use mathlib.Core.Path.{◌≡◌, ap, ◌∙◌}
 use Prim.Native.Nat.{ℕ, ◌≤◌, ◌<◌, min}
 use native.Mathlib.Omega.{arith}
-use borrow.Author.Rules.{rules}
 use lib.Ieee.{to_unsigned}
 use Rattle.models.proofs.cutoffs.ceiling.Goals as goal
 
@@ -14,10 +13,8 @@ higher n m end e h = omega arith
 
 pub returns-then-rounded-end : goal.returns-then-rounded-end
 returns-then-rounded-end c =
-    let known = c in
-    lower _ _ _ (known.to_u64-rounded.ensures ∙ ap (to_unsigned 64) known.round.ensures) c.if-rounded-end.true
+    lower _ _ _ (c.to_u64-rounded.ensures ∙ ap (to_unsigned 64) c.round.ensures) c.if-rounded-end.true
 
 pub returns-else-rounded-end : goal.returns-else-rounded-end
 returns-else-rounded-end c =
-    let known = c in
-    higher _ _ _ (known.to_u64-rounded.ensures ∙ ap (to_unsigned 64) known.round.ensures) c.if-rounded-end.false
+    higher _ _ _ (c.to_u64-rounded.ensures ∙ ap (to_unsigned 64) c.round.ensures) c.if-rounded-end.false

@@ -1,7 +1,6 @@
 -- `models::cutoffs::hole_walk` meets its contract. Assumes nothing.
 use mathlib.Core.Path.{ap, ◌∙◌}
 use Prim.Native.Nat.{ℕ}
-use borrow.Author.Rules.{rules}
 use lib.Ieee.{Float}
 use Rattle.models.specs.WalkHoists.{probability_of}
 use Rattle.models.specs.Walk.{walk_of}
@@ -12,11 +11,9 @@ use Rattle.models.proofs.cutoffs.hole_walk.Goals as goal
 pub returns : goal.returns
 unfolding hole_walk_of
 returns c =
-    let top = c in
-    let single = c in
-    let a = single.args in
+    let a = c.args in
     let share = allowed_of a.fit a.budget in
     c.walk.ensures
-    ∙ ap (λ (p : ℕ → Float). walk_of p share top.ceiling-top.result)
-    (ap probability_of single.single_copy_of-single.ensures ∙ probability-is a.fit)
-    ∙ ap (walk_of (probability_in a.fit) share) top.ceiling-top.ensures
+    ∙ ap (λ (p : ℕ → Float). walk_of p share c.ceiling-top.result)
+    (ap probability_of c.single_copy_of-single.ensures ∙ probability-is a.fit)
+    ∙ ap (walk_of (probability_in a.fit) share) c.ceiling-top.ensures

@@ -1,8 +1,6 @@
 -- `models::cutoffs::is_sure` meets its contract. Assumes nothing.
 use mathlib.Core.Path.{sym, ap, ◌∙◌}
 use Prim.Native.Nat.{ℕ, suc}
-use borrow.Author.Rules.{rules}
-use borrow.Author.Tests.{not-true, not-false}
 use lib.Ieee.{Float}
 use Rattle.models.specs.WalkHoists.{probability_of}
 use Rattle.models.specs.Walk.{all_probable}
@@ -17,13 +15,9 @@ returns-then-not-is_finite c = rw (sym c.is_finite.ensures ∙ c.if-not-is_finit
 pub returns : goal.returns
 unfolding sure_of
 returns c =
-    let s = c in
-    let top = c in
-    let single = c in
-    let finite = single in
-    let a = s.args in
-    rw (sym finite.is_finite.ensures ∙ finite.if-not-is_finite.false)
+    let a = c.args in
+    rw (sym c.is_finite.ensures ∙ c.if-not-is_finite.false)
     (c.all_probable.ensures
-    ∙ ap (λ (p : ℕ → Float). all_probable p (suc top.ceiling-top.result))
-    (ap probability_of single.single_copy_of-single.ensures ∙ probability-is a.fit)
-    ∙ ap (λ (n : ℕ). all_probable (probability_in a.fit) (suc n)) top.ceiling-top.ensures)
+    ∙ ap (λ (p : ℕ → Float). all_probable p (suc c.ceiling-top.result))
+    (ap probability_of c.single_copy_of-single.ensures ∙ probability-is a.fit)
+    ∙ ap (λ (n : ℕ). all_probable (probability_in a.fit) (suc n)) c.ceiling-top.ensures)

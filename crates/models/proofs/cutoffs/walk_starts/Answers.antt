@@ -1,7 +1,6 @@
 -- `models::cutoffs::walk_starts` meets its contract. Assumes nothing.
 use mathlib.Core.Path.{sym, ◌∙◌}
-use borrow.Author.Rules.{rules}
-use borrow.Author.Tests.{not-true, not-false, lt-ltb, le-ltb}
+use borrow.Author.Tests.{lt-ltb, le-ltb}
 use Rattle.models.specs.Cutoffs.{walk_starts}
 use Rattle.models.proofs.cutoffs.walk_starts.Goals as goal
 
@@ -11,39 +10,28 @@ returns-then-fit c = rw c.if-fit.true
 
 pub returns-then-not-is_finite : goal.returns-then-not-is_finite
 unfolding walk_starts
-returns-then-not-is_finite c =
-    let known = c in
-    rw (known.if-fit.false, sym known.is_finite.ensures ∙ c.if-not-is_finite.true)
+returns-then-not-is_finite c = rw (c.if-fit.false, sym c.is_finite.ensures ∙ c.if-not-is_finite.true)
 
 pub returns-then-fit-2 : goal.returns-then-fit-2
 unfolding walk_starts
-returns-then-fit-2 c =
-    let else1 = c in
-    let finite = c in
-    rw (else1.if-fit.false, sym finite.is_finite.ensures ∙ finite.if-not-is_finite.false, c.if-fit-2.true)
+returns-then-fit-2 c = rw (c.if-fit.false, sym c.is_finite.ensures ∙ c.if-not-is_finite.false, c.if-fit-2.true)
 
 pub returns-then-fit-lt2 : goal.returns-then-fit-lt2
 unfolding walk_starts
 returns-then-fit-lt2 c =
-    let else1 = c in
-    let large = c in
-    let finite = c in
     rw (
-      else1.if-fit.false,
-      sym finite.is_finite.ensures ∙ finite.if-not-is_finite.false,
-      large.if-fit-2.false,
+      c.if-fit.false,
+      sym c.is_finite.ensures ∙ c.if-not-is_finite.false,
+      c.if-fit-2.false,
       lt-ltb _ _ c.if-fit-lt2.true,
     )
 
 pub returns : goal.returns
 unfolding walk_starts
 returns c =
-    let else1 = c in
-    let large = c in
-    let finite = c in
     rw (
-      else1.if-fit.false,
-      sym finite.is_finite.ensures ∙ finite.if-not-is_finite.false,
-      large.if-fit-2.false,
+      c.if-fit.false,
+      sym c.is_finite.ensures ∙ c.if-not-is_finite.false,
+      c.if-fit-2.false,
       le-ltb _ _ c.if-fit-lt2.false,
     )

@@ -2,20 +2,16 @@
 -- an earlier one. Assumes nothing.
 use mathlib.Core.Path.{◌≡◌, refl, sym, ap, ◌∙◌, fun_ext}
 use mathlib.Core.List.{List}
-use Prim.Native.Nat.{ℕ, ◌+◌, ◌-◌}
+use Prim.Native.Nat.{ℕ}
 use native.Mathlib.Omega.{arith}
 use lib.Ieee.{Float, neg, of_bits}
-use Rattle.meaning.proofs.Loops.{Folded, begins, goes_on, ends}
-use Rattle.routines.specs.Constants.{zero}
-use Rattle.routines.specs.Ops.{of_count}
-use Rattle.models.specs.Deviances.{expected_of, deviance_term, deviance_of}
-use Rattle.models.specs.HeightTerms.{height_terms_of, heights_of, ready_of}
-use Rattle.models.specs.Spectra.{observed_step, over_observed, seen_term}
+use Rattle.meaning.proofs.Loops.{begins, goes_on, ends}
+use Rattle.models.specs.Deviances.{deviance_of}
+use Rattle.models.specs.HeightTerms.{height_terms_of, ready_of}
+use Rattle.models.specs.Spectra.{over_observed, seen_term}
 use Rattle.models.specs.declared.deviances.Ready.{Ready}
 use Rattle.models.specs.declared.fit.SpectrumFit.{SpectrumFit}
-use Rattle.models.specs.declared.height_terms.HeightTerms.{HeightTerms}
 use Rattle.models.proofs.HeightTerms.{terms-heights}
-use borrow.Author.Rules.{rules}
 use Rattle.models.proofs.deviances.conditional_deviance.Invariants.{term_from}
 use Rattle.models.proofs.deviances.conditional_deviance.Goals as goal
 
@@ -35,7 +31,7 @@ loop-i-init c =
     )
 
 pub add_deviance-reached-requires : goal.add_deviance-reached-requires
-add_deviance-reached-requires c = let l = c in record { ready_value = l.loop-i.invariant.0; i_bound = omega arith }
+add_deviance-reached-requires c = record { ready_value = c.loop-i.invariant.0; i_bound = omega arith }
 
 pub overflow_add-i : goal.overflow_add-i
 overflow_add-i c = omega arith
@@ -45,22 +41,17 @@ loop-i-smaller c = omega arith
 
 pub loop-i-preserved : goal.loop-i-preserved
 loop-i-preserved c =
-    let s = c in
-    let at = c in
-    let terms = c in
-    let turn = at.loop-i in
-    let scale = s.args.scale in (
+    let turn = c.loop-i in
+    let scale = c.args.scale in (
       c.add_deviance-reached.ensures.ready_value_2,
       goes_on _ _ _ _ turn.invariant.1 _ (omega arith)
           (c.add_deviance-reached.ensures.total_value
-          ∙ ap (λ (n : ℕ). seen_term n turn.reached.total (term_from terms.height_terms-t.result scale n turn.i))
+          ∙ ap (λ (n : ℕ). seen_term n turn.reached.total (term_from c.height_terms-t.result scale n turn.i))
           c.recovered_at-n.ensures),
     )
 
 pub returns : goal.returns
 unfolding over_observed
 returns c =
-    let after-height-terms = c in
-    let at = c in
-    ends _ _ _ _ at.loop-i.invariant.1 (omega arith)
-    ∙ rw after-height-terms.height_terms-t.ensures (from-terms _ _ _ _)
+    ends _ _ _ _ c.loop-i.invariant.1 (omega arith)
+    ∙ rw c.height_terms-t.ensures (from-terms _ _ _ _)

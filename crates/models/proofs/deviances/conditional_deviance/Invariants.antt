@@ -1,21 +1,15 @@
 -- `models::deviances::conditional_deviance` meets its contract. What the loop carries stands ready for its count, or for
 -- an earlier one. Assumes nothing.
-use mathlib.Core.Path.{◌≡◌, refl, sym, ap, ◌∙◌, fun_ext}
-use mathlib.Core.List.{List}
+use mathlib.Core.Path.{◌≡◌}
 use Prim.Native.Nat.{ℕ, ◌+◌, ◌-◌}
-use native.Mathlib.Omega.{arith}
-use lib.Ieee.{Float, neg, of_bits}
-use Rattle.meaning.proofs.Loops.{Folded, begins, goes_on, ends}
+use lib.Ieee.{Float, neg}
+use Rattle.meaning.proofs.Loops.{Folded}
 use Rattle.routines.specs.Constants.{zero}
 use Rattle.routines.specs.Ops.{of_count}
-use Rattle.models.specs.Deviances.{expected_of, deviance_term, deviance_of}
-use Rattle.models.specs.HeightTerms.{height_terms_of, heights_of, ready_of}
-use Rattle.models.specs.Spectra.{observed_step, over_observed, seen_term}
-use Rattle.models.specs.declared.deviances.Ready.{Ready}
-use Rattle.models.specs.declared.fit.SpectrumFit.{SpectrumFit}
+use Rattle.models.specs.Deviances.{expected_of, deviance_term}
+use Rattle.models.specs.HeightTerms.{heights_of, ready_of}
+use Rattle.models.specs.Spectra.{observed_step}
 use Rattle.models.specs.declared.height_terms.HeightTerms.{HeightTerms}
-use Rattle.models.proofs.HeightTerms.{terms-heights}
-use borrow.Author.Rules.{rules}
 use Rattle.models.proofs.deviances.conditional_deviance.Given as goal
 
 -- a term of the sum, from the terms of the fit

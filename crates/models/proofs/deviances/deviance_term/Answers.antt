@@ -1,7 +1,6 @@
 -- `models::deviances::deviance_term` meets its contract. Assumes nothing.
 use lib.Ieee.{div, round, of_bits}
 use Rattle.models.specs.Deviances.{deviance_term}
-use borrow.Author.Rules.{rules}
 use Rattle.models.proofs.deviances.deviance_term.Goals as goal
 
 pub returns-then-expected : goal.returns-then-expected

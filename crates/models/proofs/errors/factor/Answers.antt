@@ -12,10 +12,8 @@ returns-in_default c = rw c.in_default.is
 
 pub returns-then-value : goal.returns-then-value
 unfolding factor_of
-returns-then-value c = let after-shape = c in rw (after-shape.in-Present.is, c.if-value.true)
+returns-then-value c = rw (c.in-Present.is, c.if-value.true)
 
 pub returns : goal.returns
 unfolding factor_of
-returns c =
-    let after-shape = c in
-    rw (after-shape.in-Present.is, c.if-value.false) (rw c.expm1.ensures)
+returns c = rw (c.in-Present.is, c.if-value.false) (rw c.expm1.ensures)

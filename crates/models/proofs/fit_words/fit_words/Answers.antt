@@ -1,5 +1,4 @@
 -- `models::fit_words::fit_words` meets its contract. Assumes nothing.
-use borrow.Author.Rules.{rules}
 use Rattle.models.proofs.fit_words.fit_words.Goals as goal
 
 pub returns : goal.returns

@@ -1,5 +1,4 @@
 -- `models::fit_words::floats_of` meets its contract. Assumes nothing.
-use borrow.Author.Rules.{rules}
 use Rattle.models.specs.FitWords.{floats_of}
 use Rattle.models.proofs.fit_words.floats_of.Goals as goal
 

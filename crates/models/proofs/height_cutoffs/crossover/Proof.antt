@@ -1,7 +1,7 @@
 -- `models::height_cutoffs::crossover` meets its contract. Assumes nothing.
 use mathlib.Core.Path.{◌≡◌, sym, ap, ◌∙◌}
 use Prim.Native.Nat.{ℕ}
-use borrow.Author.Tests.{lt-ltb, le-ltb, eq-eqb, ne_eqb, not-true, not-false}
+use borrow.Author.Tests.{lt-ltb, le-ltb, eq-eqb, ne_eqb}
 use Rattle.meaning.specs.Reply.{give}
 use Rattle.routines.specs.Ops.{of_count}
 use Rattle.models.specs.HeightTerms.{heights_of}

@@ -4,7 +4,6 @@ use borrow.Author.Tests.{lt-ltb, le-ltb, eq-eqb, ne_eqb}
 use Rattle.meaning.specs.Reply.{give}
 use Rattle.models.specs.HeightCutoffs.{floor_behind_of, error_floor_of}
 use Rattle.models.proofs.HeightCutoffs.{floor-of-terms}
-use borrow.Author.Rules.{rules}
 use Rattle.models.proofs.height_cutoffs.error_floor_cutoff.Goals as goal
 
 pub returns-then-end-gt-MOST : goal.returns-then-end-gt-MOST
@@ -18,13 +17,7 @@ returns-then-end-eq0 c = simp (le-ltb _ _ c.if-end-gt-MOST.false, eq-eqb _ _ c.i
 pub returns : goal.returns
 unfolding error_floor_of
 returns c =
-    let s = c in
-    let reference = c in
-    let place = reference in
-    let mode = place in
-    let terms = mode in
-    let some = terms in
     let last =
-    floor-of-terms s.args.fit _ terms.height_terms-t.ensures _ _ _ _ _ mode.primary_mode.ensures
-    place.from_u64.ensures reference.single_height-reference.ensures c.last_bad.ensures in
-    simp (le-ltb _ _ some.if-end-gt-MOST.false, ne_eqb _ _ some.if-end-eq0.false) (ap give (c.floor_behind.ensures ∙ ap floor_behind_of last))
+    floor-of-terms c.args.fit _ c.height_terms-t.ensures _ _ _ _ _ c.primary_mode.ensures
+    c.from_u64.ensures c.single_height-reference.ensures c.last_bad.ensures in
+    simp (le-ltb _ _ c.if-end-gt-MOST.false, ne_eqb _ _ c.if-end-eq0.false) (ap give (c.floor_behind.ensures ∙ ap floor_behind_of last))

@@ -1,6 +1,5 @@
 -- `models::height_cutoffs::floor_behind` meets its contract. Assumes nothing.
 use native.Mathlib.Omega.{arith}
-use borrow.Author.Rules.{rules}
 use Rattle.models.proofs.height_cutoffs.floor_behind.Goals as goal
 
 pub returns-then-last-eq65535 : goal.returns-then-last-eq65535

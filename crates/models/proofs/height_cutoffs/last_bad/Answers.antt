@@ -1,18 +1,12 @@
 -- `models::height_cutoffs::last_bad` meets its contract. The survival that the loop carries is that of its count.
 -- Assumes nothing.
-use mathlib.Core.Path.{◌≡◌, refl, ap, ◌∙◌}
-use Prim.Native.Nat.{ℕ, ◌+◌, ◌-◌, ◌≤◌}
+use mathlib.Core.Path.{refl, ap, ◌∙◌}
+use Prim.Native.Nat.{◌+◌, ◌≤◌}
 use native.Mathlib.Omega.{arith}
 use lib.Ieee.{Float}
-use Rattle.meaning.proofs.Loops.{Folded, begins, goes_on, ends}
-use Rattle.routines.specs.Ops.{of_count}
-use Rattle.models.specs.Errors.{survival_of}
-use Rattle.models.specs.HeightTerms.{error_height_of}
-use Rattle.models.specs.declared.height_terms.HeightTerms.{HeightTerms}
+use Rattle.meaning.proofs.Loops.{begins, goes_on, ends}
 use Rattle.models.proofs.Survivals.{first-survival, next-survival, error-from-is}
 use Rattle.models.specs.HeightCutoffs.{later_bad, last_bad_of}
-use borrow.Author.Rules.{rules}
-use Rattle.models.proofs.height_cutoffs.last_bad.Invariants.{step}
 use Rattle.models.proofs.height_cutoffs.last_bad.Goals as goal
 
 pub loop-i-init : goal.loop-i-init
@@ -29,19 +23,15 @@ loop-i-smaller c = omega arith
 
 pub loop-i-preserved : goal.loop-i-preserved
 loop-i-preserved c =
-    let error = c in
-    let next = c in
-    let test = c in
-    let turn = test.loop-i in
-    let start = c in
-    let a = start.args in
-    let few : turn.i + 1 ≤ 65535 = omega (arith, test.loop-i-test.true, start.ranges) in
-    let survives = next-survival (turn.i + 1) few _ _ _ next.survival_with-next.ensures next.ln.ensures in (
+    let turn = c.loop-i in
+    let a = c.args in
+    let few : turn.i + 1 ≤ 65535 = omega (arith, c.loop-i-test.true, c.ranges) in
+    let survives = next-survival (turn.i + 1) few _ _ _ c.survival_with-next.ensures c.ln.ensures in (
       survives,
       goes_on _ _ _ _ turn.invariant.1 _ (omega arith)
           (c.later_bad-last.ensures
           ∙ ap (λ (x : Float). later_bad a.reference x (turn.i + 1) turn.last)
-          (error.error_height_from.ensures ∙ error-from-is (turn.i + 1) few _ _ a.t turn.invariant.0 survives)),
+          (c.error_height_from.ensures ∙ error-from-is (turn.i + 1) few _ _ a.t turn.invariant.0 survives)),
     )
 
 pub returns : goal.returns

@@ -1,17 +1,14 @@
 -- `models::height_cutoffs::last_bad` meets its contract. The survival that the loop carries is that of its count.
 -- Assumes nothing.
-use mathlib.Core.Path.{◌≡◌, refl, ap, ◌∙◌}
-use Prim.Native.Nat.{ℕ, ◌+◌, ◌-◌, ◌≤◌}
-use native.Mathlib.Omega.{arith}
+use mathlib.Core.Path.{◌≡◌}
+use Prim.Native.Nat.{ℕ, ◌+◌, ◌-◌}
 use lib.Ieee.{Float}
-use Rattle.meaning.proofs.Loops.{Folded, begins, goes_on, ends}
+use Rattle.meaning.proofs.Loops.{Folded}
 use Rattle.routines.specs.Ops.{of_count}
 use Rattle.models.specs.Errors.{survival_of}
 use Rattle.models.specs.HeightTerms.{error_height_of}
 use Rattle.models.specs.declared.height_terms.HeightTerms.{HeightTerms}
-use Rattle.models.proofs.Survivals.{first-survival, next-survival, error-from-is}
-use Rattle.models.specs.HeightCutoffs.{later_bad, last_bad_of}
-use borrow.Author.Rules.{rules}
+use Rattle.models.specs.HeightCutoffs.{later_bad}
 use Rattle.models.proofs.height_cutoffs.last_bad.Given as goal
 
 abbrev pub step : HeightTerms → Float → ℕ → ℕ → ℕ

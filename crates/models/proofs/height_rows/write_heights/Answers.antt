@@ -1,35 +1,24 @@
 -- `models::height_rows::write_heights` meets its contract. Assumes nothing.
 use mathlib.Core.Path.{◌≡◌, refl, sym, ap, ◌∙◌}
-use mathlib.Core.List.{List}
-use Prim.Native.Nat.{ℕ, ◌+◌, ◌-◌, ◌*◌, ◌≤◌}
+use Prim.Native.Nat.{ℕ, ◌+◌, ◌≤◌}
 use native.Mathlib.Omega.{arith}
-use lib.Ieee.{Float}
-use lib.ListN.{length, length-set}
+use lib.ListN.{length-set}
 use Rattle.meaning.specs.Over.{over}
 use Rattle.meaning.proofs.Overs.{over_none}
-use Rattle.routines.specs.Ln.{ln_of}
-use Rattle.routines.specs.Ops.{of_count}
-use Rattle.models.specs.Errors.{survival_of}
 use Rattle.models.specs.Heights.{height_rows}
-use Rattle.models.specs.HeightTerms.{heights_of}
-use Rattle.models.specs.declared.errors.ErrorParams.{ErrorParams}
-use Rattle.models.specs.declared.height_terms.HeightTerms.{HeightTerms}
-use Rattle.models.specs.declared.height_terms.Heights.{Heights}
 use Rattle.models.proofs.HeightRows.{rows_more}
 use Rattle.models.proofs.Survivals.{first-survival, first-log, with-log, next-survival, heights-from-is}
-use borrow.Author.Rules.{rules}
-use Rattle.models.proofs.height_rows.write_heights.Invariants.{heights-in, Written}
+use Rattle.models.proofs.height_rows.write_heights.Invariants.{heights-in}
 use Rattle.models.proofs.height_rows.write_heights.Goals as goal
 
 pub loop-i-init : goal.loop-i-init
 unfolding height_rows
 loop-i-init c =
-    let start = c in
     record {
       upto = omega arith;
       params = refl;
       lengths = refl;
-      room = start.requires;
+      room = c.requires;
       logged = first-log _ c.ln-log.ensures;
       survives = first-survival _ _ c.log_survival_from_two-here.ensures;
       rows = sym (over_none _);
@@ -79,34 +68,27 @@ loop-i-smaller c = omega arith
 
 pub loop-i-preserved : goal.loop-i-preserved
 loop-i-preserved c =
-    let gamma = c in
-    let next = c in
-    let after = next in
-    let test = c in
-    let turn = test.loop-i in
-    let start = c in
+    let turn = c.loop-i in
     let so = turn.invariant in
-    let few : turn.i + 1 ≤ 65535 = omega (arith, test.loop-i-test.true, start.ranges) in
-    let survival = next-survival (turn.i + 1) few _ _ _ next.survival_with-next.ensures so.logged in
+    let few : turn.i + 1 ≤ 65535 = omega (arith, c.loop-i-test.true, c.ranges) in
+    let survival = next-survival (turn.i + 1) few _ _ _ c.survival_with-next.ensures so.logged in
     record {
       upto = omega arith;
       params = so.params;
       lengths = simp length-set so.lengths;
       room = so.room;
-      logged = after.ln-after.ensures;
+      logged = c.ln-after.ensures;
       survives = survival;
       rows =
           rows_more (heights-in _) turn.i _ _ _ so.rows (omega arith)
           (c.heights_from-h.ensures
           ∙ heights-from-is (turn.i + 1) few _ _ _ so.survives survival _
-          (gamma.lgamma_with-gamma.ensures ∙ with-log _ _ after.ln-after.ensures));
+          (c.lgamma_with-gamma.ensures ∙ with-log _ _ c.ln-after.ensures));
     }
 
 pub returns : goal.returns
 returns c =
-    let s = c in
-    let at = c in
-    let a = s.args in
-    let so = at.loop-i.invariant in
-    let all : at.loop-i.i ≡ a.last = omega arith in
+    let a = c.args in
+    let so = c.loop-i.invariant in
+    let all : c.loop-i.i ≡ a.last = omega arith in
     so.rows ∙ ap (λ (k : ℕ). over (height_rows (heights-in a.t) k) a.out.now) all

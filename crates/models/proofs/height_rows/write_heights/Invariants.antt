@@ -1,12 +1,10 @@
 -- `models::height_rows::write_heights` meets its contract. Assumes nothing.
-use mathlib.Core.Path.{◌≡◌, refl, sym, ap, ◌∙◌}
+use mathlib.Core.Path.{◌≡◌}
 use mathlib.Core.List.{List}
 use Prim.Native.Nat.{ℕ, ◌+◌, ◌-◌, ◌*◌, ◌≤◌}
-use native.Mathlib.Omega.{arith}
 use lib.Ieee.{Float}
-use lib.ListN.{length, length-set}
+use lib.ListN.{length}
 use Rattle.meaning.specs.Over.{over}
-use Rattle.meaning.proofs.Overs.{over_none}
 use Rattle.routines.specs.Ln.{ln_of}
 use Rattle.routines.specs.Ops.{of_count}
 use Rattle.models.specs.Errors.{survival_of}
@@ -15,9 +13,6 @@ use Rattle.models.specs.HeightTerms.{heights_of}
 use Rattle.models.specs.declared.errors.ErrorParams.{ErrorParams}
 use Rattle.models.specs.declared.height_terms.HeightTerms.{HeightTerms}
 use Rattle.models.specs.declared.height_terms.Heights.{Heights}
-use Rattle.models.proofs.HeightRows.{rows_more}
-use Rattle.models.proofs.Survivals.{first-survival, first-log, with-log, next-survival, heights-from-is}
-use borrow.Author.Rules.{rules}
 use Rattle.models.proofs.height_rows.write_heights.Given as goal
 
 -- The first i rows are written, and what the next count needs is at hand.

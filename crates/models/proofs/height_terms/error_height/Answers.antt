@@ -1,11 +1,9 @@
 -- `models::height_terms::error_height` meets its contract. Assumes nothing.
 use Rattle.models.specs.HeightTerms.{error_height_of}
-use borrow.Author.Rules.{rules}
 use Rattle.models.proofs.height_terms.error_height.Goals as goal
 
 pub returns : goal.returns
 unfolding error_height_of
 returns c =
-    let after-log-survival-from-two = c in
     rw c.error_height_from.ensures
-    (rw (c.log_survival_from_two-next.ensures, after-log-survival-from-two.log_survival_from_two-here.ensures))
+    (rw (c.log_survival_from_two-next.ensures, c.log_survival_from_two-here.ensures))

@@ -1,6 +1,5 @@
 -- `models::height_terms::error_height_from` meets its contract. Assumes nothing.
 use Rattle.models.specs.HeightTerms.{error_height_from}
-use borrow.Author.Rules.{rules}
 use Rattle.models.proofs.height_terms.error_height_from.Goals as goal
 
 pub returns : goal.returns

@@ -1,6 +1,5 @@
 -- `models::height_terms::repeat_height` meets its contract. Assumes nothing.
 use Rattle.models.specs.HeightTerms.{repeat_height_of}
-use borrow.Author.Rules.{rules}
 use Rattle.models.proofs.height_terms.repeat_height.Goals as goal
 
 pub returns : goal.returns

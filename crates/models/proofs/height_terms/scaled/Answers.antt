@@ -1,5 +1,4 @@
 -- `models::height_terms::scaled` meets its contract. Assumes nothing.
-use borrow.Author.Rules.{rules}
 use Rattle.models.proofs.height_terms.scaled.Goals as goal
 
 pub returns : goal.returns

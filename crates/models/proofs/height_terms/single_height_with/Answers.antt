@@ -1,6 +1,5 @@
 -- `models::height_terms::single_height_with` meets its contract. Assumes nothing.
 use Rattle.models.specs.HeightTerms.{single_height_with}
-use borrow.Author.Rules.{rules}
 use Rattle.models.proofs.height_terms.single_height_with.Goals as goal
 
 pub returns : goal.returns

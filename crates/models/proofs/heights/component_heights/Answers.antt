@@ -3,7 +3,6 @@ use mathlib.Core.Path.{ap}
 use Rattle.meaning.specs.Reply.{give}
 use borrow.Author.Tests.{lt-ltb, le-ltb}
 use Rattle.models.specs.Heights.{component_heights_of}
-use borrow.Author.Rules.{rules}
 use Rattle.models.proofs.heights.component_heights.Goals as goal
 
 pub returns-then-count-gt-MOST : goal.returns-then-count-gt-MOST
@@ -12,4 +11,4 @@ returns-then-count-gt-MOST c = simp (lt-ltb _ _ c.if-count-gt-MOST.true)
 
 pub returns : goal.returns
 unfolding component_heights_of
-returns c = let else1 = c in simp (le-ltb _ _ else1.if-count-gt-MOST.false) (ap give c.heights_at.ensures)
+returns c = simp (le-ltb _ _ c.if-count-gt-MOST.false) (ap give c.heights_at.ensures)

@@ -15,7 +15,6 @@ use Rattle.models.specs.declared.height_terms.HeightTerms.{HeightTerms}
 use Rattle.models.specs.declared.height_terms.Heights.{Heights}
 use Rattle.models.proofs.HeightRows.{rows-length}
 use Rattle.models.proofs.HeightTerms.{terms-heights}
-use borrow.Author.Rules.{rules}
 use Rattle.models.proofs.heights.component_heights_to.Goals as goal
 
 -- the rows from the terms of a fit are the fit's
@@ -43,11 +42,7 @@ returns-then-out-items c =
 pub returns : goal.returns
 unfolding heights_to_of
 returns c =
-    let else1 = c in
-    let s = c in
-    let write = c in
-    let terms = c in
-    let h = le-ltb _ _ else1.if-last-gt-MOST.false in
-    let k = le-ltb _ _ terms.if-out-items.false in
-    let a = s.args in
-    let same = rows_of a.fit _ terms.height_terms.ensures a.last in record { result_value = simp (h, k) (ap give (sym (rows-length (λ (n : ℕ). heights_at a.fit (of_count n)) a.last))); out_after = simp (h, k) (write.write_heights.ensures ∙ ap (λ (l : List Float). over l a.out.now) same) }
+    let h = le-ltb _ _ c.if-last-gt-MOST.false in
+    let k = le-ltb _ _ c.if-out-items.false in
+    let a = c.args in
+    let same = rows_of a.fit _ c.height_terms.ensures a.last in record { result_value = simp (h, k) (ap give (sym (rows-length (λ (n : ℕ). heights_at a.fit (of_count n)) a.last))); out_after = simp (h, k) (c.write_heights.ensures ∙ ap (λ (l : List Float). over l a.out.now) same) }

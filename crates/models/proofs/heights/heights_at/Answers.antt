@@ -1,7 +1,6 @@
 -- `models::heights::heights_at` meets its contract: the terms of a fit give its heights. Assumes nothing.
 use mathlib.Core.Path.{◌∙◌}
 use Rattle.models.proofs.HeightTerms.{terms-heights}
-use borrow.Author.Rules.{rules}
 use Rattle.models.proofs.heights.heights_at.Goals as goal
 
 pub returns : goal.returns

@@ -7,41 +7,30 @@ use Rattle.routines.specs.Ops.{◌⊕◌, ◌⊗◌, of_count}
 use Rattle.helpers.proofs.Growths.{kept-fewer}
 use Rattle.models.specs.Spectra.{seen_term}
 use Rattle.models.proofs.Points.{step_is, next-stands}
-use borrow.Author.Rules.{rules}
 use Rattle.models.proofs.likelihoods.add_point.Goals as goal
 
 pub returns-then-n-eq0 : goal.returns-then-n-eq0
 unfolding seen_term
-returns-then-n-eq0 c = let s = c in record { total_value = simp (eq-eqb _ _ c.if-n-eq0.true); ahead_value_2 = s.requires.ahead_value }
+returns-then-n-eq0 c = record { total_value = simp (eq-eqb _ _ c.if-n-eq0.true); ahead_value_2 = c.requires.ahead_value }
 
 pub ahead_at-here-requires : goal.ahead_at-here-requires
-ahead_at-here-requires c = let s = c in s.requires.ahead_value
+ahead_at-here-requires c = c.requires.ahead_value
 
 pub ahead_after-next-requires : goal.ahead_after-next-requires
-ahead_after-next-requires c = let s = c in s.requires.i_lt_most
+ahead_after-next-requires c = c.requires.i_lt_most
 
 pub overflow_add-count : goal.overflow_add-count
-overflow_add-count c =
-    let start = c in
-    omega (arith, start.requires.i_lt_most)
+overflow_add-count c = omega (arith, c.requires.i_lt_most)
 
 pub point-term-requires : goal.point-term-requires
-point-term-requires c =
-    let start = c in
-    record { le_count = omega arith; kept = kept-fewer start.requires.kept _ (omega arith) }
+point-term-requires c = record { le_count = omega arith; kept = kept-fewer c.requires.kept _ (omega arith) }
 
 pub returns : goal.returns
 unfolding seen_term
 returns c =
-    let pointed = c in
-    let gamma = pointed in
-    let after = gamma in
-    let at = after in
-    let left = c in
-    let start = c in
-    let a = start.args in
-    let few = start.ranges.i in
-    let here = at.ahead_at-here.ensures in
-    let next = after.ahead_after-next.ensures in
-    let term = pointed.point-term.ensures
-    ∙ step_is a.p a.m a.steady a.ready.now a.table.now a.i _ _ _ (omega (arith, few)) here next gamma.gamma_at-gamma.ensures in record { total_value = simp (ne_eqb _ _ left.if-n-eq0.false) (ap (λ (x : Float). a.reached.total ⊕ of_count a.n ⊗ x) term); ahead_value_2 = next-stands a.p.error_params a.ready.now a.i _ _ here next }
+    let a = c.args in
+    let few = c.ranges.i in
+    let here = c.ahead_at-here.ensures in
+    let next = c.ahead_after-next.ensures in
+    let term = c.point-term.ensures
+    ∙ step_is a.p a.m a.steady a.ready.now a.table.now a.i _ _ _ (omega (arith, few)) here next c.gamma_at-gamma.ensures in record { total_value = simp (ne_eqb _ _ c.if-n-eq0.false) (ap (λ (x : Float). a.reached.total ⊕ of_count a.n ⊗ x) term); ahead_value_2 = next-stands a.p.error_params a.ready.now a.i _ _ here next }

@@ -1,6 +1,5 @@
 -- `models::likelihoods::ahead_after` meets its contract. Assumes nothing.
 use native.Mathlib.Omega.{arith}
-use borrow.Author.Rules.{rules}
 use Rattle.models.proofs.likelihoods.ahead_after.Goals as goal
 
 pub overflow_add-i : goal.overflow_add-i

@@ -1,15 +1,12 @@
 -- `models::likelihoods::likelihood` meets its contract. Assumes nothing.
-use mathlib.Core.Path.{◌≡◌, refl, sym}
-use Prim.Native.Nat.{◌-◌}
+use mathlib.Core.Path.{refl, sym}
 use native.Mathlib.Omega.{arith}
 use lib.Ieee.{neg, of_bits}
-use Rattle.routines.specs.Constants.{zero}
-use Rattle.meaning.proofs.Loops.{Folded, begins, goes_on, ends}
+use Rattle.meaning.proofs.Loops.{begins, goes_on, ends}
 use Rattle.helpers.proofs.Growths.{kept-fewer}
-use Rattle.models.specs.Spectra.{observed_step, over_observed}
-use Rattle.models.specs.Hoists.{ahead_of, point_term_at, likelihood_at}
+use Rattle.models.specs.Spectra.{over_observed}
+use Rattle.models.specs.Hoists.{likelihood_at}
 use Rattle.models.proofs.Points.{standing}
-use borrow.Author.Rules.{rules}
 use Rattle.models.proofs.likelihoods.likelihood.Goals as goal
 
 pub loop-i-init : goal.loop-i-init
@@ -18,9 +15,7 @@ loop-i-init c = (standing _ _ c.ahead_of.ensures, begins _ _ _ _ _ (omega arith)
 
 pub add_point-reached-requires : goal.add_point-reached-requires
 add_point-reached-requires c =
-    let turn = c in
-    let start = c in
-    record { i_lt_most = omega (arith, start.ranges.top); kept = kept-fewer start.requires _ (omega arith); ahead_value = turn.loop-i.invariant.0 }
+    record { i_lt_most = omega (arith, c.ranges.top); kept = kept-fewer c.requires _ (omega arith); ahead_value = c.loop-i.invariant.0 }
 
 pub overflow_add-i : goal.overflow_add-i
 overflow_add-i c = omega arith
@@ -30,8 +25,7 @@ loop-i-smaller c = omega arith
 
 pub loop-i-preserved : goal.loop-i-preserved
 loop-i-preserved c =
-    let l = c in
-    let inv = l.loop-i.invariant in
+    let inv = c.loop-i.invariant in
     let added = c.add_point-reached.ensures in
     (added.ahead_value_2, goes_on _ _ _ _ inv.1 _ (omega arith) (rw (sym c.recovered_at-n.ensures) added.total_value))
 

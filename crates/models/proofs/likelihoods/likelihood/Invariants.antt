@@ -1,15 +1,11 @@
 -- `models::likelihoods::likelihood` meets its contract. Assumes nothing.
-use mathlib.Core.Path.{◌≡◌, refl, sym}
+use mathlib.Core.Path.{◌≡◌}
 use Prim.Native.Nat.{◌-◌}
-use native.Mathlib.Omega.{arith}
-use lib.Ieee.{neg, of_bits}
+use lib.Ieee.{neg}
 use Rattle.routines.specs.Constants.{zero}
-use Rattle.meaning.proofs.Loops.{Folded, begins, goes_on, ends}
-use Rattle.helpers.proofs.Growths.{kept-fewer}
-use Rattle.models.specs.Spectra.{observed_step, over_observed}
-use Rattle.models.specs.Hoists.{ahead_of, point_term_at, likelihood_at}
-use Rattle.models.proofs.Points.{standing}
-use borrow.Author.Rules.{rules}
+use Rattle.meaning.proofs.Loops.{Folded}
+use Rattle.models.specs.Spectra.{observed_step}
+use Rattle.models.specs.Hoists.{ahead_of, point_term_at}
 use Rattle.models.proofs.likelihoods.likelihood.Given as goal
 
 abbrev pub invariant-loop-i : goal.invariant-loop-i

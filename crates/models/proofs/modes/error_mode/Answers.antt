@@ -4,7 +4,6 @@ use borrow.Author.Tests.{lt-ltb, le-ltb, eq-eqb, ne_eqb}
 use Rattle.models.specs.declared.modes.Standing.{Standing}
 use Rattle.meaning.specs.Reply.{give}
 use Rattle.models.specs.Modes.{error_mode_of}
-use borrow.Author.Rules.{rules}
 use Rattle.models.proofs.modes.error_mode.Goals as goal
 
 pub returns-then-top-gt-MOST : goal.returns-then-top-gt-MOST
@@ -18,16 +17,12 @@ returns-then-top-eq0 c = simp (le-ltb _ _ c.if-top-gt-MOST.false, eq-eqb _ _ c.i
 pub returns-then-best : goal.returns-then-best
 unfolding error_mode_of
 returns-then-best c =
-    let best = c in
-    let some = best in
-    let flag = ap (λ (b : Standing). b.nan) best.highest-best.ensures in
-    simp (le-ltb _ _ some.if-top-gt-MOST.false, ne_eqb _ _ some.if-top-eq0.false, sym flag ∙ c.if-best.true)
+    let flag = ap (λ (b : Standing). b.nan) c.highest-best.ensures in
+    simp (le-ltb _ _ c.if-top-gt-MOST.false, ne_eqb _ _ c.if-top-eq0.false, sym flag ∙ c.if-best.true)
 
 pub returns : goal.returns
 unfolding error_mode_of
 returns c =
-    let best = c in
-    let some = best in
-    let flag = ap (λ (b : Standing). b.nan) best.highest-best.ensures in
-    simp (le-ltb _ _ some.if-top-gt-MOST.false, ne_eqb _ _ some.if-top-eq0.false, sym flag ∙ c.if-best.false)
-    (ap (λ (b : Standing). give b.count) best.highest-best.ensures)
+    let flag = ap (λ (b : Standing). b.nan) c.highest-best.ensures in
+    simp (le-ltb _ _ c.if-top-gt-MOST.false, ne_eqb _ _ c.if-top-eq0.false, sym flag ∙ c.if-best.false)
+    (ap (λ (b : Standing). give b.count) c.highest-best.ensures)

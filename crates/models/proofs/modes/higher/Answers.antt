@@ -1,17 +1,12 @@
 -- `models::modes::higher` meets its contract. Assumes nothing.
 use mathlib.Core.Path.{sym, ◌∙◌}
 use Rattle.models.specs.Modes.{higher_with}
-use borrow.Author.Rules.{rules}
 use Rattle.models.proofs.modes.higher.Goals as goal
 
 pub returns-then-later_wins : goal.returns-then-later_wins
 unfolding higher_with
-returns-then-later_wins c =
-    let flag = c in
-    rw (flag.with_nan-nan.ensures, sym c.later_wins.ensures ∙ c.if-later_wins.true)
+returns-then-later_wins c = rw (c.with_nan-nan.ensures, sym c.later_wins.ensures ∙ c.if-later_wins.true)
 
 pub returns : goal.returns
 unfolding higher_with
-returns c =
-    let flag = c in
-    rw (flag.with_nan-nan.ensures, sym c.later_wins.ensures ∙ c.if-later_wins.false)
+returns c = rw (c.with_nan-nan.ensures, sym c.later_wins.ensures ∙ c.if-later_wins.false)

@@ -1,15 +1,11 @@
 -- `models::modes::highest` meets its contract. The survival that the loop carries is that of its count. Assumes nothing.
-use mathlib.Core.Path.{◌≡◌, refl, ap, ◌∙◌}
-use mathlib.Core.Bool.{true, false}
-use Prim.Native.Nat.{◌+◌, ◌-◌, ◌≤◌}
+use mathlib.Core.Path.{refl, ap, ◌∙◌}
+use Prim.Native.Nat.{◌≤◌}
 use native.Mathlib.Omega.{arith}
-use lib.Ieee.{Float, inf, div, neg, of_bits}
-use Rattle.meaning.proofs.Loops.{Folded, begins, goes_on, ends}
-use Rattle.routines.specs.Ops.{of_count}
-use Rattle.models.specs.Errors.{ln_tail_of, survival_of}
-use Rattle.models.specs.Modes.{stands, higher_with, higher_of, highest_of}
+use lib.Ieee.{Float, div, neg, of_bits}
+use Rattle.meaning.proofs.Loops.{begins, goes_on, ends}
+use Rattle.models.specs.Modes.{higher_with, higher_of, highest_of}
 use Rattle.models.proofs.Survivals.{first-survival, next-survival, between_is}
-use borrow.Author.Rules.{rules}
 use Rattle.models.proofs.modes.highest.Goals as goal
 
 pub loop-count-init : goal.loop-count-init
@@ -29,13 +25,10 @@ loop-count-smaller c = omega arith
 pub loop-count-preserved : goal.loop-count-preserved
 unfolding higher_of
 loop-count-preserved c =
-    let l = c in
-    let survival = c in
-    let log = survival in
-    let turn = l.loop-count in
+    let turn = c.loop-count in
     let inv = turn.invariant in
     let few : turn.count ≤ 65535 = omega arith in
-    let next = next-survival turn.count few _ _ _ survival.survival_with-next.ensures log.ln.ensures in (
+    let next = next-survival turn.count few _ _ _ c.survival_with-next.ensures c.ln.ensures in (
       inv.0,
       next,
       goes_on _ _ _ _ inv.2 _ (omega arith)

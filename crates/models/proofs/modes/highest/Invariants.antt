@@ -1,15 +1,12 @@
 -- `models::modes::highest` meets its contract. The survival that the loop carries is that of its count. Assumes nothing.
-use mathlib.Core.Path.{◌≡◌, refl, ap, ◌∙◌}
+use mathlib.Core.Path.{◌≡◌}
 use mathlib.Core.Bool.{true, false}
-use Prim.Native.Nat.{◌+◌, ◌-◌, ◌≤◌}
-use native.Mathlib.Omega.{arith}
-use lib.Ieee.{Float, inf, div, neg, of_bits}
-use Rattle.meaning.proofs.Loops.{Folded, begins, goes_on, ends}
+use Prim.Native.Nat.{◌+◌, ◌-◌}
+use lib.Ieee.{inf}
+use Rattle.meaning.proofs.Loops.{Folded}
 use Rattle.routines.specs.Ops.{of_count}
 use Rattle.models.specs.Errors.{ln_tail_of, survival_of}
-use Rattle.models.specs.Modes.{stands, higher_with, higher_of, highest_of}
-use Rattle.models.proofs.Survivals.{first-survival, next-survival, between_is}
-use borrow.Author.Rules.{rules}
+use Rattle.models.specs.Modes.{stands, higher_of}
 use Rattle.models.proofs.modes.highest.Given as goal
 
 abbrev pub invariant-loop-count : goal.invariant-loop-count

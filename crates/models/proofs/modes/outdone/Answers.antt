@@ -2,7 +2,6 @@
 use mathlib.Core.Path.{◌≡◌}
 use mathlib.Core.Bool.{true, false, false≢true}
 use lib.Ieee.{le}
-use borrow.Author.Tests.{not-false}
 use Rattle.routines.specs.Constants.{zero}
 use Rattle.routines.specs.Ops.{◌⊖◌}
 use Rattle.routines.proofs.Tests.{yes}
@@ -23,13 +22,9 @@ returns-then-survival-next c = λ (e : false ≡ true). absurd (false≢true e)
 
 pub returns : goal.returns
 returns c =
-    let tail = c in
-    let highest = tail in
-    let later = highest in
-    let start = later in
-    let a = start.args in
+    let a = c.args in
     λ (e : le (a.next ⊖ a.survival) zero ≡ true). (
-      later.if-count-le1.false,
-      outdone a.ln_tail a.survival a.next a.best (yes start.well_formed.1.1.1.0.1) (tail.if-not-ln_tail.false)
-          (highest.if-not-survival-best.false) c.if-survival-next.false e,
+      c.if-count-le1.false,
+      outdone a.ln_tail a.survival a.next a.best (yes c.well_formed.1.1.1.0.1) (c.if-not-ln_tail.false)
+          (c.if-not-survival-best.false) c.if-survival-next.false e,
     )

@@ -2,7 +2,6 @@
 use mathlib.Core.Path.{◌≡◌, ap, ◌∙◌}
 use mathlib.Core.Bool.{false}
 use native.Mathlib.Omega.{arith}
-use borrow.Author.Rules.{rules}
 use borrow.Author.Tests.{ne_eqb}
 use lib.Ieee.{Float, eq}
 use Rattle.routines.specs.Constants.{one}
@@ -16,16 +15,13 @@ use Rattle.models.proofs.modes.step.Goals as goal
 pub returns-then-outdone : goal.returns-then-outdone
 unfolding log_probability_between
 returns-then-outdone c =
-    let called = c in
-    let start = called in
-    let a = start.args in
-    let known = called.outdone.ensures c.if-outdone.true in
+    let a = c.args in
+    let known = c.outdone.ensures c.if-outdone.true in
     let later : eq (of_count a.count) one ≡ false =
-    count-equals-one a.count (omega (arith, start.ranges.count)) ∙ ne_eqb a.count 1 (λ (z : a.count ≡ 1). omega (arith, z, known.0)) in
+    count-equals-one a.count (omega (arith, c.ranges.count)) ∙ ne_eqb a.count 1 (λ (z : a.count ≡ 1). omega (arith, z, known.0)) in
     rw later (unmoved a.best a.count _ known.1)
 
 pub returns : goal.returns
 returns c =
-    let start = c in
     c.higher.ensures
-    ∙ ap (λ (x : Float). higher_with x start.args.count start.args.best) c.log_probability_between-here.ensures
+    ∙ ap (λ (x : Float). higher_with x c.args.count c.args.best) c.log_probability_between-here.ensures

@@ -2,7 +2,6 @@
 use mathlib.Core.Path.{sym}
 use lib.ListN.{get_or-eq_default}
 use lib.Ieee.{nan, div, of_bits}
-use borrow.Author.Rules.{rules}
 use Rattle.models.proofs.params.at.Goals as goal
 
 pub returns-else-i-theta : goal.returns-else-i-theta

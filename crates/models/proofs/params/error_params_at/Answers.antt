@@ -1,5 +1,4 @@
 -- `models::params::error_params_at` meets its contract. Assumes nothing.
-use borrow.Author.Rules.{rules}
 use Rattle.models.proofs.params.error_params_at.Goals as goal
 
 pub returns-in-FreeSingletonWeibull : goal.returns-in-FreeSingletonWeibull

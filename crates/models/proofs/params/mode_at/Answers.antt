@@ -1,7 +1,6 @@
 -- `models::params::mode_at` meets its contract. Assumes nothing.
 use lib.Ieee.{round, of_bits}
 use Rattle.models.specs.Params.{mode_of}
-use borrow.Author.Rules.{rules}
 use Rattle.models.proofs.params.mode_at.Goals as goal
 
 pub returns : goal.returns

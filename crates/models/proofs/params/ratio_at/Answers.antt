@@ -1,7 +1,6 @@
 -- `models::params::ratio_at` meets its contract. Assumes nothing.
 use lib.Ieee.{round, of_bits}
 use Rattle.models.specs.Params.{ratio_of}
-use borrow.Author.Rules.{rules}
 use Rattle.models.proofs.params.ratio_at.Goals as goal
 
 pub returns : goal.returns

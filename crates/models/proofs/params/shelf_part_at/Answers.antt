@@ -1,5 +1,4 @@
 -- `models::params::shelf_part_at` meets its contract. Assumes nothing.
-use borrow.Author.Rules.{rules}
 use Rattle.models.proofs.params.shelf_part_at.Goals as goal
 
 pub returns-in-ShelfNegativeBinomial : goal.returns-in-ShelfNegativeBinomial

@@ -2,7 +2,6 @@
 use Prim.Native.Nat.{ℕ, ◌+◌}
 use mathlib.Core.Path.{◌≡◌, sym, ap, ◌∙◌}
 use mathlib.Core.List.{List}
-use borrow.Author.Rules.{rules}
 use lib.ListN.{length}
 use lib.Ieee.{Float}
 use Rattle.meaning.specs.Lent.{counted, laid}
@@ -18,33 +17,22 @@ kept n end held e = record { result_value = ap counted (sym e); out_after = ap (
 
 pub returns-then-window_end-gt-MOST : goal.returns-then-window_end-gt-MOST
 returns-then-window_end-gt-MOST c =
-    let s = c in
-    let a = s.args in
+    let a = c.args in
     kept 2 a.window_end a.out.now (prepare-many a.window_end (length a.out.now) c.if-window_end-gt-MOST.true)
 
 pub returns-then-window_end-eq0 : goal.returns-then-window_end-eq0
 returns-then-window_end-eq0 c =
-    let s = c in
-    let few = c in
-    let a = s.args in
+    let a = c.args in
     kept 5 a.window_end a.out.now
-    (prepare-none a.window_end (length a.out.now) few.if-window_end-gt-MOST.false c.if-window_end-eq0.true)
+    (prepare-none a.window_end (length a.out.now) c.if-window_end-gt-MOST.false c.if-window_end-eq0.true)
 
 pub returns-then-out-rows : goal.returns-then-out-rows
 returns-then-out-rows c =
-    let s = c in
-    let some = c in
-    let few = some in
-    let a = s.args in
+    let a = c.args in
     kept 10 a.window_end a.out.now
-    (prepare-short a.window_end (length a.out.now) few.if-window_end-gt-MOST.false some.if-window_end-eq0.false c.if-out-rows.true)
+    (prepare-short a.window_end (length a.out.now) c.if-window_end-gt-MOST.false c.if-window_end-eq0.false c.if-out-rows.true)
 
 pub returns : goal.returns
 returns c =
-    let s = c in
-    let done = c in
-    let room = c in
-    let some = room in
-    let few = some in
-    let a = s.args in
-    let e = prepare-given a.window_end (length a.out.now) few.if-window_end-gt-MOST.false some.if-window_end-eq0.false room.if-out-rows.false in record { result_value = ap give (sym (rows-length (a.window_end + 2))) ∙ ap counted (sym e); out_after = done.write_rows.ensures ∙ ap (λ (r : Reply (List Float)). laid r a.out.now) (sym e) }
+    let a = c.args in
+    let e = prepare-given a.window_end (length a.out.now) c.if-window_end-gt-MOST.false c.if-window_end-eq0.false c.if-out-rows.false in record { result_value = ap give (sym (rows-length (a.window_end + 2))) ∙ ap counted (sym e); out_after = c.write_rows.ensures ∙ ap (λ (r : Reply (List Float)). laid r a.out.now) (sym e) }

@@ -1,12 +1,11 @@
 -- `models::prepared::write_rows` meets its contract. Assumes nothing.
 use mathlib.Core.Path.{◌≡◌, refl, ap, ◌∙◌}
-use Prim.Native.Nat.{ℕ, ◌-◌, ◌*◌, ◌≤◌, zero-le}
+use Prim.Native.Nat.{ℕ, zero-le}
 use native.Mathlib.Omega.{arith}
-use lib.ListN.{length, length-set}
+use lib.ListN.{length-set}
 use Rattle.meaning.specs.Over.{over}
 use Rattle.models.specs.Prepared.{ready_rows}
 use Rattle.models.proofs.ReadyCost.{rows_none, rows_more}
-use borrow.Author.Rules.{rules}
 use Rattle.models.proofs.prepared.write_rows.Goals as goal
 
 pub loop-n-init : goal.loop-n-init
@@ -29,8 +28,7 @@ loop-n-smaller c = omega arith
 
 pub loop-n-preserved : goal.loop-n-preserved
 loop-n-preserved c =
-    let l = c in
-    let inv = l.loop-n.invariant in (
+    let inv = c.loop-n.invariant in (
       omega arith,
       simp length-set inv.1,
       inv.2,
@@ -39,9 +37,7 @@ loop-n-preserved c =
 
 pub returns : goal.returns
 returns c =
-    let l = c in
-    let s = c in
-    let inv = l.loop-n.invariant in
-    let a = s.args in
-    let done : l.loop-n.n ≡ a.rows = omega arith in
+    let inv = c.loop-n.invariant in
+    let a = c.args in
+    let done : c.loop-n.n ≡ a.rows = omega arith in
     inv.3 ∙ ap (λ (k : ℕ). over (ready_rows k) a.out.now) done

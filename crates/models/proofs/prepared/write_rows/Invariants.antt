@@ -1,12 +1,9 @@
 -- `models::prepared::write_rows` meets its contract. Assumes nothing.
-use mathlib.Core.Path.{◌≡◌, refl, ap, ◌∙◌}
-use Prim.Native.Nat.{ℕ, ◌-◌, ◌*◌, ◌≤◌, zero-le}
-use native.Mathlib.Omega.{arith}
-use lib.ListN.{length, length-set}
+use mathlib.Core.Path.{◌≡◌}
+use Prim.Native.Nat.{◌-◌, ◌*◌, ◌≤◌}
+use lib.ListN.{length}
 use Rattle.meaning.specs.Over.{over}
 use Rattle.models.specs.Prepared.{ready_rows}
-use Rattle.models.proofs.ReadyCost.{rows_none, rows_more}
-use borrow.Author.Rules.{rules}
 use Rattle.models.proofs.prepared.write_rows.Given as goal
 
 abbrev pub invariant-loop-n : goal.invariant-loop-n

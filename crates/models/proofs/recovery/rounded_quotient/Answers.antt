@@ -4,15 +4,13 @@ use native.Mathlib.Omega.{arith}
 use lib.Ieee.{to_unsigned}
 use Rattle.routines.proofs.Counts.{count-over-one, count-back}
 use Rattle.models.specs.Recovery.{rounded_quotient_of}
-use borrow.Author.Rules.{rules}
 use Rattle.models.proofs.recovery.rounded_quotient.Goals as goal
 
 pub returns-then-divisor : goal.returns-then-divisor
 unfolding rounded_quotient_of
 returns-then-divisor c =
-    let s = c in
-    let a = s.args in
-    let few = s.ranges.n in
+    let a = c.args in
+    let few = c.ranges.n in
     let whole = count-over-one a.divisor a.n c.if-divisor.true (omega (arith, few)) in
     sym (ap (to_unsigned 32) whole ∙ count-back 32 a.n (omega (arith, few)) (omega (arith, few)))
 

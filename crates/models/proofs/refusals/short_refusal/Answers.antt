@@ -18,7 +18,7 @@ pub enum_told-1 : goal.enum_told-1
 enum_told-1 c = search rules
 
 pub returns-in-NegativeBinomial : goal.returns-in-NegativeBinomial
-returns-in-NegativeBinomial c = let s = c in rw c.in-NegativeBinomial.is (rw (le-ltb s.args.room 0 (omega arith)))
+returns-in-NegativeBinomial c = rw c.in-NegativeBinomial.is (rw (le-ltb c.args.room 0 (omega arith)))
 
 pub returns-then-room-window_end : goal.returns-then-room-window_end
 returns-then-room-window_end c = rw c.in-ShelfNegativeBinomial.is (rw (full _ _ c.if-room-window_end.true))

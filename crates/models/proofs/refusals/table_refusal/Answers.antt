@@ -1,5 +1,4 @@
 -- `models::refusals::table_refusal` meets its contract. Assumes nothing.
-use borrow.Author.Rules.{rules}
 use borrow.Author.Tests.{lt-ltb, le-ltb, eq-eqb, ne_eqb}
 use Rattle.models.proofs.refusals.table_refusal.Goals as goal
 
@@ -11,5 +10,4 @@ returns-then-window_end-eq0 c = simp (le-ltb _ _ c.if-window_end-gt-MOST.false, 
 
 pub returns : goal.returns
 returns c =
-    let else1 = c in
-    simp (le-ltb _ _ else1.if-window_end-gt-MOST.false, ne_eqb _ _ c.if-window_end-eq0.false) c.short_refusal.ensures
+    simp (le-ltb _ _ c.if-window_end-gt-MOST.false, ne_eqb _ _ c.if-window_end-eq0.false) c.short_refusal.ensures

@@ -1,7 +1,6 @@
 -- `models::spectra::add_seen` meets its contract. Assumes nothing.
 use borrow.Author.Tests.{eq-eqb, ne_eqb}
 use Rattle.models.specs.Spectra.{seen_term}
-use borrow.Author.Rules.{rules}
 use Rattle.models.proofs.spectra.add_seen.Goals as goal
 
 pub returns-then-n-eq0 : goal.returns-then-n-eq0

@@ -1,15 +1,9 @@
 -- `models::spectra::all_zero` meets its contract. Assumes nothing.
-use borrow.Author.Rules.{rules}
 use mathlib.Core.Path.{refl}
-use mathlib.Core.Bool.{true}
-use Prim.Native.Nat.{ℕ, ◌-◌}
 use native.Mathlib.Omega.{arith}
 use borrow.Author.Tests.{eq-eqb, ne_eqb}
-use lib.Dec.{eqb}
-use lib.ListN.{length, get_or}
-use Rattle.meaning.proofs.Loops.{Folded, begins}
+use Rattle.meaning.proofs.Loops.{begins}
 use Rattle.models.proofs.Loops.{all-holds, all_more, all-fails}
-use Rattle.models.specs.Spectra.{all_step}
 use Rattle.models.proofs.spectra.all_zero.Goals as goal
 
 pub loop-i-init : goal.loop-i-init
@@ -28,9 +22,7 @@ pub loop-i-smaller : goal.loop-i-smaller
 loop-i-smaller c = omega arith
 
 pub loop-i-preserved : goal.loop-i-preserved
-loop-i-preserved c =
-    let l = c in
-    all_more _ _ l.loop-i.invariant (omega arith) (eq-eqb _ _ c.if-bins-i-ne0.false)
+loop-i-preserved c = all_more _ _ c.loop-i.invariant (omega arith) (eq-eqb _ _ c.if-bins-i-ne0.false)
 
 pub returns : goal.returns
 returns c = all-holds _ _ c.loop-i.invariant (omega arith)

@@ -1,14 +1,9 @@
 -- `models::spectra::all_zero` meets its contract. Assumes nothing.
-use borrow.Author.Rules.{rules}
-use mathlib.Core.Path.{refl}
 use mathlib.Core.Bool.{true}
 use Prim.Native.Nat.{ℕ, ◌-◌}
-use native.Mathlib.Omega.{arith}
-use borrow.Author.Tests.{eq-eqb, ne_eqb}
 use lib.Dec.{eqb}
 use lib.ListN.{length, get_or}
-use Rattle.meaning.proofs.Loops.{Folded, begins}
-use Rattle.models.proofs.Loops.{all-holds, all_more, all-fails}
+use Rattle.meaning.proofs.Loops.{Folded}
 use Rattle.models.specs.Spectra.{all_step}
 use Rattle.models.proofs.spectra.all_zero.Given as goal
 

@@ -1,7 +1,6 @@
 -- `models::spectra::bin_at` meets its contract. Assumes nothing.
 use mathlib.Core.Path.{sym}
 use lib.ListN.{get_or-eq_default}
-use borrow.Author.Rules.{rules}
 use Rattle.models.proofs.spectra.bin_at.Goals as goal
 
 pub returns-else-i-bins : goal.returns-else-i-bins

@@ -1,13 +1,9 @@
 -- `models::spectra::full_total` meets its contract. Assumes nothing.
-use borrow.Author.Rules.{rules}
 use mathlib.Core.Path.{refl}
-use Prim.Native.Nat.{◌-◌}
 use native.Mathlib.Omega.{arith}
-use lib.ListN.{length}
 use lib.Ieee.{neg, of_bits}
-use Rattle.routines.specs.Constants.{zero}
-use Rattle.meaning.proofs.Loops.{Folded, begins, goes_on, ends}
-use Rattle.models.specs.Spectra.{full_step, full_total_of}
+use Rattle.meaning.proofs.Loops.{begins, goes_on, ends}
+use Rattle.models.specs.Spectra.{full_total_of}
 use Rattle.models.proofs.spectra.full_total.Goals as goal
 
 pub loop-i-init : goal.loop-i-init
@@ -24,7 +20,7 @@ pub loop-i-smaller : goal.loop-i-smaller
 loop-i-smaller c = omega arith
 
 pub loop-i-preserved : goal.loop-i-preserved
-loop-i-preserved c = let l = c in goes_on _ _ _ _ l.loop-i.invariant _ (omega arith) refl
+loop-i-preserved c = goes_on _ _ _ _ c.loop-i.invariant _ (omega arith) refl
 
 pub returns : goal.returns
 unfolding full_total_of

@@ -1,13 +1,10 @@
 -- `models::spectra::full_total` meets its contract. Assumes nothing.
-use borrow.Author.Rules.{rules}
-use mathlib.Core.Path.{refl}
 use Prim.Native.Nat.{◌-◌}
-use native.Mathlib.Omega.{arith}
 use lib.ListN.{length}
-use lib.Ieee.{neg, of_bits}
+use lib.Ieee.{neg}
 use Rattle.routines.specs.Constants.{zero}
-use Rattle.meaning.proofs.Loops.{Folded, begins, goes_on, ends}
-use Rattle.models.specs.Spectra.{full_step, full_total_of}
+use Rattle.meaning.proofs.Loops.{Folded}
+use Rattle.models.specs.Spectra.{full_step}
 use Rattle.models.proofs.spectra.full_total.Given as goal
 
 abbrev pub invariant-loop-i : goal.invariant-loop-i

@@ -1,14 +1,11 @@
 -- `models::spectra::none_recovered` meets its contract. Assumes nothing.
-use borrow.Author.Rules.{rules}
 use mathlib.Core.Path.{refl, sym, ap, ◌∙◌}
-use mathlib.Core.Bool.{true}
-use Prim.Native.Nat.{ℕ, ◌-◌}
+use Prim.Native.Nat.{ℕ}
 use native.Mathlib.Omega.{arith}
 use borrow.Author.Tests.{eq-eqb, ne_eqb}
 use lib.Dec.{eqb}
-use Rattle.meaning.proofs.Loops.{Folded, begins}
+use Rattle.meaning.proofs.Loops.{begins}
 use Rattle.models.proofs.Loops.{all-holds, all_more, all-fails}
-use Rattle.models.specs.Spectra.{all_step, recovered_at}
 use Rattle.models.proofs.spectra.none_recovered.Goals as goal
 
 pub loop-i-init : goal.loop-i-init
@@ -25,8 +22,7 @@ loop-i-smaller c = omega arith
 
 pub loop-i-preserved : goal.loop-i-preserved
 loop-i-preserved c =
-    let l = c in
-    all_more _ _ l.loop-i.invariant (omega arith) (ap (λ (n : ℕ). eqb n 0) (sym c.recovered_at.ensures)
+    all_more _ _ c.loop-i.invariant (omega arith) (ap (λ (n : ℕ). eqb n 0) (sym c.recovered_at.ensures)
     ∙ eq-eqb _ _ c.if-recovered_at-ne0.false)
 
 pub returns : goal.returns

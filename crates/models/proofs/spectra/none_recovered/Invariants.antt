@@ -1,13 +1,8 @@
 -- `models::spectra::none_recovered` meets its contract. Assumes nothing.
-use borrow.Author.Rules.{rules}
-use mathlib.Core.Path.{refl, sym, ap, ◌∙◌}
 use mathlib.Core.Bool.{true}
 use Prim.Native.Nat.{ℕ, ◌-◌}
-use native.Mathlib.Omega.{arith}
-use borrow.Author.Tests.{eq-eqb, ne_eqb}
 use lib.Dec.{eqb}
-use Rattle.meaning.proofs.Loops.{Folded, begins}
-use Rattle.models.proofs.Loops.{all-holds, all_more, all-fails}
+use Rattle.meaning.proofs.Loops.{Folded}
 use Rattle.models.specs.Spectra.{all_step, recovered_at}
 use Rattle.models.proofs.spectra.none_recovered.Given as goal
 

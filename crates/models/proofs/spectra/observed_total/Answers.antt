@@ -1,13 +1,11 @@
 -- `models::spectra::observed_total` meets its contract. Assumes nothing.
-use borrow.Author.Rules.{rules}
 use mathlib.Core.Path.{refl, ap, ◌∙◌}
-use Prim.Native.Nat.{ℕ, ◌-◌}
+use Prim.Native.Nat.{ℕ}
 use native.Mathlib.Omega.{arith}
 use lib.Ieee.{neg, of_bits}
-use Rattle.routines.specs.Constants.{zero}
 use Rattle.routines.specs.Ops.{of_count}
-use Rattle.meaning.proofs.Loops.{Folded, begins, goes_on, ends}
-use Rattle.models.specs.Spectra.{observed_step, over_observed, seen_term}
+use Rattle.meaning.proofs.Loops.{begins, goes_on, ends}
+use Rattle.models.specs.Spectra.{over_observed, seen_term}
 use Rattle.models.proofs.spectra.observed_total.Goals as goal
 
 pub loop-i-init : goal.loop-i-init
@@ -22,9 +20,8 @@ loop-i-smaller c = omega arith
 
 pub loop-i-preserved : goal.loop-i-preserved
 loop-i-preserved c =
-    let l = c in
-    goes_on _ _ _ _ l.loop-i.invariant _ (omega arith) (c.add_seen-total.ensures
-    ∙ ap (λ (n : ℕ). seen_term n l.loop-i.total (of_count n)) c.recovered_at.ensures)
+    goes_on _ _ _ _ c.loop-i.invariant _ (omega arith) (c.add_seen-total.ensures
+    ∙ ap (λ (n : ℕ). seen_term n c.loop-i.total (of_count n)) c.recovered_at.ensures)
 
 pub returns : goal.returns
 unfolding over_observed

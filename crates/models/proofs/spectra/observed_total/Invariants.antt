@@ -1,13 +1,10 @@
 -- `models::spectra::observed_total` meets its contract. Assumes nothing.
-use borrow.Author.Rules.{rules}
-use mathlib.Core.Path.{refl, ap, ◌∙◌}
 use Prim.Native.Nat.{ℕ, ◌-◌}
-use native.Mathlib.Omega.{arith}
-use lib.Ieee.{neg, of_bits}
+use lib.Ieee.{neg}
 use Rattle.routines.specs.Constants.{zero}
 use Rattle.routines.specs.Ops.{of_count}
-use Rattle.meaning.proofs.Loops.{Folded, begins, goes_on, ends}
-use Rattle.models.specs.Spectra.{observed_step, over_observed, seen_term}
+use Rattle.meaning.proofs.Loops.{Folded}
+use Rattle.models.specs.Spectra.{observed_step}
 use Rattle.models.proofs.spectra.observed_total.Given as goal
 
 abbrev pub invariant-loop-i : goal.invariant-loop-i

@@ -1,6 +1,5 @@
 -- `models::spectra::recovered_at` meets its contract. Assumes nothing.
 use Rattle.models.specs.Spectra.{recovered_at}
-use borrow.Author.Rules.{rules}
 use Rattle.models.proofs.spectra.recovered_at.Goals as goal
 
 pub returns : goal.returns

@@ -1,5 +1,4 @@
 -- `models::usable::shelf_usable` meets its contract. Assumes nothing.
-use borrow.Author.Rules.{rules}
 use Rattle.models.proofs.usable.shelf_usable.Goals as goal
 
 pub returns-in-Present : goal.returns-in-Present

@@ -1,10 +1,8 @@
 -- `models::walk::all_probable` meets its contract. Assumes nothing.
 use mathlib.Core.Path.{◌≡◌, sym, ap, ◌∙◌, subst}
 use mathlib.Core.Bool.{true}
-use Prim.Native.Nat.{ℕ, suc, ◌-◌, ◌≤◌}
+use Prim.Native.Nat.{ℕ, suc}
 use native.Mathlib.Omega.{arith}
-use borrow.Author.Rules.{rules}
-use borrow.Author.Tests.{not-true, not-false}
 use lib.Ieee.{Float, le}
 use Rattle.routines.specs.Constants.{two}
 use Rattle.helpers.specs.declared.single_copies.SingleCopy.{SingleCopy}
@@ -22,10 +20,9 @@ loop-count-init c = (omega arith, all-begins (probability_of c.args.single))
 
 pub returns-then-not-p : goal.returns-then-not-p
 returns-then-not-p c =
-    let l = c in
-    let a = l.args in
-    sym (all-stops (probability_of a.single) l.loop-count.count (suc a.ceiling) (omega arith)
-    (one_side a.single l.loop-count.count _ c.probability-p.ensures ∙ c.if-not-p.true))
+    let a = c.args in
+    sym (all-stops (probability_of a.single) c.loop-count.count (suc a.ceiling) (omega arith)
+    (one_side a.single c.loop-count.count _ c.probability-p.ensures ∙ c.if-not-p.true))
 
 pub overflow_add-count : goal.overflow_add-count
 overflow_add-count c = omega arith
@@ -35,18 +32,16 @@ loop-count-smaller c = omega arith
 
 pub loop-count-preserved : goal.loop-count-preserved
 loop-count-preserved c =
-    let l = c in
-    let a = l.args in (
+    let a = c.args in (
       omega arith,
-      all-goes (probability_of a.single) l.loop-count.count l.loop-count.invariant.1
-          (one_side a.single l.loop-count.count _ c.probability-p.ensures ∙ c.if-not-p.false),
+      all-goes (probability_of a.single) c.loop-count.count c.loop-count.invariant.1
+          (one_side a.single c.loop-count.count _ c.probability-p.ensures ∙ c.if-not-p.false),
     )
 
 pub returns : goal.returns
 returns c =
-    let l = c in
-    let a = l.args in
+    let a = c.args in
     let p = probability_of a.single in
-    let reached : l.loop-count.count ≡ a.ceiling = omega arith in
-    sym (all-last p a.ceiling (subst (λ (k : ℕ). all_probable p k ≡ true) reached l.loop-count.invariant.1)
+    let reached : c.loop-count.count ≡ a.ceiling = omega arith in
+    sym (all-last p a.ceiling (subst (λ (k : ℕ). all_probable p k ≡ true) reached c.loop-count.invariant.1)
     ∙ one_side a.single a.ceiling _ c.probability.ensures)

@@ -1,6 +1,5 @@
 -- `models::walk::probability` meets its contract. Assumes nothing.
 use mathlib.Core.Path.{ap, ◌∙◌}
-use borrow.Author.Rules.{rules}
 use Rattle.routines.specs.Exp.{exp_of}
 use Rattle.models.proofs.walk.probability.Goals as goal
 

@@ -1,7 +1,6 @@
 -- `models::window_masses::mass_usable` meets its contract. Assumes nothing.
 use lib.Ieee.{round, of_bits}
 use Rattle.models.specs.Masses.{mass_usable}
-use borrow.Author.Rules.{rules}
 use Rattle.models.proofs.window_masses.mass_usable.Goals as goal
 
 pub returns-then-is_finite : goal.returns-then-is_finite

@@ -1,5 +1,4 @@
 -- `probe::errors::fog_log_probability` meets its contract. Assumes nothing.
-use borrow.Author.Rules.{rules}
 use Rattle.probe.proofs.errors.fog_log_probability.Goals as goal
 
 pub returns : goal.returns

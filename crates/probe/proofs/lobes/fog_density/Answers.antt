@@ -1,5 +1,4 @@
 -- `probe::lobes::fog_density` meets its contract. Assumes nothing.
-use borrow.Author.Rules.{rules}
 use Rattle.probe.proofs.lobes.fog_density.Goals as goal
 
 pub returns : goal.returns

@@ -1,5 +1,4 @@
 -- `probe::lobes::to_lobe` meets its contract. Assumes nothing.
-use borrow.Author.Rules.{rules}
 use Rattle.probe.proofs.lobes.to_lobe.Goals as goal
 
 pub returns : goal.returns

@@ -1,5 +1,4 @@
 -- `probe::log_sums::fog_ln_softmax3` meets its contract. Assumes nothing.
-use borrow.Author.Rules.{rules}
 use Rattle.probe.proofs.log_sums.fog_ln_softmax3.Goals as goal
 
 pub returns : goal.returns

@@ -1,5 +1,4 @@
 -- `probe::masses::fog_mix_shelf` meets its contract. Assumes nothing.
-use borrow.Author.Rules.{rules}
 use Rattle.probe.proofs.masses.fog_mix_shelf.Goals as goal
 
 pub returns : goal.returns

@@ -1,5 +1,4 @@
 -- `probe::shelf_rules::fog_retained` meets its contract. Assumes nothing.
-use borrow.Author.Rules.{rules}
 use Rattle.probe.proofs.shelf_rules.fog_retained.Goals as goal
 
 pub returns : goal.returns

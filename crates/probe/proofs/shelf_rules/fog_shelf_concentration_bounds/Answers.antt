@@ -1,5 +1,4 @@
 -- `probe::shelf_rules::fog_shelf_concentration_bounds` meets its contract. Assumes nothing.
-use borrow.Author.Rules.{rules}
 use Rattle.probe.proofs.shelf_rules.fog_shelf_concentration_bounds.Goals as goal
 
 pub returns : goal.returns

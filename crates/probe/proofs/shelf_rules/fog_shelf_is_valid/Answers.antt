@@ -1,5 +1,4 @@
 -- `probe::shelf_rules::fog_shelf_is_valid` meets its contract. Assumes nothing.
-use borrow.Author.Rules.{rules}
 use Rattle.probe.proofs.shelf_rules.fog_shelf_is_valid.Goals as goal
 
 pub returns : goal.returns

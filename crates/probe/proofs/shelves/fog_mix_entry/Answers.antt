@@ -1,5 +1,4 @@
 -- `probe::shelves::fog_mix_entry` meets its contract. Assumes nothing.
-use borrow.Author.Rules.{rules}
 use Rattle.probe.proofs.shelves.fog_mix_entry.Goals as goal
 
 pub returns : goal.returns

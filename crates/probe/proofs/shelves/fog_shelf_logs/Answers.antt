@@ -1,5 +1,4 @@
 -- `probe::shelves::fog_shelf_logs` meets its contract. Assumes nothing.
-use borrow.Author.Rules.{rules}
 use Rattle.probe.proofs.shelves.fog_shelf_logs.Goals as goal
 
 pub returns : goal.returns

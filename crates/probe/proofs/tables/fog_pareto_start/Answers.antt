@@ -1,7 +1,6 @@
 -- `probe::tables::fog_pareto_start` meets its contract. Assumes nothing.
 use Rattle.routines.specs.Starts.{pareto_starts}
 use Rattle.probe.proofs.Entries.{entry-within, entry-behind}
-use borrow.Author.Rules.{rules}
 use Rattle.probe.proofs.tables.fog_pareto_start.Goals as goal
 
 pub returns-then-i-lt6 : goal.returns-then-i-lt6

@@ -1,7 +1,6 @@
 -- `probe::tables::fog_piece_at` meets its contract. Assumes nothing.
 use mathlib.Core.Path.{ap}
 use Rattle.probe.specs.Flat.{pair_of}
-use borrow.Author.Rules.{rules}
 use Rattle.probe.proofs.tables.fog_piece_at.Goals as goal
 
 pub returns : goal.returns

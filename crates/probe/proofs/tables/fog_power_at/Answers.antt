@@ -1,7 +1,6 @@
 -- `probe::tables::fog_power_at` meets its contract. Assumes nothing.
 use mathlib.Core.Path.{ap}
 use Rattle.probe.specs.Flat.{of_power}
-use borrow.Author.Rules.{rules}
 use Rattle.probe.proofs.tables.fog_power_at.Goals as goal
 
 pub returns : goal.returns

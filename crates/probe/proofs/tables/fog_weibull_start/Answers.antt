@@ -1,7 +1,6 @@
 -- `probe::tables::fog_weibull_start` meets its contract. Assumes nothing.
 use Rattle.routines.specs.Starts.{weibull_starts}
 use Rattle.probe.proofs.Entries.{entry-within, entry-behind}
-use borrow.Author.Rules.{rules}
 use Rattle.probe.proofs.tables.fog_weibull_start.Goals as goal
 
 pub returns-then-i-lt9 : goal.returns-then-i-lt9

@@ -1,6 +1,5 @@
 -- `record::answers::answer_of` meets its contract. Assumes nothing.
 use Rattle.record.specs.Answers.{answer_of}
-use borrow.Author.Rules.{rules}
 use Rattle.record.proofs.answers.answer_of.Goals as goal
 
 pub returns : goal.returns

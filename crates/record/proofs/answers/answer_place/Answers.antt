@@ -1,5 +1,4 @@
 -- `record::answers::answer_place` meets its contract. Assumes nothing.
-use borrow.Author.Rules.{rules}
 use Rattle.record.proofs.answers.answer_place.Goals as goal
 
 pub returns-in-At : goal.returns-in-At

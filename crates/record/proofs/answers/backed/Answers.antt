@@ -1,7 +1,6 @@
 -- `record::answers::backed` meets its contract. Assumes nothing.
 use mathlib.Core.Path.{sym, ◌∙◌}
 use Rattle.record.specs.Answers.{backed_by}
-use borrow.Author.Rules.{rules}
 use Rattle.record.proofs.answers.backed.Goals as goal
 
 pub returns-then-is_low : goal.returns-then-is_low

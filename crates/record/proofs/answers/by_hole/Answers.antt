@@ -1,5 +1,4 @@
 -- `record::answers::by_hole` meets its contract. Assumes nothing.
-use borrow.Author.Rules.{rules}
 use Rattle.record.proofs.answers.by_hole.Goals as goal
 
 pub returns-in-At : goal.returns-in-At

@@ -1,5 +1,4 @@
 -- `record::answers::from_three` meets its contract. Assumes nothing.
-use borrow.Author.Rules.{rules}
 use Rattle.record.proofs.answers.from_three.Goals as goal
 
 pub returns-in-At : goal.returns-in-At

@@ -1,5 +1,4 @@
 -- `record::answers::is_below` meets its contract. Assumes nothing.
-use borrow.Author.Rules.{rules}
 use Rattle.record.proofs.answers.is_below.Goals as goal
 
 pub returns-in-At : goal.returns-in-At

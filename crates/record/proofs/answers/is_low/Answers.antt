@@ -1,5 +1,4 @@
 -- `record::answers::is_low` meets its contract. Assumes nothing.
-use borrow.Author.Rules.{rules}
 use Rattle.record.proofs.answers.is_low.Goals as goal
 
 pub returns-then-a : goal.returns-then-a

@@ -1,5 +1,4 @@
 -- `record::answers::last_in` meets its contract. Assumes nothing.
-use borrow.Author.Rules.{rules}
 use Rattle.record.proofs.answers.last_in.Goals as goal
 
 pub returns-in-Sure : goal.returns-in-Sure

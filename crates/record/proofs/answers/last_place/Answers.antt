@@ -1,5 +1,4 @@
 -- `record::answers::last_place` meets its contract. Assumes nothing.
-use borrow.Author.Rules.{rules}
 use Rattle.record.proofs.answers.last_place.Goals as goal
 
 pub returns-in-Refused : goal.returns-in-Refused

@@ -1,7 +1,6 @@
 -- `record::answers::least_at` meets its contract. Assumes nothing.
 use borrow.Author.Tests.{eq-eqb, ne_eqb}
 use Rattle.record.specs.Answers.{least_at}
-use borrow.Author.Rules.{rules}
 use Rattle.record.proofs.answers.least_at.Goals as goal
 
 pub returns-then-count-ne2 : goal.returns-then-count-ne2

@@ -1,5 +1,4 @@
 -- `record::answers::least_kind` meets its contract. Assumes nothing.
-use borrow.Author.Rules.{rules}
 use Rattle.record.proofs.answers.least_kind.Goals as goal
 
 pub returns-in-At : goal.returns-in-At

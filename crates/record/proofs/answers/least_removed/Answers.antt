@@ -7,15 +7,13 @@ use Rattle.models.specs.ClaimsCutoff.{running}
 use Rattle.models.specs.Cutoffs.{probability_in}
 use Rattle.models.specs.WalkHoists.{probability_of}
 use Rattle.models.proofs.Walks.{probability-is}
-use borrow.Author.Rules.{rules}
 use Rattle.record.proofs.answers.least_removed.Goals as goal
 
 pub returns : goal.returns
 unfolding running
 returns c =
-    let single = c in
-    let fit = single.args.fit in
-    let same : probability_of single.single_copy_of-single.result ≡ probability_in fit = ap probability_of single.single_copy_of-single.ensures
+    let fit = c.args.fit in
+    let same : probability_of c.single_copy_of-single.result ≡ probability_in fit = ap probability_of c.single_copy_of-single.ensures
     ∙ probability-is fit in
     ap (λ (x : Float). x ⊕ c.probability.result)
     (c.probability-none.ensures ∙ ap (λ (p : ℕ → Float). p 0) same)

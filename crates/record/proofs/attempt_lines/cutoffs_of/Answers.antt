@@ -1,5 +1,4 @@
 -- `record::attempt_lines::cutoffs_of` meets its contract. Assumes nothing.
-use borrow.Author.Rules.{rules}
 use Rattle.record.proofs.attempt_lines.cutoffs_of.Goals as goal
 
 pub returns : goal.returns

@@ -1,6 +1,5 @@
 -- `record::attempt_lines::own_cutoffs` meets its contract. Assumes nothing.
 use Rattle.record.specs.Attempts.{own_cutoffs}
-use borrow.Author.Rules.{rules}
 use Rattle.record.proofs.attempt_lines.own_cutoffs.Goals as goal
 
 pub returns-then-attempt : goal.returns-then-attempt

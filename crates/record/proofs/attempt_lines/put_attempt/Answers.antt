@@ -1,7 +1,6 @@
 -- `record::attempt_lines::put_attempt` meets its contract. Assumes nothing.
 use Rattle.templates.proofs.Cuts.{end-join, put-join}
 use Rattle.record.specs.Attempts.{attempt_text}
-use borrow.Author.Rules.{rules}
 use Rattle.record.proofs.attempt_lines.put_attempt.Goals as goal
 
 pub returns : goal.returns

@@ -1,5 +1,4 @@
 -- `record::attempt_lines::put_families` meets its contract. Assumes nothing.
-use borrow.Author.Rules.{rules}
 use Rattle.record.proofs.attempt_lines.put_families.Goals as goal
 
 pub returns : goal.returns

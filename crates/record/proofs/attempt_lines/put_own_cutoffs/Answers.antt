@@ -1,6 +1,5 @@
 -- `record::attempt_lines::put_own_cutoffs` meets its contract. Assumes nothing.
 use Rattle.record.specs.Attempts.{own_cutoffs_text}
-use borrow.Author.Rules.{rules}
 use Rattle.record.proofs.attempt_lines.put_own_cutoffs.Goals as goal
 
 pub returns : goal.returns

@@ -1,7 +1,6 @@
 -- `record::fit_lines::put_fit` meets its contract. Assumes nothing.
 use Rattle.templates.proofs.Cuts.{end-join, put-join}
 use Rattle.record.specs.Fits.{fit_text}
-use borrow.Author.Rules.{rules}
 use Rattle.record.proofs.fit_lines.put_fit.Goals as goal
 
 pub returns : goal.returns

@@ -1,6 +1,5 @@
 -- `record::fit_lines::put_kmers` meets its contract. Assumes nothing.
 use Rattle.record.specs.Fits.{kmers_text}
-use borrow.Author.Rules.{rules}
 use Rattle.record.proofs.fit_lines.put_kmers.Goals as goal
 
 pub returns : goal.returns

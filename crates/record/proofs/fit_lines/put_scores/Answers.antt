@@ -1,6 +1,5 @@
 -- `record::fit_lines::put_scores` meets its contract. Assumes nothing.
 use Rattle.record.specs.Fits.{scores_text}
-use borrow.Author.Rules.{rules}
 use Rattle.record.proofs.fit_lines.put_scores.Goals as goal
 
 pub returns : goal.returns

@@ -1,6 +1,5 @@
 -- `record::fit_lines::put_shelf` meets its contract. Assumes nothing.
 use Rattle.record.specs.Fits.{shelf_text}
-use borrow.Author.Rules.{rules}
 use Rattle.record.proofs.fit_lines.put_shelf.Goals as goal
 
 pub returns : goal.returns

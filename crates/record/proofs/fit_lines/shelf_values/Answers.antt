@@ -10,6 +10,4 @@ returns-in-Absent c = rw c.in-Absent.is
 
 pub returns-in-Present : goal.returns-in-Present
 returns-in-Present c =
-    let alpha = c in
-    let share = alpha in
-    rw (share.in-Present.is, c.pattern-in-Present-2.ensures, alpha.pattern-in-Present.ensures, share.pattern.ensures)
+    rw (c.in-Present.is, c.pattern-in-Present-2.ensures, c.pattern-in-Present.ensures, c.pattern.ensures)

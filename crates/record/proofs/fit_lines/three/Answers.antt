@@ -1,6 +1,5 @@
 -- `record::fit_lines::three` meets its contract. Assumes nothing.
 use Rattle.record.specs.Fits.{three_of}
-use borrow.Author.Rules.{rules}
 use Rattle.record.proofs.fit_lines.three.Goals as goal
 
 pub returns : goal.returns

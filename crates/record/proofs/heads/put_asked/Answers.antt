@@ -1,7 +1,6 @@
 -- `record::heads::put_asked` meets its contract. Assumes nothing.
 use Rattle.templates.proofs.Cuts.{end-join, put-join}
 use Rattle.record.specs.Heads.{asked_text}
-use borrow.Author.Rules.{rules}
 use Rattle.record.proofs.heads.put_asked.Goals as goal
 
 pub returns : goal.returns

@@ -1,7 +1,6 @@
 -- `record::heads::put_configurations` meets its contract. Assumes nothing.
 use Rattle.templates.proofs.Cuts.{end-join, put-join}
 use Rattle.record.specs.Heads.{configurations_text}
-use borrow.Author.Rules.{rules}
 use Rattle.record.proofs.heads.put_configurations.Goals as goal
 
 pub returns : goal.returns

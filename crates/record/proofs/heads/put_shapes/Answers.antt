@@ -1,5 +1,4 @@
 -- `record::heads::put_shapes` meets its contract. Assumes nothing.
-use borrow.Author.Rules.{rules}
 use Rattle.record.proofs.heads.put_shapes.Goals as goal
 
 pub returns : goal.returns

@@ -1,15 +1,13 @@
 -- `record::leaning::lean` meets its contract. Assumes nothing.
 use mathlib.Core.Path.{sym, ◌∙◌}
 use Rattle.record.specs.Leaning.{lean_step}
-use borrow.Author.Rules.{rules}
 use Rattle.record.proofs.leaning.lean.Goals as goal
 
 pub returns-then-is_valid : goal.returns-then-is_valid
 unfolding lean_step
 returns-then-is_valid c =
-    let hole = c in
-    rw (sym hole.is_valid.ensures ∙ hole.if-is_valid.true)
-    (rw (c.vote.ensures, hole.hole_of.ensures) at c.lean_on.ensures)
+    rw (sym c.is_valid.ensures ∙ c.if-is_valid.true)
+    (rw (c.vote.ensures, c.hole_of.ensures) at c.lean_on.ensures)
 
 pub returns : goal.returns
 unfolding lean_step

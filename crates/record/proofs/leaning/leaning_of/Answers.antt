@@ -2,7 +2,6 @@
 use native.Mathlib.Omega.{arith}
 use Rattle.record.specs.Leaning.{leaning_of}
 use Rattle.record.proofs.Leanings.{still-few}
-use borrow.Author.Rules.{rules}
 use Rattle.record.proofs.leaning.leaning_of.Goals as goal
 
 pub lean-second-requires : goal.lean-second-requires
@@ -16,15 +15,11 @@ lean-third-requires c =
 
 pub lean-requires : goal.lean-requires
 lean-requires c =
-    let second = c in
-    let f = still-few _ _ _ _ _ 0 second.lean-first.ensures (omega arith, omega arith) in
-    let g = still-few _ _ _ _ _ 1 second.lean-second.ensures f in
+    let f = still-few _ _ _ _ _ 0 c.lean-first.ensures (omega arith, omega arith) in
+    let g = still-few _ _ _ _ _ 1 c.lean-second.ensures f in
     let h = still-few _ _ _ _ _ 2 c.lean-third.ensures g in
     (omega (arith, h.0), omega (arith, h.1))
 
 pub returns : goal.returns
 unfolding leaning_of
-returns c =
-    let third = c in
-    let second = third in
-    rw (c.lean.ensures, third.lean-third.ensures, second.lean-second.ensures, second.lean-first.ensures)
+returns c = rw (c.lean.ensures, c.lean-third.ensures, c.lean-second.ensures, c.lean-first.ensures)

@@ -1,7 +1,6 @@
 -- `record::leaning::vote` meets its contract. Assumes nothing.
 use mathlib.Core.Path.{sym, ◌∙◌}
 use Rattle.record.specs.Leaning.{vote_of}
-use borrow.Author.Rules.{rules}
 use Rattle.record.proofs.leaning.vote.Goals as goal
 
 pub returns-then-is_walked : goal.returns-then-is_walked

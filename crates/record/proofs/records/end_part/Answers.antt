@@ -1,7 +1,6 @@
 -- `record::records::end_part` meets its contract. Assumes nothing.
 use borrow.Author.Tests.{eq-eqb, ne_eqb}
 use Rattle.record.specs.Record.{end_part}
-use borrow.Author.Rules.{rules}
 use Rattle.record.proofs.records.end_part.Goals as goal
 
 pub returns-then-l-eq-NO_WALK : goal.returns-then-l-eq-NO_WALK

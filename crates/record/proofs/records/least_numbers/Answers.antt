@@ -1,6 +1,5 @@
 -- `record::records::least_numbers` meets its contract. Assumes nothing.
 use Rattle.record.specs.Record.{least_numbers}
-use borrow.Author.Rules.{rules}
 use Rattle.record.proofs.records.least_numbers.Goals as goal
 
 pub returns : goal.returns

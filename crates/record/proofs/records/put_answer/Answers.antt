@@ -1,6 +1,5 @@
 -- `record::records::put_answer` meets its contract. Assumes nothing.
 use Rattle.record.specs.Record.{answer_text}
-use borrow.Author.Rules.{rules}
 use Rattle.record.proofs.records.put_answer.Goals as goal
 
 pub returns : goal.returns

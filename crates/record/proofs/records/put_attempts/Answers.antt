@@ -1,7 +1,6 @@
 -- `record::records::put_attempts` meets its contract. Assumes nothing.
 use Rattle.templates.proofs.Cuts.{end-join, put-join}
 use Rattle.record.specs.Record.{attempts_text}
-use borrow.Author.Rules.{rules}
 use Rattle.record.proofs.records.put_attempts.Goals as goal
 
 pub returns : goal.returns

@@ -1,6 +1,5 @@
 -- `record::records::put_cutoffs` meets its contract. Assumes nothing.
 use Rattle.record.specs.Record.{cutoff_text}
-use borrow.Author.Rules.{rules}
 use Rattle.record.proofs.records.put_cutoffs.Goals as goal
 
 pub returns : goal.returns

@@ -1,6 +1,5 @@
 -- `record::records::put_doubts` meets its contract. Assumes nothing.
 use Rattle.record.specs.Record.{doubts_text}
-use borrow.Author.Rules.{rules}
 use Rattle.record.proofs.records.put_doubts.Goals as goal
 
 pub returns : goal.returns

@@ -1,7 +1,6 @@
 -- `record::records::put_head` meets its contract. Assumes nothing.
 use Rattle.templates.proofs.Cuts.{end-join, put-join}
 use Rattle.record.specs.Record.{head_text}
-use borrow.Author.Rules.{rules}
 use Rattle.record.proofs.records.put_head.Goals as goal
 
 pub returns : goal.returns

@@ -1,6 +1,5 @@
 -- `record::records::put_last` meets its contract. Assumes nothing.
 use Rattle.record.specs.Record.{last_text}
-use borrow.Author.Rules.{rules}
 use Rattle.record.proofs.records.put_last.Goals as goal
 
 pub returns : goal.returns

@@ -1,6 +1,5 @@
 -- `record::records::put_leaning` meets its contract. Assumes nothing.
 use Rattle.record.specs.Record.{leaning_text}
-use borrow.Author.Rules.{rules}
 use Rattle.record.proofs.records.put_leaning.Goals as goal
 
 pub returns : goal.returns

@@ -1,7 +1,6 @@
 -- `record::records::write_broken` meets its contract. Assumes nothing.
 use Rattle.templates.proofs.Cuts.{end-join, put-join}
 use Rattle.record.specs.Record.{broken_of}
-use borrow.Author.Rules.{rules}
 use Rattle.record.proofs.records.write_broken.Goals as goal
 
 pub returns : goal.returns

@@ -2,7 +2,6 @@
 use Rattle.templates.proofs.Cuts.{joined}
 use Rattle.record.specs.Record.{record_of}
 use Rattle.record.proofs.Theorems.{recorded}
-use borrow.Author.Rules.{rules}
 use Rattle.record.proofs.records.write_record.Goals as goal
 
 pub returns : goal.returns

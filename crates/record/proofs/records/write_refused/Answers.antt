@@ -1,7 +1,6 @@
 -- `record::records::write_refused` meets its contract. Assumes nothing.
 use Rattle.templates.proofs.Cuts.{end-join, put-join}
 use Rattle.record.specs.Record.{refused_of}
-use borrow.Author.Rules.{rules}
 use Rattle.record.proofs.records.write_refused.Goals as goal
 
 pub returns : goal.returns

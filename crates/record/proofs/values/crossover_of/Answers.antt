@@ -1,7 +1,6 @@
 -- `record::values::crossover_of` meets its contract. Assumes nothing.
 use mathlib.Core.Path.{ap, ◌∙◌}
 use Rattle.record.specs.Values.{crossover_place}
-use borrow.Author.Rules.{rules}
 use Rattle.record.proofs.values.crossover_of.Goals as goal
 
 pub returns : goal.returns

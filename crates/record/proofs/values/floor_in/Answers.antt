@@ -1,5 +1,4 @@
 -- `record::values::floor_in` meets its contract. Assumes nothing.
-use borrow.Author.Rules.{rules}
 use Rattle.record.proofs.values.floor_in.Goals as goal
 
 pub returns-in-At : goal.returns-in-At

@@ -1,7 +1,6 @@
 -- `record::values::floor_of` meets its contract. Assumes nothing.
 use mathlib.Core.Path.{ap, ◌∙◌}
 use Rattle.record.specs.Values.{floor_place}
-use borrow.Author.Rules.{rules}
 use Rattle.record.proofs.values.floor_of.Goals as goal
 
 pub returns : goal.returns

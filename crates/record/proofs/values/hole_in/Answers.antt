@@ -1,5 +1,4 @@
 -- `record::values::hole_in` meets its contract. Assumes nothing.
-use borrow.Author.Rules.{rules}
 use Rattle.record.proofs.values.hole_in.Goals as goal
 
 pub returns-in-Sure : goal.returns-in-Sure

@@ -1,5 +1,4 @@
 -- `record::values::hole_of` meets its contract. Assumes nothing.
-use borrow.Author.Rules.{rules}
 use Rattle.record.proofs.values.hole_of.Goals as goal
 
 pub returns : goal.returns

@@ -1,5 +1,4 @@
 -- `record::values::place_in` meets its contract. Assumes nothing.
-use borrow.Author.Rules.{rules}
 use Rattle.record.proofs.values.place_in.Goals as goal
 
 pub returns-in-Present : goal.returns-in-Present

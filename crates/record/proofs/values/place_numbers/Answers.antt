@@ -1,5 +1,4 @@
 -- `record::values::place_numbers` meets its contract. Assumes nothing.
-use borrow.Author.Rules.{rules}
 use Rattle.record.proofs.values.place_numbers.Goals as goal
 
 pub returns-in-Nothing : goal.returns-in-Nothing

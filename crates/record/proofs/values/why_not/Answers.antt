@@ -1,7 +1,6 @@
 -- `record::values::why_not` meets its contract. Assumes nothing.
 use mathlib.Core.Path.{sym, ◌∙◌}
 use Rattle.record.specs.Values.{why_not}
-use borrow.Author.Rules.{rules}
 use Rattle.record.proofs.values.why_not.Goals as goal
 
 pub returns-then-is_finite : goal.returns-then-is_finite

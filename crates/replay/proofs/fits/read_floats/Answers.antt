@@ -1,9 +1,6 @@
 -- `replay::fits::read_floats` meets its contract. Assumes nothing.
-use borrow.Author.Rules.{rules}
-use mathlib.Core.Path.{◌≡◌}
-use Prim.Native.Nat.{◌-◌, ◌≤◌}
 use native.Mathlib.Omega.{arith}
-use lib.ListN.{length, length-set}
+use lib.ListN.{length-set}
 use Rattle.replay.proofs.fits.read_floats.Goals as goal
 
 pub loop-i-preserved : goal.loop-i-preserved

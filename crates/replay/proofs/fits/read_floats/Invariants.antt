@@ -1,9 +1,7 @@
 -- `replay::fits::read_floats` meets its contract. Assumes nothing.
-use borrow.Author.Rules.{rules}
 use mathlib.Core.Path.{◌≡◌}
 use Prim.Native.Nat.{◌-◌, ◌≤◌}
-use native.Mathlib.Omega.{arith}
-use lib.ListN.{length, length-set}
+use lib.ListN.{length}
 use Rattle.replay.proofs.fits.read_floats.Given as goal
 
 abbrev pub invariant-loop-i : goal.invariant-loop-i

@@ -1,9 +1,5 @@
 -- `replay::puts::put_floats` meets its contract. Assumes nothing.
-use borrow.Author.Rules.{rules}
-use mathlib.Core.Path.{◌≡◌}
-use Prim.Native.Nat.{◌-◌, ◌≤◌}
 use native.Mathlib.Omega.{arith}
-use lib.ListN.{length}
 use Rattle.replay.proofs.puts.put_floats.Goals as goal
 
 pub overflow_add-i : goal.overflow_add-i

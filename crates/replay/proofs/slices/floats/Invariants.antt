@@ -1,10 +1,7 @@
 -- `replay::slices::floats` meets its contract. Assumes nothing.
-use borrow.Author.Rules.{rules}
-use mathlib.Core.Path.{◌≡◌, sym}
+use mathlib.Core.Path.{◌≡◌}
 use Prim.Native.Nat.{◌-◌, ◌≤◌}
-use native.Mathlib.Omega.{arith}
-use lib.ListN.{length, length-set}
-use lib.Seq.{length-take-le}
+use lib.ListN.{length}
 use Rattle.replay.proofs.slices.floats.Given as goal
 
 abbrev pub invariant-loop-i : goal.invariant-loop-i

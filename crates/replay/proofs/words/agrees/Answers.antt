@@ -1,13 +1,8 @@
 -- `replay::words::agrees` meets its contract: it says yes only where the row is as long, and agrees at every place.
 -- Assumes nothing.
-use Prim.Native.Nat.{ℕ, ◌≤◌, ◌<◌, ◌-◌}
-use mathlib.Core.Path.{◌≡◌, sym, ap, ◌∙◌}
-use mathlib.Core.Bool.{not, false≢true, not-not}
+use mathlib.Core.Bool.{false≢true}
 use native.Mathlib.Omega.{arith}
-use lib.ListN.{length, get_or}
 use borrow.Author.Count.{below_none, below_more}
-use borrow.Author.Rules.{rules}
-use Rattle.replay.specs.Agree.{Same}
 use Rattle.replay.proofs.words.agrees.Goals as goal
 
 pub returns-then-end-row : goal.returns-then-end-row
@@ -21,10 +16,9 @@ returns-then-not-same c = λ h. absurd (false≢true h)
 
 pub loop-i-preserved : goal.loop-i-preserved
 loop-i-preserved c =
-    let called = c in
     let yes = c.if-not-same.false in
-    let agreed = rw called.word.ensures at (c.same.ensures yes) in
-    (omega arith, omega arith, below_more _ _ called.loop-i.invariant.2 agreed)
+    let agreed = rw c.word.ensures at (c.same.ensures yes) in
+    (omega arith, omega arith, below_more _ _ c.loop-i.invariant.2 agreed)
 
 pub returns : goal.returns
 returns c =

@@ -1,12 +1,8 @@
 -- `replay::words::agrees` meets its contract: it says yes only where the row is as long, and agrees at every place.
 -- Assumes nothing.
 use Prim.Native.Nat.{ℕ, ◌≤◌, ◌<◌, ◌-◌}
-use mathlib.Core.Path.{◌≡◌, sym, ap, ◌∙◌}
-use mathlib.Core.Bool.{not, false≢true, not-not}
-use native.Mathlib.Omega.{arith}
+use mathlib.Core.Path.{◌≡◌}
 use lib.ListN.{length, get_or}
-use borrow.Author.Count.{below_none, below_more}
-use borrow.Author.Rules.{rules}
 use Rattle.replay.specs.Agree.{Same}
 use Rattle.replay.proofs.words.agrees.Given as goal
 

@@ -1,6 +1,4 @@
 -- `replay::words::nth` meets its contract. Assumes nothing.
-use borrow.Author.Rules.{rules}
-use Prim.Native.Nat.{◌-◌, ◌≤◌}
 use native.Mathlib.Omega.{arith}
 use Rattle.replay.proofs.words.nth.Goals as goal
 

@@ -1,7 +1,5 @@
 -- `replay::words::nth` meets its contract. Assumes nothing.
-use borrow.Author.Rules.{rules}
 use Prim.Native.Nat.{◌-◌, ◌≤◌}
-use native.Mathlib.Omega.{arith}
 use Rattle.replay.proofs.words.nth.Given as goal
 
 abbrev pub invariant-loop-i : goal.invariant-loop-i

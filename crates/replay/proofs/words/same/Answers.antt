@@ -1,7 +1,6 @@
 -- `replay::words::same` meets its contract. Assumes nothing.
 use mathlib.Core.Path.{sym, subst, ◌∙◌}
 use mathlib.Core.Logic.{inl, inr}
-use borrow.Author.Rules.{rules}
 use borrow.Author.Tests.{eqb-true}
 use lib.Dec.{T}
 use lib.Ieee.Compare.{differs_from_itself}

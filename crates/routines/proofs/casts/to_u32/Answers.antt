@@ -1,5 +1,5 @@
 -- `routines::casts::to_u32` meets its contract. Assumes nothing.
-use Rattle.std.proofs.Common.{arith, rules}
+use Rattle.std.proofs.Common.{arith}
 use Rattle.routines.proofs.Saturates.{narrow}
 use Rattle.routines.proofs.casts.to_u32.Goals as goal
 

@@ -1,7 +1,6 @@
 -- `routines::casts::to_u64` meets its contract. The two tests are what `truncating_f64_to_u64` requires, and where one
 -- fails `Tests` says which end of the range it is.
 -- Assumes nothing.
-use Rattle.std.proofs.Common.{rules}
 use lib.Ieee.{of_bits, neg}
 use Rattle.routines.proofs.Tests.{yes}
 use Rattle.routines.proofs.Saturates.{over, under}

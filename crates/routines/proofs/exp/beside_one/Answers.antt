@@ -1,5 +1,5 @@
 -- `routines::exp::beside_one` meets its contract. Assumes nothing.
-use Rattle.std.proofs.Common.{ap, ◌∙◌, rules}
+use Rattle.std.proofs.Common.{ap, ◌∙◌}
 use lib.Ieee.{Float}
 use Rattle.routines.specs.Constants.{one}
 use Rattle.routines.specs.Exp.{beside_one}

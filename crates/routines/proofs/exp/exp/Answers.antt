@@ -1,5 +1,5 @@
 -- `routines::exp::exp` meets its contract. Assumes nothing.
-use Rattle.std.proofs.Common.{ap, ◌∙◌, ⊎_elim, rules}
+use Rattle.std.proofs.Common.{ap, ◌∙◌}
 use Rattle.routines.specs.Exp.{exp_of, tee, beside_one}
 use Rattle.routines.proofs.Patterns.{least-no-nan}
 use Rattle.routines.proofs.exp.exp.Goals as goal

@@ -1,7 +1,6 @@
 -- `routines::exp::scaled_up` meets its contract. Assumes nothing.
 use Rattle.routines.specs.Exp.{scaled_up, reduced, scaled_by}
 use Rattle.routines.proofs.Patterns.{field-only}
-use Rattle.std.proofs.Common.{rules}
 use Rattle.routines.proofs.exp.scaled_up.Goals as goal
 
 pub float_from_bits-a : goal.float_from_bits-a

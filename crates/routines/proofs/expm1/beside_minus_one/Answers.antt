@@ -1,5 +1,5 @@
 -- `routines::expm1::beside_minus_one` meets its contract. Assumes nothing.
-use Rattle.std.proofs.Common.{ap, ◌∙◌, rules}
+use Rattle.std.proofs.Common.{ap, ◌∙◌}
 use lib.Ieee.{Float}
 use Rattle.routines.specs.Constants.{zero}
 use Rattle.routines.specs.Expm1.{beside_minus_one}

@@ -1,5 +1,5 @@
 -- `routines::expm1::expm1` meets its contract. Assumes nothing.
-use Rattle.std.proofs.Common.{ap, ◌∙◌, ⊎_elim, rules}
+use Rattle.std.proofs.Common.{ap, ◌∙◌}
 use Rattle.routines.specs.Expm1.{expm1_of, tee_m, beside_minus_one}
 use Rattle.routines.proofs.Patterns.{least-no-nan}
 use Rattle.routines.proofs.expm1.expm1.Goals as goal
@@ -15,8 +15,7 @@ less_one-requires c = least-no-nan _ _ c.if-t.true
 pub returns-then-t-2 : goal.returns-then-t-2
 unfolding expm1_of tee_m
 returns-then-t-2 c =
-    let test = c in
-    rw (test.if-x.false, test.if-t.true, test.if-t-2.true)
+    rw (c.if-x.false, c.if-t.true, c.if-t-2.true)
     (c.beside_minus_one.ensures ∙ ap (beside_minus_one _) c.less_one.ensures)
 
 pub returns : goal.returns

@@ -1,6 +1,5 @@
 -- `routines::expm1::far_out` meets its contract. Assumes nothing.
 use Rattle.routines.specs.Expm1.{far_out}
-use Rattle.std.proofs.Common.{rules}
 use Rattle.routines.proofs.expm1.far_out.Goals as goal
 
 pub returns-then-x : goal.returns-then-x

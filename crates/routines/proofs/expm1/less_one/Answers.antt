@@ -1,7 +1,6 @@
 -- `routines::expm1::less_one` meets its contract. Assumes nothing.
 use Rattle.routines.specs.Expm1.{less_one}
 use Rattle.routines.proofs.Patterns.{field-only}
-use Rattle.std.proofs.Common.{rules}
 use Rattle.routines.proofs.expm1.less_one.Goals as goal
 
 pub float_from_bits-a : goal.float_from_bits-a

@@ -1,6 +1,5 @@
 -- `routines::hoists::lgamma_with` meets its contract. Assumes nothing.
 use Rattle.routines.specs.Hoists.{lgamma_with}
-use Rattle.std.proofs.Common.{rules}
 use Rattle.routines.proofs.hoists.lgamma_with.Goals as goal
 
 pub returns-then-x : goal.returns-then-x

@@ -1,5 +1,5 @@
 -- `routines::lgamma::below_zero` meets its contract. Assumes nothing.
-use Rattle.std.proofs.Common.{sym, rules}
+use Rattle.std.proofs.Common.{sym}
 use lib.Ieee.{div, of_bits}
 use Rattle.routines.specs.Lgamma.{below_zero, reflected}
 use Rattle.routines.proofs.lgamma.below_zero.Goals as goal
@@ -13,7 +13,6 @@ returns-then-n-a c =
 pub returns : goal.returns
 unfolding below_zero reflected
 returns c =
-    let test = c in
-    let same = sym test.floor-n.ensures in
-    rw (same, test.if-n-a.false)
+    let same = sym c.floor-n.ensures in
+    rw (same, c.if-n-a.false)
     (rw (c.above_zero-3.ensures, c.above_zero-2.ensures, c.above_zero.ensures))

@@ -1,6 +1,5 @@
 -- `routines::lgamma::lgamma` meets its contract. Assumes nothing.
 use Rattle.routines.specs.Lgamma.{lgamma_of}
-use Rattle.std.proofs.Common.{rules}
 use Rattle.routines.proofs.lgamma.lgamma.Goals as goal
 
 pub returns-then-x : goal.returns-then-x

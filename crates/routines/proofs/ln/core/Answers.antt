@@ -1,5 +1,5 @@
 -- `routines::ln::core` meets its contract. Assumes nothing.
-use Rattle.std.proofs.Common.{ℕ, ◌+◌, ◌*◌, ◌/◌, ◌%◌, ◌^◌, ◌≤◌, ap, arith, rules}
+use Rattle.std.proofs.Common.{ℕ, ◌+◌, ◌*◌, ◌/◌, ◌%◌, ◌^◌, ◌≤◌, ap, arith}
 use lib.Ieee.{Float}
 use Rattle.routines.specs.Ln.{ln_core}
 use Rattle.routines.proofs.Patterns.{no_nan}
@@ -21,9 +21,8 @@ float_from_bits-z c = no_nan _ (digits _)
 pub returns : goal.returns
 unfolding ln_core
 returns c =
-    let made = c in
-    let logs = made.log_at-log.ensures in
-    let pieces = made.piece_at-piece.ensures in
+    let logs = c.log_at-log.ensures in
+    let pieces = c.piece_at-piece.ensures in
     rw (
       c.tail.ensures,
       ap (λ (t : Float × Float). t.0) logs,

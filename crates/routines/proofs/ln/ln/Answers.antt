@@ -1,6 +1,6 @@
 -- `routines::ln::ln` meets its contract: each arm returns what the definition picks where the tests are as the arm
 -- found them. Assumes nothing.
-use Rattle.std.proofs.Common.{◌≡◌, ℕ, ◌≤◌, not, T, sym, ap, ◌∙◌, subst, ⊎_elim, lit≤, rules}
+use Rattle.std.proofs.Common.{◌≡◌, ℕ, ◌≤◌, not, T, sym, ap, ◌∙◌, subst, lit≤}
 use lib.Ieee.{Float, is_nan}
 use Rattle.routines.specs.Ln.{ln_of, beside_zero, OFFSET}
 use Rattle.routines.proofs.Patterns.{least-no-nan, positive-times}

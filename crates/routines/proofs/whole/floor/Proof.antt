@@ -1,7 +1,7 @@
 -- `routines::whole::floor` meets its contract: `Ranges` says what the tests tell of x in each arm.
 -- Assumes nothing.
 use borrow.Author.Rules.{rules}
-use Rattle.std.proofs.Common.{ℕ, false, ap, ◌∙◌, ⊎_elim, rules}
+use Rattle.std.proofs.Common.{ℕ, false, ap, ◌∙◌, rules}
 use lib.Ieee.{neg, binary64, round}
 use Rattle.routines.proofs.Tests.{yes}
 use Rattle.routines.proofs.Sizes.{cut_small, of_int_is}

@@ -1,6 +1,6 @@
 -- `routines::whole::round` meets its contract: `Ranges` says what the tests tell of x in each arm.
 -- Assumes nothing.
-use Rattle.std.proofs.Common.{ap, ◌∙◌, ⊎_elim}
+use Rattle.std.proofs.Common.{ap, ◌∙◌}
 use lib.Ieee.{neg}
 use Rattle.routines.proofs.Tests.{yes}
 use Rattle.routines.proofs.Ranges.{small, small-neg, round-small-is, round-neg-is, round_keeps, wide_up}

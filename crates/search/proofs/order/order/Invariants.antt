@@ -1,14 +1,10 @@
 -- `search::order::order` meets its contract. The loop's invariant: the rows from i on are in order, those before stand as
 -- they stood. Assumes nothing.
-use Prim.Native.Nat.{◌+◌, ◌-◌, ◌≤◌}
-use mathlib.Core.Path.{◌≡◌, refl, ap, ◌∙◌}
-use mathlib.Core.List.{List}
-use native.Mathlib.Nat.{le_refl, le_of_eq}
-use native.Mathlib.Omega.{arith}
+use Prim.Native.Nat.{◌≤◌}
+use mathlib.Core.Path.{◌≡◌}
 use lib.ListN.{length}
-use Rattle.search.specs.Vertices.{Vertex, rows_in}
-use Rattle.search.proofs.Ordering.{sunk, ordered_from, none-ordered, one-more-ordered, all-ordered}
-use Rattle.search.proofs.RowLaws.{rows-length}
+use Rattle.search.specs.Vertices.{rows_in}
+use Rattle.search.proofs.Ordering.{ordered_from}
 use Rattle.search.proofs.order.order.Given as goal
 
 abbrev pub invariant-loop-i : goal.invariant-loop-i

@@ -1,7 +1,6 @@
 -- `search::order::sink` meets its contract. The loop's invariant: the row at k has still to sink, and from here that comes
 -- to the same. Assumes nothing.
 use borrow.Author.Rules.{rules}
-use borrow.Author.Tests.{not-true, not-false}
 use Prim.Native.Nat.{◌+◌, ◌-◌, ◌<◌}
 use mathlib.Core.Path.{◌≡◌, refl, sym, ap, ◌∙◌}
 use mathlib.Core.List.{List}

@@ -1,11 +1,8 @@
 -- `search::points::copy` meets its contract. Assumes nothing.
-use Prim.Native.Nat.{ℕ, ◌-◌, ◌<◌}
+use Prim.Native.Nat.{ℕ, ◌<◌}
 use mathlib.Core.Path.{refl, sym}
 use native.Mathlib.Omega.{arith}
-use lib.ListN.{length, get_or}
-use lib.Ieee.{Float, nan}
-use borrow.Author.Rules.{rules}
-use Rattle.search.proofs.Elements.{Passed, begins, goes_on, ends}
+use Rattle.search.proofs.Elements.{begins, goes_on, ends}
 use Rattle.search.proofs.points.copy.Goals as goal
 
 pub loop-j-init : goal.loop-j-init
@@ -24,12 +21,11 @@ pub loop-j-smaller : goal.loop-j-smaller
 loop-j-smaller c = omega arith
 
 pub loop-j-preserved : goal.loop-j-preserved
-loop-j-preserved c = let l = c in goes_on _ _ _ l.loop-j.invariant _ (omega arith) refl
+loop-j-preserved c = goes_on _ _ _ c.loop-j.invariant _ (omega arith) refl
 
 pub shape_of-to : goal.shape_of-to
 shape_of-to c = c.loop-j.invariant.long
 
 pub returns : goal.returns
 returns c =
-    let s = c in
-    ends _ _ _ c.loop-j.invariant _ (omega arith) (sym s.requires) (λ (i : ℕ) (h : i < _). refl)
+    ends _ _ _ c.loop-j.invariant _ (omega arith) (sym c.requires) (λ (i : ℕ) (h : i < _). refl)

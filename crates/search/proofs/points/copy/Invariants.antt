@@ -1,11 +1,8 @@
 -- `search::points::copy` meets its contract. Assumes nothing.
-use Prim.Native.Nat.{ℕ, ◌-◌, ◌<◌}
-use mathlib.Core.Path.{refl, sym}
-use native.Mathlib.Omega.{arith}
+use Prim.Native.Nat.{ℕ, ◌-◌}
 use lib.ListN.{length, get_or}
 use lib.Ieee.{Float, nan}
-use borrow.Author.Rules.{rules}
-use Rattle.search.proofs.Elements.{Passed, begins, goes_on, ends}
+use Rattle.search.proofs.Elements.{Passed}
 use Rattle.search.proofs.points.copy.Given as goal
 
 abbrev pub invariant-loop-j : goal.invariant-loop-j

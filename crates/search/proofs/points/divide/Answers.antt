@@ -1,12 +1,11 @@
 -- `search::points::divide` meets its contract. Assumes nothing.
-use Prim.Native.Nat.{ℕ, ◌-◌, ◌<◌}
+use Prim.Native.Nat.{ℕ, ◌<◌}
 use mathlib.Core.Path.{refl}
 use native.Mathlib.Omega.{arith}
 use lib.ListN.{length, length-map}
 use lib.Ieee.{Float, nan}
-use borrow.Author.Rules.{rules}
 use Rattle.routines.specs.Ops.{◌⊘◌}
-use Rattle.search.proofs.Elements.{Passed, begins, goes_on, ends, map_at}
+use Rattle.search.proofs.Elements.{begins, goes_on, ends, map_at}
 use Rattle.search.proofs.points.divide.Goals as goal
 
 pub loop-j-init : goal.loop-j-init
@@ -25,13 +24,12 @@ pub loop-j-smaller : goal.loop-j-smaller
 loop-j-smaller c = omega arith
 
 pub loop-j-preserved : goal.loop-j-preserved
-loop-j-preserved c = let l = c in goes_on _ _ _ l.loop-j.invariant _ (omega arith) refl
+loop-j-preserved c = goes_on _ _ _ c.loop-j.invariant _ (omega arith) refl
 
 pub shape_of-point : goal.shape_of-point
 shape_of-point c = c.loop-j.invariant.long
 
 pub returns : goal.returns
 returns c =
-    let s = c in
-    let a = s.args in
+    let a = c.args in
     ends _ _ _ c.loop-j.invariant _ (omega arith) (length-map a.point.now _) (λ (i : ℕ) (h : i < length a.point.now). map_at (λ (x : Float). x ⊘ a.by) nan a.point.now i h)

@@ -1,11 +1,9 @@
 -- `search::points::move_point` meets its contract. Assumes nothing.
-use Prim.Native.Nat.{ℕ, ◌-◌, ◌<◌}
+use Prim.Native.Nat.{ℕ, ◌<◌}
 use native.Mathlib.Omega.{arith}
-use lib.ListN.{length, get_or}
-use lib.Ieee.{Float, nan}
-use borrow.Author.Rules.{rules}
-use Rattle.search.specs.Points.{moved_of}
-use Rattle.search.proofs.Elements.{Passed, begins, goes_on, ends}
+use lib.ListN.{length}
+use lib.Ieee.{nan}
+use Rattle.search.proofs.Elements.{begins, goes_on, ends}
 use Rattle.search.proofs.Moved.{moved_length, moved_at}
 use Rattle.search.proofs.points.move_point.Goals as goal
 
@@ -28,19 +26,16 @@ pub loop-j-smaller : goal.loop-j-smaller
 loop-j-smaller c = omega arith
 
 pub loop-j-preserved : goal.loop-j-preserved
-loop-j-preserved c =
-    let l = c in
-    goes_on _ _ _ l.loop-j.invariant _ (omega arith) c.moved_by.ensures
+loop-j-preserved c = goes_on _ _ _ c.loop-j.invariant _ (omega arith) c.moved_by.ensures
 
 pub shape_of-point : goal.shape_of-point
 shape_of-point c = c.loop-j.invariant.long
 
 pub returns : goal.returns
 returns c =
-    let s = c in
-    let a = s.args in
+    let a = c.args in
     let xs = a.point.now in
     let ys = a.other.now in
-    let e = s.requires in
+    let e = c.requires in
     ends _ _ _ c.loop-j.invariant _ (omega arith) (moved_length a.how xs ys e)
     (λ (i : ℕ) (h : i < length xs). moved_at a.how xs ys i nan e h)

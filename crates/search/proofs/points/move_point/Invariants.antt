@@ -1,12 +1,9 @@
 -- `search::points::move_point` meets its contract. Assumes nothing.
-use Prim.Native.Nat.{ℕ, ◌-◌, ◌<◌}
-use native.Mathlib.Omega.{arith}
+use Prim.Native.Nat.{ℕ, ◌-◌}
 use lib.ListN.{length, get_or}
 use lib.Ieee.{Float, nan}
-use borrow.Author.Rules.{rules}
 use Rattle.search.specs.Points.{moved_of}
-use Rattle.search.proofs.Elements.{Passed, begins, goes_on, ends}
-use Rattle.search.proofs.Moved.{moved_length, moved_at}
+use Rattle.search.proofs.Elements.{Passed}
 use Rattle.search.proofs.points.move_point.Given as goal
 
 abbrev pub invariant-loop-j : goal.invariant-loop-j

@@ -1,5 +1,4 @@
 -- `search::prices::price` meets its contract. Assumes nothing.
-use borrow.Author.Rules.{rules}
 use mathlib.Core.Path.{ap, ◌∙◌}
 use lib.ListN.{drop}
 use Rattle.search.specs.Prices.{price_said, ready_price_of, stands_from}
@@ -9,10 +8,8 @@ use Rattle.search.proofs.prices.price.Goals as goal
 pub returns : goal.returns
 unfolding ready_price_of
 returns c =
-    let after-cost-prepared = c in
-    let s = c in
-    let k = after-cost-prepared.cost_prepared-answer in
-    let a = s.args in
+    let k = c.cost_prepared-answer in
+    let a = c.args in
     let p = a.problem in record {
       value = c.price_said.ensures ∙ ap price_said k.ensures.result_value;
       table_unchanged = ap (drop (stands_from p)) k.ensures.table_after

@@ -1,5 +1,4 @@
 -- `search::prices::width` meets its contract. Assumes nothing.
-use borrow.Author.Rules.{rules}
 use native.Mathlib.Omega.{arith}
 use Rattle.search.proofs.Widths.{few-wide}
 use Rattle.search.proofs.prices.width.Goals as goal

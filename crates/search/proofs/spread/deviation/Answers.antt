@@ -1,14 +1,11 @@
 -- `search::spread::deviation` meets its contract. Assumes nothing.
-use borrow.Author.Rules.{rules}
-use Prim.Native.Nat.{◌-◌, ◌*◌, ◌^◌, ◌<◌}
+use Prim.Native.Nat.{◌*◌, ◌^◌, ◌<◌}
 use mathlib.Core.Path.{sym, ap, ◌∙◌}
 use native.Mathlib.Omega.{arith}
 use lib.Ieee.{Float}
 use Rattle.routines.specs.Ops.{◌⊕◌, ◌⊘◌, of_count}
-use Rattle.meaning.proofs.Loops.{Folded, begins, goes_on, ends}
-use Rattle.search.specs.Spread.{square_at}
-use Rattle.search.specs.Vertices.{rows_in}
-use Rattle.search.proofs.Costs.{add_square, deviation-is, width-held}
+use Rattle.meaning.proofs.Loops.{begins, goes_on, ends}
+use Rattle.search.proofs.Costs.{deviation-is, width-held}
 use Rattle.search.proofs.spread.deviation.Goals as goal
 
 pub loop-i-init : goal.loop-i-init
@@ -22,21 +19,16 @@ loop-i-smaller c = omega arith
 
 pub loop-i-preserved : goal.loop-i-preserved
 loop-i-preserved c =
-    let at = c in
-    goes_on _ _ _ _ at.loop-i.invariant _ (omega arith) (ap (λ (x : Float). at.loop-i.sum ⊕ x) c.square_at-sum-in-loop-i.ensures)
+    goes_on _ _ _ _ c.loop-i.invariant _ (omega arith) (ap (λ (x : Float). c.loop-i.sum ⊕ x) c.square_at-sum-in-loop-i.ensures)
 
 pub int_to_float-result : goal.int_to_float-result
 int_to_float-result c =
-    let s = c in
-    let w = s.args.w in
+    let w = c.args.w in
     let h : w * w < 2 ^ 64 = omega arith in
     width-held w h
 
 pub returns : goal.returns
 returns c =
-    let after-mean-cost = c in
-    let s = c in
-    let at = c in
-    let a = s.args in
-    ap (λ (x : Float). x ⊘ of_count a.w) (ends _ _ _ _ at.loop-i.invariant (omega arith))
-    ∙ sym (deviation-is a.w a.rows.now _ after-mean-cost.mean_cost-mean.ensures)
+    let a = c.args in
+    ap (λ (x : Float). x ⊘ of_count a.w) (ends _ _ _ _ c.loop-i.invariant (omega arith))
+    ∙ sym (deviation-is a.w a.rows.now _ c.mean_cost-mean.ensures)

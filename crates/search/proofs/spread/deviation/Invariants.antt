@@ -1,14 +1,9 @@
 -- `search::spread::deviation` meets its contract. Assumes nothing.
-use borrow.Author.Rules.{rules}
-use Prim.Native.Nat.{◌-◌, ◌*◌, ◌^◌, ◌<◌}
-use mathlib.Core.Path.{sym, ap, ◌∙◌}
-use native.Mathlib.Omega.{arith}
-use lib.Ieee.{Float}
-use Rattle.routines.specs.Ops.{◌⊕◌, ◌⊘◌, of_count}
-use Rattle.meaning.proofs.Loops.{Folded, begins, goes_on, ends}
+use Prim.Native.Nat.{◌-◌}
+use Rattle.meaning.proofs.Loops.{Folded}
 use Rattle.search.specs.Spread.{square_at}
 use Rattle.search.specs.Vertices.{rows_in}
-use Rattle.search.proofs.Costs.{add_square, deviation-is, width-held}
+use Rattle.search.proofs.Costs.{add_square}
 use Rattle.search.proofs.spread.deviation.Given as goal
 
 abbrev pub invariant-loop-i : goal.invariant-loop-i

@@ -1,5 +1,4 @@
 -- `search::spread::is_settled` meets its contract. Assumes nothing.
-use borrow.Author.Rules.{rules}
 use mathlib.Core.Path.{ap}
 use lib.Ieee.{Float, lt}
 use Rattle.search.specs.Spread.{tolerance, settled}

@@ -1,15 +1,9 @@
 -- `search::spread::mean_cost` meets its contract. Assumes nothing.
-use Prim.Native.Nat.{◌-◌, ◌*◌, ◌^◌, ◌<◌}
-use mathlib.Core.Path.{sym, ap, ◌∙◌}
-use native.Mathlib.Nat.{mul-pos}
-use native.Mathlib.Omega.{arith}
-use lib.Ieee.{Float}
-use Rattle.routines.specs.Ops.{◌⊕◌, ◌⊘◌, of_count}
-use Rattle.meaning.proofs.Loops.{Folded, begins, goes_on, ends}
+use Prim.Native.Nat.{◌-◌}
+use Rattle.meaning.proofs.Loops.{Folded}
 use Rattle.search.specs.Spread.{cost_at}
 use Rattle.search.specs.Vertices.{rows_in}
-use Rattle.search.proofs.Costs.{add_cost, mean-is, cost-in, first-cost, width-held}
-use Rattle.search.proofs.RowLaws.{row_fits}
+use Rattle.search.proofs.Costs.{add_cost}
 use Rattle.search.proofs.spread.mean_cost.Given as goal
 
 abbrev pub invariant-loop-i : goal.invariant-loop-i

@@ -16,14 +16,12 @@ offset_bounds-rows-i c = omega (arith, row_fits c.args.i c.args.w c.args.w c.req
 
 pub bounds-rows-i : goal.bounds-rows-i
 bounds-rows-i c =
-    let s = c in
-    let a = s.args in
-    omega (arith, row_fits a.i a.w a.w s.requires.1)
+    let a = c.args in
+    omega (arith, row_fits a.i a.w a.w c.requires.1)
 
 pub returns : goal.returns
 unfolding square_at
 returns c =
-    let s = c in
-    let a = s.args in
+    let a = c.args in
     ap (λ (x : Float). (x ⊖ a.mean) ⊗ (x ⊖ a.mean))
-    (sym (cost-in a.w a.rows.now s.requires.0 a.i s.requires.1))
+    (sym (cost-in a.w a.rows.now c.requires.0 a.i c.requires.1))

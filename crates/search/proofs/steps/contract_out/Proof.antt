@@ -1,6 +1,6 @@
 -- `search::steps::contract_out` meets its contract. Assumes nothing.
-use mathlib.Core.Path.{◌≡◌, ap, ◌∙◌}
-use Prim.Native.Nat.{ℕ, ◌+◌, ◌-◌, ◌*◌, ◌≤◌, ◌<◌}
+use mathlib.Core.Path.{ap, ◌∙◌}
+use Prim.Native.Nat.{ℕ, ◌<◌}
 use mathlib.Core.List.{List}
 use native.Mathlib.Omega.{arith}
 use lib.ListN.{length}
@@ -9,7 +9,6 @@ use borrow.Author.Rules.{rules}
 use Rattle.search.specs.Prices.{ready_price_of}
 use Rattle.search.specs.Rule.{shrunk}
 use Rattle.search.specs.Vertices.{rows_in}
-use Rattle.search.proofs.RowLaws.{row_fits}
 use Rattle.search.proofs.Stepped.{out-taken, out-shrunk}
 use Rattle.search.proofs.steps.contract_out.Statement.{statement}
 use Rattle.search.proofs.steps.contract_out.Tie as tie

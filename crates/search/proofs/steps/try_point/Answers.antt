@@ -3,16 +3,11 @@ use mathlib.Core.Path.{ap, ◌∙◌}
 use mathlib.Core.List.{List}
 use lib.ListN.{length}
 use lib.Ieee.{Float}
-use borrow.Author.Rules.{rules}
 use Rattle.search.specs.Points.{moved}
 use Rattle.search.specs.Prices.{ready_price_of}
 use Rattle.search.proofs.steps.try_point.Goals as goal
 
 pub returns : goal.returns
 returns c =
-    let s = c in
-    let p = c in
-    let m = c in
-    let k = c in
-    let a = s.args in
-    let e = m.move_point.ensures ∙ ap (λ (x : List Float). moved a.how x a.other.now) k.copy.ensures in record { point_after = e; value = p.price.ensures.value ∙ ap (ready_price_of a.bins.now a.problem a.ready.now (length a.table.now)) e; table_unchanged = p.price.ensures.table_unchanged }
+    let a = c.args in
+    let e = c.move_point.ensures ∙ ap (λ (x : List Float). moved a.how x a.other.now) c.copy.ensures in record { point_after = e; value = c.price.ensures.value ∙ ap (ready_price_of a.bins.now a.problem a.ready.now (length a.table.now)) e; table_unchanged = c.price.ensures.table_unchanged }

@@ -1,6 +1,5 @@
 -- `models::errors::ErrorParams::log_probability_between` meets its contract. Assumes nothing.
 use Rattle.models.specs.Hoists.{log_probability_between}
-use borrow.Author.Rules.{rules}
 use Rattle.models.proofs.errors.ErrorParams.log_probability_between.Goals as goal
 
 pub returns-then-count : goal.returns-then-count

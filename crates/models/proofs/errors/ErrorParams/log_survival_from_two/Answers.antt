@@ -1,7 +1,6 @@
 -- `models::errors::ErrorParams::log_survival_from_two` meets its contract. Assumes nothing.
 use Rattle.models.specs.Errors.{survival_of}
 use Rattle.models.specs.Hoists.{survival_with}
-use borrow.Author.Rules.{rules}
 use Rattle.models.proofs.errors.ErrorParams.log_survival_from_two.Goals as goal
 
 pub returns : goal.returns

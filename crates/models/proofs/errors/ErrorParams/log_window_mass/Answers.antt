@@ -3,7 +3,6 @@ use mathlib.Core.Path.{ap}
 use Rattle.meaning.specs.Reply.{give}
 use borrow.Author.Tests.{lt-ltb, le-ltb, eq-eqb, ne_eqb}
 use Rattle.models.specs.Errors.{log_window_mass_of}
-use borrow.Author.Rules.{rules}
 use Rattle.models.proofs.errors.ErrorParams.log_window_mass.Goals as goal
 
 pub returns-then-top-gt-MOST : goal.returns-then-top-gt-MOST
@@ -17,5 +16,4 @@ returns-then-top-eq0 c = simp (le-ltb _ _ c.if-top-gt-MOST.false, eq-eqb _ _ c.i
 pub returns : goal.returns
 unfolding log_window_mass_of
 returns c =
-    let some = c in
-    simp (le-ltb _ _ some.if-top-gt-MOST.false, ne_eqb _ _ some.if-top-eq0.false) (ap give c.log_window_mass_to.ensures)
+    simp (le-ltb _ _ c.if-top-gt-MOST.false, ne_eqb _ _ c.if-top-eq0.false) (ap give c.log_window_mass_to.ensures)

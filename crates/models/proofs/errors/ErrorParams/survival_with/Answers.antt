@@ -1,6 +1,5 @@
 -- `models::errors::ErrorParams::survival_with` meets its contract. Assumes nothing.
 use Rattle.models.specs.Hoists.{survival_with}
-use borrow.Author.Rules.{rules}
 use Rattle.models.proofs.errors.ErrorParams.survival_with.Goals as goal
 
 pub returns : goal.returns
