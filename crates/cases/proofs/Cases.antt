@@ -10,7 +10,8 @@ use Rattle.routines.specs.Starts.{dec}
 use Rattle.routines.specs.Whole.{round_of}
 use Rattle.models.specs.Recovery.{used_scale_of, rounded_quotient_of}
 use Rattle.models.specs.Walk.{walk_from, walk_of}
-use Rattle.cases.specs.Cases.{Each, Recovers, recovered_rows, Shares, share_rows, Walks, walk_rows, Selects, selection_rows, Table}
+use Rattle.cases.specs.Cases.{Each, Recovers, recovered_rows, Shares, share_rows, Walks, walk_rows, Selects}
+use Rattle.cases.specs.Cases.{selection_rows, Table}
 use Rattle.fitter.specs.Recovering.{recovered, recover_bins_of}
 use Rattle.fitter.specs.Selection.{replaces_of}
 use Rattle.fitter.specs.Shares.{mass_of, clamp_of, share_of, shelf_share_of}

@@ -16,9 +16,11 @@ use Rattle.fitter.specs.InTurn.{in_turn}
 use Rattle.fitter.specs.Recovering.{recovered}
 use Rattle.fitter.specs.Selection.{replaces_of, wins_of, replace_of, select_of}
 use Rattle.fitter.specs.Shares.{mass_of, clamp_of, share_of, shelf_share_of}
-use Rattle.fitter.specs.Starts.{logit_of, hint_of, dispersion_start, ratio_start, plain_start, shelf_list, shelf_start, row_starts, table_starts, seed_starts, all_starts, starts_of}
+use Rattle.fitter.specs.Starts.{logit_of, hint_of, dispersion_start, ratio_start, plain_start, shelf_list}
+use Rattle.fitter.specs.Starts.{shelf_start, row_starts, table_starts, seed_starts, all_starts, starts_of}
 use Rattle.cases.specs.Cases.{Each}
-use Rattle.cases.specs.ClauseCases.{ShareTable, Hints, hint_rows, SeedsThenHint, StartsThenShapes, SelectionTable, ClauseTable}
+use Rattle.cases.specs.ClauseCases.{ShareTable, Hints, hint_rows, SeedsThenHint, StartsThenShapes, SelectionTable}
+use Rattle.cases.specs.ClauseCases.{ClauseTable}
 
 share-table : ShareTable
 unfolding shelf_share_of share_of mass_of clamp_of recovered rounded_quotient_of used_scale_of round_of fold round of_int of_bits to_bits add mul div neg lt le to_unsigned

@@ -15,11 +15,13 @@ use Rattle.routines.specs.LnTable.{ln_rows}
 use Rattle.routines.specs.Pick.{max_of, min_of}
 use Rattle.routines.specs.Starts.{dec, pareto_starts, weibull_starts}
 use Rattle.routines.specs.Whole.{round_of}
-use Rattle.helpers.specs.Shelves.{shelf_trials_of, ln_dbetabinom_of, table_start, table_step, table_of, last_of, shelf_log_table_of, table_after}
+use Rattle.helpers.specs.Shelves.{shelf_trials_of, ln_dbetabinom_of, table_start, table_step, table_of, last_of}
+use Rattle.helpers.specs.Shelves.{shelf_log_table_of, table_after}
 use Rattle.models.specs.declared.families.ErrorModel.TheVariants.{SingletonPareto}
 use Rattle.models.specs.declared.families.GenomeModel.TheVariants.{NegativeBinomial}
 use Rattle.fitter.specs.InTurn.{in_turn}
-use Rattle.fitter.specs.Starts.{logit_of, hint_of, dispersion_start, ratio_start, plain_start, row_starts, table_starts, seed_starts, all_starts, starts_of}
+use Rattle.fitter.specs.Starts.{logit_of, hint_of, dispersion_start, ratio_start, plain_start, row_starts}
+use Rattle.fitter.specs.Starts.{table_starts, seed_starts, all_starts, starts_of}
 
 -- ---- writing no starts, or the first only: Pareto without a seed and with a hint of 3 has two starts of seven numbers
 abbrev zeros : List Float

@@ -17,8 +17,13 @@ use Rattle.models.specs.Errors.{factor_of, survival_of, log_probability_of}
 use Rattle.models.specs.Fits.{abs_of}
 use Rattle.models.specs.Modes.{later_wins, with_nan, higher_with, higher_of, highest_of, error_mode_of}
 use Rattle.models.specs.ShelfRules.{retained_of, concentration_of, shelf_is_valid_of}
-use Rattle.fitter.specs.Validation.{non_finite_likelihood, bad_weight, bad_mean, bad_dispersion, invalid_components, bad_mass, invalid_window_mass, excess_of, above_or_nan, component_mass_exceeded, unstable_mode, outside_window, lobe_outside_window, error_mode_past_valley, outside_band, primary_mode_outside_band, repeat_mode_too_early, positive_log_likelihood, verdict_of, bad_limit, validate_tests, validate_of}
-use Rattle.cases.specs.RuleCases.{Rules1To3, Rules4To6, Rules7To10, Bands, rule8_far, RulesInOrder, Named, reasons, RuleTable}
+use Rattle.fitter.specs.Validation.{non_finite_likelihood, bad_weight, bad_mean, bad_dispersion, invalid_components}
+use Rattle.fitter.specs.Validation.{bad_mass, invalid_window_mass, excess_of, above_or_nan, component_mass_exceeded}
+use Rattle.fitter.specs.Validation.{unstable_mode, outside_window, lobe_outside_window, error_mode_past_valley}
+use Rattle.fitter.specs.Validation.{outside_band, primary_mode_outside_band, repeat_mode_too_early}
+use Rattle.fitter.specs.Validation.{positive_log_likelihood, verdict_of, bad_limit, validate_tests, validate_of}
+use Rattle.cases.specs.RuleCases.{Rules1To3, Rules4To6, Rules7To10, Bands, rule8_far, RulesInOrder, Named, reasons}
+use Rattle.cases.specs.RuleCases.{RuleTable}
 use Rattle.cases.specs.Cases.{Each}
 
 rules-1-to-3 : Rules1To3

@@ -13,7 +13,8 @@ use lib.Ieee.Fits.{and_i, and_l, and_r, down_pos}
 use lib.Ieee.Order.{transfer}
 use Rattle.entries.specs.Fractions.{Fraction, ratio, times, less, exactly, value_of}
 use Rattle.entries.specs.LnTable.{Patterns, ln_rows, b_in}
-use Rattle.entries.specs.Logs.{piece_start, short, close_at, close_at_ends, inverse_nearest, in_steps, log_nearest, ln_row_holds}
+use Rattle.entries.specs.Logs.{piece_start, short, close_at, close_at_ends, inverse_nearest, in_steps, log_nearest}
+use Rattle.entries.specs.Logs.{ln_row_holds}
 use Rattle.entries.proofs.Logs.{logs-nearest}
 use Rattle.entries.proofs.Grows.{grid, above_zero, grid-grows}
 

@@ -3,7 +3,8 @@ use Rattle.meaning.specs.Numbers as number
 use Rattle.meaning.specs.Reply.{Reply, refuse, broken, give}
 use Rattle.routines.specs.Constants as constants
 use Rattle.helpers.specs.declared.shelves.ShelfPart.{ShelfPart}
-use Rattle.models.specs.Parts.{error_number, genome_number, error_of, genome_of, shape_there, shape_number, shape_of, shelf_there, shelf_held}
+use Rattle.models.specs.Parts.{error_number, genome_number, error_of, genome_of, shape_there, shape_number, shape_of}
+use Rattle.models.specs.Parts.{shelf_there, shelf_held}
 use Rattle.models.specs.declared.errors.ErrorParams.{ErrorParams}
 use Rattle.models.specs.declared.fit.SpectrumFit.{SpectrumFit}
 use Rattle.models.specs.declared.height_terms.Heights.{Heights}
@@ -17,7 +18,11 @@ use Rattle.exports.specs.declared.shelf.FlatShelf.{FlatShelf}
 
 -- ---- what C hands in
 abbrev pub errors_of : FlatErrors → ErrorParams
-errors_of e = record { singleton_probability = e.singleton_probability; tail_exponent = e.tail_exponent; weibull_shape = shape_of e.shape_present e.weibull_shape }
+errors_of e = record {
+  singleton_probability = e.singleton_probability;
+  tail_exponent = e.tail_exponent;
+  weibull_shape = shape_of e.shape_present e.weibull_shape;
+}
 
 unfoldable pub fit_of : FlatFit → SpectrumFit
 fit_of f =
@@ -94,5 +99,10 @@ of_fit_answer a = record { number = a.number; fit = of_fit a.fit }
 
 abbrev pub say_heights : Reply Heights → FlatHeights
 say_heights (refuse n) = record { number = n; error = constants.zero; single = constants.zero; repeat = constants.zero }
-say_heights (broken place) = record { number = number.broken_file; error = constants.zero; single = constants.zero; repeat = constants.zero }
+say_heights (broken place) = record {
+  number = number.broken_file;
+  error = constants.zero;
+  single = constants.zero;
+  repeat = constants.zero;
+}
 say_heights (give h) = record { number = 0; error = h.error; single = h.single; repeat = h.repeat }

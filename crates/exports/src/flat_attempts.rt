@@ -101,7 +101,8 @@ pub fn fog_select_fit(
 ) -> FlatSelected
     ensures { result
         ≡ of_selected
-        (select_of (attempt_of_flat first ∷ attempt_of_flat second ∷ attempt_of_flat third ∷ attempt_of_flat fourth ∷ [])) }
+        (select_of (attempt_of_flat first ∷ attempt_of_flat second ∷ attempt_of_flat third ∷ attempt_of_flat fourth ∷
+        [])) }
 {
     let one = attempt_of(first);
     let two = attempt_of(second);

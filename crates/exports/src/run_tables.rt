@@ -113,7 +113,8 @@ pub fn fog_attempt_from_numbers(
         costs.now places.now lengths.now iterations.now
         caps.now) (count_of_runs converged.now costs.now places.now
         lengths.now iterations.now caps.now))) }
-    ensures table_unchanged { drop (stands_from (setup_of scale window_end valley peak error genome mass_limit) result.number)
+    ensures table_unchanged { drop (stands_from (setup_of scale window_end valley peak error genome mass_limit)
+        result.number)
         table.new
         ≡ drop (stands_from (setup_of scale window_end valley peak error genome mass_limit) result.number)
         table.old }

@@ -23,7 +23,8 @@ pub extern "C" fn fog_select_fit(
 ) -> FlatSelected
     ensures { result
         ≡ of_selected
-        (select_of (attempt_of_flat first ∷ attempt_of_flat second ∷ attempt_of_flat third ∷ attempt_of_flat fourth ∷ [])) }
+        (select_of (attempt_of_flat first ∷ attempt_of_flat second ∷ attempt_of_flat third ∷ attempt_of_flat fourth ∷
+        [])) }
 {
     exports::flat_attempts::fog_select_fit(first, second, third, fourth)
 }

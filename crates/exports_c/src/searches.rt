@@ -33,27 +33,32 @@ pub extern "C" fn fog_begin_searches(
     table: &mut [f64],
 ) -> FlatWritten
     ensures value { result
-        ≡ say_written (begin_searches_of bins.now (problem_of scale window_end peak error genome) starts.now (lent_of simplexes.old iterations.old stopped.old
+        ≡ say_written (begin_searches_of bins.now (problem_of scale window_end peak error genome) starts.now (lent_of
+        simplexes.old iterations.old stopped.old
         ready.old table.old)) }
     ensures simplexes_after { simplexes.new
-        ≡ on_give (begin_searches_of bins.now (problem_of scale window_end peak error genome) starts.now (lent_of simplexes.old iterations.old stopped.old
+        ≡ on_give (begin_searches_of bins.now (problem_of scale window_end peak error genome) starts.now (lent_of
+        simplexes.old iterations.old stopped.old
         ready.old table.old)) (simplexes_begun (price_of bins.now
         (problem_of scale window_end peak error genome) (length table.old)) (size_of
         (problem_of scale window_end peak error genome)) starts.now (runs_in
         (problem_of scale window_end peak error genome) starts.now) simplexes.old) simplexes.old }
     ensures iterations_after { iterations.new
-        ≡ on_give (begin_searches_of bins.now (problem_of scale window_end peak error genome) starts.now (lent_of simplexes.old iterations.old stopped.old
+        ≡ on_give (begin_searches_of bins.now (problem_of scale window_end peak error genome) starts.now (lent_of
+        simplexes.old iterations.old stopped.old
         ready.old table.old)) (iterations_begun (runs_in
         (problem_of scale window_end peak error genome) starts.now) iterations.old) iterations.old }
     ensures stopped_after { stopped.new
-        ≡ on_give (begin_searches_of bins.now (problem_of scale window_end peak error genome) starts.now (lent_of simplexes.old iterations.old stopped.old
+        ≡ on_give (begin_searches_of bins.now (problem_of scale window_end peak error genome) starts.now (lent_of
+        simplexes.old iterations.old stopped.old
         ready.old table.old)) (stopped_begun (runs_in
         (problem_of scale window_end peak error genome) starts.now) stopped.old) stopped.old }
     ensures ready_after { ready.new
         ≡ ready_after (problem_of scale window_end peak error genome) (begin_searches_of bins.now (problem_of
         scale window_end peak error genome) starts.now (lent_of simplexes.old
         iterations.old stopped.old ready.old table.old)) ready.old }
-    ensures table_unchanged { drop (stood_from (problem_of scale window_end peak error genome) (begin_searches_of bins.now
+    ensures table_unchanged { drop (stood_from (problem_of scale window_end peak error genome) (begin_searches_of
+        bins.now
         (problem_of scale window_end peak error genome) starts.now (lent_of simplexes.old
         iterations.old stopped.old ready.old table.old))) table.new
         ≡ drop (stood_from (problem_of scale window_end peak error genome) (begin_searches_of bins.now
@@ -89,19 +94,22 @@ pub extern "C" fn fog_run_searches(
     ensures simplexes_after { simplexes.new
         ≡ on_give (run_searches_of bins.now (problem_of scale window_end peak error genome) runs (lent_of
         simplexes.old iterations.old stopped.old ready.old
-        table.old)) (simplexes_after (width_of (problem_of scale window_end peak error genome)) simplexes.old iterations.old stopped.old runs (price_of bins.now
+        table.old)) (simplexes_after (width_of (problem_of scale window_end peak error genome)) simplexes.old
+        iterations.old stopped.old runs (price_of bins.now
         (problem_of scale window_end peak error genome) (length table.old)) (cap_of (genome_of genome))
         limit) simplexes.old }
     ensures iterations_after { iterations.new
         ≡ on_give (run_searches_of bins.now (problem_of scale window_end peak error genome) runs (lent_of
         simplexes.old iterations.old stopped.old ready.old
-        table.old)) (iterations_after (width_of (problem_of scale window_end peak error genome)) simplexes.old iterations.old stopped.old runs (price_of bins.now
+        table.old)) (iterations_after (width_of (problem_of scale window_end peak error genome)) simplexes.old
+        iterations.old stopped.old runs (price_of bins.now
         (problem_of scale window_end peak error genome) (length table.old)) (cap_of (genome_of genome))
         limit) iterations.old }
     ensures stopped_after { stopped.new
         ≡ on_give (run_searches_of bins.now (problem_of scale window_end peak error genome) runs (lent_of
         simplexes.old iterations.old stopped.old ready.old
-        table.old)) (stopped_after (width_of (problem_of scale window_end peak error genome)) simplexes.old iterations.old stopped.old runs (price_of bins.now
+        table.old)) (stopped_after (width_of (problem_of scale window_end peak error genome)) simplexes.old
+        iterations.old stopped.old runs (price_of bins.now
         (problem_of scale window_end peak error genome) (length table.old)) (cap_of (genome_of genome))
         limit) stopped.old }
     ensures ready_after { ready.new
@@ -140,15 +148,19 @@ pub extern "C" fn fog_report_searches(
         iterations.now stopped.now converged.old costs.old
         places.old lengths.old caps.old)) }
     ensures converged_after { converged.new
-        ≡ on_give (report_of (error_of error) (genome_of genome) runs (columns_of simplexes.now iterations.now stopped.now converged.old costs.old places.old lengths.old caps.old)) (over (list_of (λ (i : ℕ). byte_of (reported_at (error_of error)
+        ≡ on_give (report_of (error_of error) (genome_of genome) runs (columns_of simplexes.now iterations.now
+        stopped.now converged.old costs.old places.old lengths.old caps.old)) (over (list_of (λ (i : ℕ). byte_of
+        (reported_at (error_of error)
         (genome_of genome) runs simplexes.now iterations.now stopped.now i
         ).converged) runs) converged.old) converged.old }
     ensures costs_after { costs.new
-        ≡ on_give (report_of (error_of error) (genome_of genome) runs (columns_of simplexes.now iterations.now stopped.now converged.old costs.old places.old lengths.old caps.old)) (over (list_of (λ (i : ℕ). (reported_at
+        ≡ on_give (report_of (error_of error) (genome_of genome) runs (columns_of simplexes.now iterations.now
+        stopped.now converged.old costs.old places.old lengths.old caps.old)) (over (list_of (λ (i : ℕ). (reported_at
         (error_of error) (genome_of genome) runs simplexes.now iterations.now
         stopped.now i).cost) runs) costs.old) costs.old }
     ensures places_after { places.new
-        ≡ on_give (report_of (error_of error) (genome_of genome) runs (columns_of simplexes.now iterations.now stopped.now converged.old costs.old places.old lengths.old caps.old)) (over (list_of (λ (i : ℕ). (reported_at
+        ≡ on_give (report_of (error_of error) (genome_of genome) runs (columns_of simplexes.now iterations.now
+        stopped.now converged.old costs.old places.old lengths.old caps.old)) (over (list_of (λ (i : ℕ). (reported_at
         (error_of error) (genome_of genome) runs simplexes.now iterations.now
         stopped.now i).place) runs) places.old) places.old }
     ensures lengths_after { lengths.new
@@ -157,7 +169,9 @@ pub extern "C" fn fog_report_searches(
         places.old lengths.old caps.old)) (over (list_of
         (λ (i : ℕ). list_length_of (error_of error) (genome_of genome)) runs) lengths.old) lengths.old }
     ensures caps_after { caps.new
-        ≡ on_give (report_of (error_of error) (genome_of genome) runs (columns_of simplexes.now iterations.now stopped.now converged.old costs.old places.old lengths.old caps.old)) (over (list_of (λ (i : ℕ). byte_of (reported_at (error_of error)
+        ≡ on_give (report_of (error_of error) (genome_of genome) runs (columns_of simplexes.now iterations.now
+        stopped.now converged.old costs.old places.old lengths.old caps.old)) (over (list_of (λ (i : ℕ). byte_of
+        (reported_at (error_of error)
         (genome_of genome) runs simplexes.now iterations.now stopped.now i
         ).hit_cap) runs) caps.old) caps.old }
 {

@@ -36,4 +36,3 @@ pub mod KeptRuns
 pub mod RunFits
 pub mod KeptFit
 pub mod AnyTable
-pub mod SaidFacts

@@ -9,7 +9,8 @@ use Rattle.models.specs.declared.families.ErrorModel.TheVariants.{SingletonParet
 use Rattle.models.specs.declared.families.GenomeModel.{GenomeModel}
 use Rattle.models.specs.declared.families.GenomeModel.TheVariants.{NegativeBinomial, ShelfNegativeBinomial}
 use Rattle.fitter.specs.InTurn.{in_turn}
-use Rattle.fitter.specs.Starts.{plain_start, shelf_start, error_start_at, row_starts, table_starts, seed_starts, all_starts}
+use Rattle.fitter.specs.Starts.{plain_start, shelf_start, error_start_at, row_starts, table_starts, seed_starts}
+use Rattle.fitter.specs.Starts.{all_starts}
 use Rattle.fitter.specs.Starts.{hint_of, starts_of}
 use Rattle.fitter.specs.declared.start_writers.ErrorStart.{ErrorStart}
 

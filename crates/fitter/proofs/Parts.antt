@@ -15,7 +15,8 @@ use Rattle.models.specs.declared.families.ErrorModel.TheVariants.{FreeSingletonW
 use Rattle.models.specs.declared.families.GenomeModel.{GenomeModel}
 use Rattle.models.specs.declared.families.GenomeModel.TheVariants.{NegativeBinomial, ShelfNegativeBinomial}
 use Rattle.models.specs.declared.shelf_rules.Bounds.{Bounds}
-use Rattle.fitter.specs.Starts.{logit_of, dispersion_start, ratio_start, pareto_list, weibull_list, plain_start, shelf_list}
+use Rattle.fitter.specs.Starts.{logit_of, dispersion_start, ratio_start, pareto_list, weibull_list, plain_start}
+use Rattle.fitter.specs.Starts.{shelf_list}
 use Rattle.fitter.specs.Starts.{shelf_start, per_row, row_starts, table_starts, seed_starts, all_starts, error_start_at}
 use Rattle.fitter.specs.declared.start_writers.ErrorStart.{ErrorStart}
 use Rattle.fitter.specs.declared.start_writers.ShelfShape.{ShelfShape}

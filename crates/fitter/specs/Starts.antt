@@ -1,6 +1,7 @@
 -- Every start of a search, as spectrum_fitter.rs has it, operation by operation: the seeds and then the hint, for each
 -- of them the error starts of a table, and for each of those the shelf's shapes. Definitions only. Assumes nothing.
-use Rattle.std.specs.Prelude.{ℕ, ◌+◌, ◌*◌, ◌/◌, ◌%◌, ◌≡◌, ◌&&◌, not, cond, List, [], ◌∷◌, ◌++◌, eqb, length, get_or, Float}
+use Rattle.std.specs.Prelude.{ℕ, ◌+◌, ◌*◌, ◌/◌, ◌%◌, ◌≡◌, ◌&&◌, not, cond, List, [], ◌∷◌, ◌++◌, eqb, length, get_or}
+use Rattle.std.specs.Prelude.{Float}
 use Rattle.std.specs.Float.{nan}
 use Rattle.std.specs.Float.Ieee.{neg, lt}
 use Rattle.std.specs.Float.Ieee.Scale.{finite}
@@ -66,7 +67,11 @@ shelf_list share s =
 -- row i of a table of error starts
 abbrev pub error_start_at : List Float → ℕ → ErrorStart
 error_start_at table i =
-    record { tail = get_or table (3 * i) nan; single = get_or table (3 * i + 1) nan; shape = get_or table (3 * i + 2) nan }
+    record {
+      tail = get_or table (3 * i) nan;
+      single = get_or table (3 * i + 1) nan;
+      shape = get_or table (3 * i + 2) nan;
+    }
 
 -- pair j of the shelf's shapes
 abbrev pub shape_at : List Float → ℕ → ShelfShape

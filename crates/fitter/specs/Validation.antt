@@ -1,7 +1,8 @@
 -- Our validator, as document 01 has it under "Attempts and selection": ten rules by its numbers, each a definition of its
 -- own, and the first that applies. A fit's three of a kind are the errors', the single copies' and the repeats'.
 -- Definitions only. Assumes nothing.
-use Rattle.std.specs.Prelude.{ℕ, zero, suc, ◌≡◌, Bool, true, false, not, ◌&&◌, ◌||◌, List, [], ◌∷◌, eqb, ltb, get_or, Float}
+use Rattle.std.specs.Prelude.{ℕ, zero, suc, ◌≡◌, Bool, true, false, not, ◌&&◌, ◌||◌, List, [], ◌∷◌, eqb, ltb, get_or}
+use Rattle.std.specs.Prelude.{Float}
 use Rattle.std.specs.Float.{nan}
 use Rattle.std.specs.Float.Ieee.{lt, le, ne}
 use Rattle.std.specs.Float.Ieee.Scale.{finite}

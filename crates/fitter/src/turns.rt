@@ -148,7 +148,8 @@ pub(crate) fn turn(
 ) -> Turns
     requires { t.next < t.runs }
     ensures value { result ≡ turn_of bins.now setup lists.now (length table.old) (run_from lent) t }
-    ensures table_unchanged { drop (turn_stands setup t result) table.new ≡ drop (turn_stands setup t result) table.old }
+    ensures table_unchanged { drop (turn_stands setup t result) table.new ≡ drop (turn_stands setup t result)
+        table.old }
 {
     let run = run_of(lent);
     if t.surveyed {

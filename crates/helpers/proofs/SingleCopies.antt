@@ -8,7 +8,8 @@ use Rattle.routines.specs.Ops.{◌⊕◌}
 use Rattle.helpers.specs.Hoists.{lobe_of, density_of, density_with}
 use Rattle.helpers.specs.Lobes.{ln_dnbinom_of}
 use Rattle.helpers.specs.Shelves.{ln_dbetabinom_of, ln_single_copy_of}
-use Rattle.helpers.specs.SingleCopies.{beta_binomial_of, beta_density_of, single_copy_of, single_density_with, single_density_of}
+use Rattle.helpers.specs.SingleCopies.{beta_binomial_of, beta_density_of, single_copy_of, single_density_with}
+use Rattle.helpers.specs.SingleCopies.{single_density_of}
 use Rattle.helpers.specs.declared.shelves.ShelfPart.{ShelfPart}
 use Rattle.helpers.specs.declared.shelves.ShelfPart.TheVariants.{Absent, Present}
 use Rattle.helpers.proofs.Densities.{density-is}

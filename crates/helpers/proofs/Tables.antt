@@ -18,7 +18,8 @@ use Rattle.meaning.proofs.Overs.{over-next, over_none}
 use Rattle.routines.specs.Ops.{◌⊕◌, of_count}
 use Rattle.routines.specs.Pick.{min_of}
 use Rattle.routines.proofs.Counts.{count-is}
-use Rattle.helpers.specs.Shelves.{table_start, table_step, table_of, entry_of, next_entry, last_of, shelf_trials_of, shelf_log_table_of, table_after}
+use Rattle.helpers.specs.Shelves.{table_start, table_step, table_of, entry_of, next_entry, last_of, shelf_trials_of}
+use Rattle.helpers.specs.Shelves.{shelf_log_table_of, table_after}
 use Rattle.helpers.specs.declared.shelves.Shelf.{Shelf}
 
 -- ---- how many entries

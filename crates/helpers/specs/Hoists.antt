@@ -26,7 +26,15 @@ poisson_of mean =
 abbrev pub binomial_with : Float → Float → Float → Float → Lobe
 binomial_with mean dispersion log_p log_q =
     let r = size_of mean dispersion in
-    record { poisson = false; mean = mean; rate = zero; size = r; gamma = lgamma_of r; start = r ⊗ log_p; slope = log_q }
+    record {
+      poisson = false;
+      mean = mean;
+      rate = zero;
+      size = r;
+      gamma = lgamma_of r;
+      start = r ⊗ log_p;
+      slope = log_q;
+    }
 
 abbrev pub binomial_of : Float → Float → Lobe
 binomial_of mean dispersion = binomial_with mean dispersion (neg (ln_of dispersion)) (log_QOf dispersion)

@@ -2,7 +2,8 @@
 // Ported from src/preprocessing/math_helpers.rs of bacpop/sparrowhawk-asm, f1f8af1232, Apache-2.0; ported and changed.
 ghost use Rattle.std.specs.Prelude.{◌≡◌};
 ghost use Rattle.helpers.specs.Answers.{number_says};
-ghost use Rattle.helpers.specs.Masses.{poisson_mass_of, binomial_mass_of, log_nb_mass_to, log_nb_mass_of, shelf_mass_of};
+ghost use Rattle.helpers.specs.Masses.{poisson_mass_of, binomial_mass_of, log_nb_mass_to, log_nb_mass_of};
+ghost use Rattle.helpers.specs.Masses.{shelf_mass_of};
 ghost use Rattle.helpers.specs.Masses.{single_copy_mass_to, single_copy_log_mass_of};
 
 use crate::answers::Number;

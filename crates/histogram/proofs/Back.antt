@@ -97,7 +97,13 @@ next-or-broken stage start short bytes b = ⊎_elim (λ (w : Starts (range_of st
     next : Starts (range_of stage) 0 0 bytes → Next stage start bytes
     next w =
         let i : In (range_of stage) w.r = rw first-value at w.inside in
-        record { n = w.r; rest = w.rest; parts = w.parts; inside = i; on = ap (steps_of (reading stage start 0 0)) w.parts ∙ number_read stage start w.r w.rest i }
+        record {
+          n = w.r;
+          rest = w.rest;
+          parts = w.parts;
+          inside = i;
+          on = ap (steps_of (reading stage start 0 0)) w.parts ∙ number_read stage start w.r w.rest i;
+        }
 
 -- where the file is accepted, a number comes
 pub next-number : (stage : Stage) (start : ℕ) → ends_of stage start ≡ broken start → (bytes xs : List ℕ) → Below 256 bytes → end_of (steps_of (reading stage start 0 0) bytes) ≡ give xs → Next stage start bytes

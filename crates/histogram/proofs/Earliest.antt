@@ -11,7 +11,8 @@ use Rattle.meaning.specs.Reply.{broken, give}
 use Rattle.histogram.specs.declared.number.Taken.{Taken}
 use Rattle.histogram.specs.declared.number.Taken.TheVariants.{More, Whole, Wrong}
 use Rattle.histogram.specs.Number.{with_group, take_byte_of, numbers_bytes}
-use Rattle.histogram.specs.File.{most_bins, Stage, form, count, bins, range_of, next_of, State, reading, stopped, goes_on, step_of, steps_of, ends_of, end_of, read_of}
+use Rattle.histogram.specs.File.{most_bins, Stage, form, count, bins, range_of, next_of, State, reading, stopped}
+use Rattle.histogram.specs.File.{goes_on, step_of, steps_of, ends_of, end_of, read_of}
 use Rattle.histogram.specs.Claims.{Below, Allowed, behind, Continues, Stops}
 use Rattle.histogram.proofs.Tests.{below_or}
 use Rattle.histogram.proofs.Weights.{weight-mono}
@@ -95,7 +96,12 @@ ends-inside stage start value groups g h =
     let l = low-least stage in
     let t : take_byte_of (range_of stage) value groups 1 ≡ Whole n = takes.ends (range_of stage) value groups 1 (omega arith) (λ z _. one_not_zero z) (omega arith) (omega arith) in
     let w = ends-from (next_of stage n) (start + suc groups) in
-    record { bytes = 1 ∷ w.bytes; are = (omega arith, w.are); xs = w.xs; accepted = ap end_of (one-step stage start value groups 1 w.bytes (Whole n) t) ∙ w.accepted }
+    record {
+      bytes = 1 ∷ w.bytes;
+      are = (omega arith, w.are);
+      xs = w.xs;
+      accepted = ap end_of (one-step stage start value groups 1 w.bytes (Whole n) t) ∙ w.accepted;
+    }
 
 ends-good : (stage : Stage) (start value groups : ℕ) → Good (reading stage start value groups) → Ends (reading stage start value groups)
 ends-good stage start value groups g =

@@ -5,7 +5,8 @@ use Prim.Native.Nat.{◌-◌, ◌^◌}
 use lib.ListN.{replicate}
 use Rattle.meaning.specs.Reply.{broken, give}
 use Rattle.histogram.specs.Number.{groups_of, number_bytes, numbers_bytes, take_byte_of}
-use Rattle.histogram.specs.File.{most_bins, range_of, next_of, step_of, steps_of, ends_of, read_of, write_of, reading, stopped, bins, form}
+use Rattle.histogram.specs.File.{most_bins, range_of, next_of, step_of, steps_of, ends_of, read_of, write_of, reading}
+use Rattle.histogram.specs.File.{stopped, bins, form}
 use Rattle.histogram.specs.Claims.{Rows}
 
 reads : Rows (

@@ -11,7 +11,8 @@ use Rattle.meaning.proofs.Replies.{same_place, answer-not-broken}
 use Rattle.histogram.specs.declared.number.Taken.{Taken}
 use Rattle.histogram.specs.declared.number.Taken.TheVariants.{More, Whole, Wrong}
 use Rattle.histogram.specs.Number.{take_byte_of, number_bytes, numbers_bytes}
-use Rattle.histogram.specs.File.{Stage, form, count, bins, range_of, next_of, reading, steps_of, ends_of, end_of, read_of}
+use Rattle.histogram.specs.File.{Stage, form, count, bins, range_of, next_of, reading, steps_of, ends_of, end_of}
+use Rattle.histogram.specs.File.{read_of}
 use Rattle.histogram.specs.Claims.{Below, Allowed, behind, Complete, None, FirstFault}
 use Rattle.histogram.proofs.Takes.{none-comes}
 use Rattle.histogram.proofs.Groups.{bytes-some}
@@ -105,7 +106,15 @@ module _ (stage : Stage) (start : ℕ) (bytes : List ℕ) (place : ℕ) (e : end
   -- no number comes
   here : place ≡ start → (bytes ≡ [] → Complete stage → ⊥) → FaultFrom stage start bytes place
   unfolding numbers_bytes
-  here p more = record { numbers = []; rest = bytes; parts = refl; allowed = tt; at = p ∙ sym (add-zero start); none = no_number; more = more }
+  here p more = record {
+    numbers = [];
+    rest = bytes;
+    parts = refl;
+    allowed = tt;
+    at = p ∙ sym (add-zero start);
+    none = no_number;
+    more = more;
+  }
     where
       no_number : None (range_of stage) bytes
       no_number n rest i q =
@@ -168,4 +177,12 @@ pub refused-fault : (file : List ℕ) (place : ℕ) → Below 256 file → read_
 unfolding read_of
 refused-fault file place b e =
     let f = find place (length file) form 0 file (le_refl (length file)) b e in
-    record { numbers = f.numbers; rest = f.rest; parts = f.parts; allowed = f.allowed; start = f.at ∙ zero-add (length (numbers_bytes f.numbers)); none = f.none; more = f.more }
+    record {
+      numbers = f.numbers;
+      rest = f.rest;
+      parts = f.parts;
+      allowed = f.allowed;
+      start = f.at ∙ zero-add (length (numbers_bytes f.numbers));
+      none = f.none;
+      more = f.more;
+    }

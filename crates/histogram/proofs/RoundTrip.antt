@@ -9,7 +9,8 @@ use Rattle.meaning.specs.Reply.{give}
 use Rattle.meaning.proofs.Replies.{same_answer, answer-not-broken}
 use Rattle.histogram.specs.declared.number.Taken.TheVariants.{Wrong}
 use Rattle.histogram.specs.Number.{number_bytes, numbers_bytes}
-use Rattle.histogram.specs.File.{Stage, form, count, bins, range_of, next_of, reading, steps_of, ends_of, end_of, read_of, write_of}
+use Rattle.histogram.specs.File.{Stage, form, count, bins, range_of, next_of, reading, steps_of, ends_of, end_of}
+use Rattle.histogram.specs.File.{read_of, write_of}
 use Rattle.histogram.specs.Claims.{Below, Histogram}
 use Rattle.histogram.proofs.Forth.{numbers-read}
 use Rattle.histogram.proofs.Takes.{none-comes}
@@ -38,7 +39,13 @@ record Bins (left : ℕ) (done bytes xs : List ℕ) : Type 0 where
 
 bins-back : (left : ℕ) (done : List ℕ) (start : ℕ) (bytes xs : List ℕ) → Below 256 bytes → end_of (steps_of (reading (bins left done) start 0 0) bytes) ≡ give xs → Bins left done bytes xs
 unfolding steps_of ends_of range_of next_of numbers_bytes
-bins-back zero done start [] xs b e = record { ys = []; many = refl; fit = tt; all = sym (same_answer e) ∙ sym (append-nil done); written = refl }
+bins-back zero done start [] xs b e = record {
+  ys = [];
+  many = refl;
+  fit = tt;
+  all = sym (same_answer e) ∙ sym (append-nil done);
+  written = refl;
+}
 bins-back zero done start (x ∷ bytes) xs b e = absurd (answer-not-broken (sym e ∙ ap end_of (one-step (bins 0 done) start 0 0 x bytes Wrong (none-comes 0 0 x) ∙ stays-stopped start bytes)))
 bins-back (suc left) done start bytes xs b e =
     let w = next-number (bins (suc left) done) start refl bytes xs b e in

@@ -12,7 +12,8 @@ use Rattle.meaning.proofs.Replies.{same_answer, same_place, answer-not-refused, 
 use Rattle.histogram.specs.declared.number.Taken.{Taken}
 use Rattle.histogram.specs.declared.number.Taken.TheVariants.{More, Whole, Wrong}
 use Rattle.histogram.specs.Number.{Found, take_byte_of, found_by, number_from, number_at_of}
-use Rattle.histogram.specs.File.{Stage, form, count, bins, range_of, next_of, State, reading, stopped, goes_on, step_of, steps_of, ends_of, end_of, read_from}
+use Rattle.histogram.specs.File.{Stage, form, count, bins, range_of, next_of, State, reading, stopped, goes_on}
+use Rattle.histogram.specs.File.{step_of, steps_of, ends_of, end_of, read_from}
 use Rattle.histogram.proofs.Takes as takes
 
 -- ---- a part of a file after another
@@ -57,7 +58,13 @@ whole-number stage start value groups (b ∷ bytes) f e =
         → found_by t start (start + suc groups) (λ v. number_from (range_of stage) start v (suc groups) bytes) ≡ give f → Reads stage start value groups (b ∷ bytes) f
     go (More v) q ih h =
         let w = ih v h in
-        record { k = suc w.k; behind = w.behind ∙ moved w.k; low = w.low; high = w.high; steps = one-step stage start value groups b bytes (More v) q ∙ w.steps }
+        record {
+          k = suc w.k;
+          behind = w.behind ∙ moved w.k;
+          low = w.low;
+          high = w.high;
+          steps = one-step stage start value groups b bytes (More v) q ∙ w.steps;
+        }
     go (Whole n) q ih h =
         let s : ◌≡◌ {A = Found} (record { value = n; next = start + suc groups }) f = same_answer h in
         let t = takes.tells (range_of stage) value groups b (Whole n) q in
@@ -107,7 +114,11 @@ module _ (stage : Stage) (file : List ℕ) (at : ℕ) where
   goes f e =
       let w = whole-number stage at 0 0 (drop at file) f e in
       let d : drop w.k (drop at file) ≡ drop f.next file = drop-drop w.k at file ∙ ap (λ (n : ℕ). drop n file) (sym (w.behind ∙ ap (λ (n : ℕ). n + w.k) (add-zero at))) in
-      record { low = w.low; high = w.high; on = ap end_of (w.steps ∙ ap (steps_of (reading (next_of stage f.value) f.next 0 0)) d) }
+      record {
+        low = w.low;
+        high = w.high;
+        on = ap end_of (w.steps ∙ ap (steps_of (reading (next_of stage f.value) f.next 0 0)) d);
+      }
 
   pub breaks : (place : ℕ) → ends_of stage at ≡ broken at → number_at_of (range_of stage) file at ≡ broken place → read_from stage file at ≡ broken at
   unfolding number_at_of read_from

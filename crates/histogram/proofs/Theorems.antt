@@ -15,7 +15,8 @@ use Rattle.histogram.specs.declared.number.Number.{Number}
 use Rattle.histogram.specs.Number.{Found, number_says, number_bytes, numbers_bytes}
 use Rattle.histogram.specs.File.{State, form, range_of, reading, stopped, steps_of, read_of, write_of}
 use Rattle.histogram.specs.Read.{file_says}
-use Rattle.histogram.specs.Claims.{Below, Histogram, Continued, In, Allowed, behind, Complete, FirstFault, longest_file, Continues, Stops}
+use Rattle.histogram.specs.Claims.{Below, Histogram, Continued, In, Allowed, behind, Complete, FirstFault}
+use Rattle.histogram.specs.Claims.{longest_file, Continues, Stops}
 use Rattle.histogram.proofs.Steps as steps
 use Rattle.histogram.proofs.RoundTrip as round_trip
 use Rattle.histogram.proofs.Places as places

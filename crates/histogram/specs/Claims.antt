@@ -3,7 +3,8 @@
 use Rattle.std.specs.Prelude.{ℕ, zero, suc, ◌+◌, ◌*◌, ◌^◌, ◌≤◌, ◌<◌, ◌≡◌, List, [], ◌∷◌, ◌++◌, length}
 use Rattle.meaning.specs.Reply.{Reply, give}
 use Rattle.histogram.specs.Number.{Range, number_bytes, numbers_bytes}
-use Rattle.histogram.specs.File.{most_bins, Stage, form, count, bins, range_of, next_of, reading, stopped, steps_of, read_of}
+use Rattle.histogram.specs.File.{most_bins, Stage, form, count, bins, range_of, next_of, reading, stopped, steps_of}
+use Rattle.histogram.specs.File.{read_of}
 
 -- each number of a list is below m: a file is a list of bytes, `Below 256`
 abbrev pub Below : ℕ → List ℕ → Type 0

@@ -110,7 +110,8 @@ fn read_bins(file: &[u8], first: usize, n: usize, held: &mut [u32]) -> FileRead
 // 10 where there is no room for the bins.
 fn in_room(read: FileRead, room: usize) -> FileRead
     ensures result_bound { kept_of result ≤ kept_of read }
-    ensures by_index { (held : List ℕ) → kept_of read ≤ length held → held_says result held ≡ fits_in room (held_says read held) }
+    ensures by_index { (held : List ℕ) → kept_of read ≤ length held → held_says result held ≡ fits_in room (held_says
+        read held) }
 {
     match read {
         FileRead::Bins(n) => {

@@ -21,7 +21,8 @@ use Rattle.histogram.specs.Read.{fits_in, read_histogram_of}
 use Rattle.meaning.specs.Answers.{written_says}
 use Rattle.meaning.proofs.Overs.{over-length}
 use Rattle.histogram.proofs.Theorems.{accepted-holds, never-refused}
-use Rattle.listing.specs.Listing.{listed_of, list_of, listing_of, refusal_of, list_histogram_of, list_refusal_of, longest_listing}
+use Rattle.listing.specs.Listing.{listed_of, list_of, listing_of, refusal_of, list_histogram_of, list_refusal_of}
+use Rattle.listing.specs.Listing.{longest_listing}
 use Rattle.listing.proofs.Longest.{listing-fits, refusal-fits}
 use Rattle.listing.proofs.Refusals.{lists, line-written}
 use Rattle.list.specs.Items.{items_of}
@@ -41,7 +42,12 @@ bins-fit room n (give ys) e = tested (ltb room (length ys)) refl e
   where
     tested : (t : Bool) → ltb room (length ys) ≡ t → give n ≡ counted (unless t 10 (give ys)) → Read (give ys) room n
     tested true q h = absurd (answer-not-refused h)
-    tested false q h = record { xs = ys; is = refl; many = sym (same_answer h); fitted = ap (λ (t : Bool). unless t 10 (give ys)) q }
+    tested false q h = record {
+      xs = ys;
+      is = refl;
+      many = sym (same_answer h);
+      fitted = ap (λ (t : Bool). unless t 10 (give ys)) q;
+    }
 
 place-fits : (room place : ℕ) (x : Reply (List ℕ)) → broken place ≡ counted (fits_in room x) → x ≡ broken place
 place-fits room place (refuse k) e = absurd (refused-not-broken (sym e))

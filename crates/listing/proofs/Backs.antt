@@ -17,7 +17,12 @@ pub record Backing (bytes b out front : List ℕ) (at : ℕ) : Type 0 where
 
 module _ (bytes b : List ℕ) (h : length bytes ≤ length b) where
   pub begins : Backing bytes b b bytes (length bytes)
-  begins = record { done = []; ahead = refl; whole = sym (append-nil bytes); held = sym (take-append-drop (length bytes) b) }
+  begins = record {
+    done = [];
+    ahead = refl;
+    whole = sym (append-nil bytes);
+    held = sym (take-append-drop (length bytes) b);
+  }
 
   module _ (out : List ℕ) (at : ℕ) where
     -- what is to come lies in front

@@ -16,7 +16,13 @@ module _ (xs rest b : List ℕ) (h : length (xs ++ rest) ≤ length b) where
   -- the first bytes are put
   module _ (out : List ℕ) (k : ℕ) (many : k ≡ length xs) (held : out ≡ over xs b) where
     pub starts : Putting (xs ++ rest) b out rest k
-    starts = record { done = xs; behind = sym many; whole = refl; same = ap length held ∙ over-length xs b first_fits; held = held }
+    starts = record {
+      done = xs;
+      behind = sym many;
+      whole = refl;
+      same = ap length held ∙ over-length xs b first_fits;
+      held = held;
+    }
 
     -- the rest is put by a writer that is lent the rest of the memory
     to-come : Putting (xs ++ rest) b out (rest ++ []) k

@@ -8,11 +8,13 @@ use native.Mathlib.Omega.{arith}
 use borrow.Author.Tests.{ltb-true, lt-ltb}
 use lib.IntN.{ℤ}
 use lib.Dec.{T, lit≤}
-use lib.Ieee.{Float, nan, inf, fin, binary64, up, down, of_bits, neg, add, sub, sum, round, lt, le, eq, is_nan, fits, of_int}
+use lib.Ieee.{Float, nan, inf, fin, binary64, up, down, of_bits, neg, add, sub, sum, round, lt, le, eq, is_nan, fits}
+use lib.Ieee.{of_int}
 use lib.Ieee.Fits.{add-fits, cond-fits, inf-fits, nan-fits, down_pos}
 use lib.Ieee.Order.{round_mono}
 use Rattle.routines.specs.Constants.{one, zero as nought}
-use Rattle.routines.specs.Ln.{ln_of, ln_core, beside_zero, not_above_zero, NORMAL, LARGEST, SCALE, OFFSET, SCALED_OFFSET}
+use Rattle.routines.specs.Ln.{ln_of, ln_core, beside_zero, not_above_zero, NORMAL, LARGEST, SCALE, OFFSET}
+use Rattle.routines.specs.Ln.{SCALED_OFFSET}
 use Rattle.routines.specs.Ops.{◌⊕◌, ◌⊖◌, ◌⊗◌, of_count}
 use Rattle.routines.proofs.AnnexF.{ln-below-zero}
 use Rattle.routines.proofs.Orders.{one-above-zero}

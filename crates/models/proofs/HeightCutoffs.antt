@@ -14,7 +14,8 @@ use Rattle.models.specs.declared.fit.SpectrumFit.{SpectrumFit}
 use Rattle.models.specs.declared.height_terms.HeightTerms.{HeightTerms}
 use Rattle.models.specs.declared.height_terms.Heights.{Heights}
 use Rattle.models.proofs.HeightTerms.{terms-error, terms-single, terms-heights}
-use Rattle.models.specs.HeightCutoffs.{heights_in, outgrows, crossing_from, crossing_of, errors_in, reference_of, last_bad_of}
+use Rattle.models.specs.HeightCutoffs.{heights_in, outgrows, crossing_from, crossing_of, errors_in, reference_of}
+use Rattle.models.specs.HeightCutoffs.{last_bad_of}
 
 -- ---- the crossing
 one_left : (n c : ℕ) → c < n → n - c ≡ suc (n - (c + 1))

@@ -6,7 +6,8 @@ use Rattle.helpers.specs.SingleCopies.{single_density_of}
 use Rattle.helpers.proofs.SingleCopies.{lobe-density-is, single-density-is}
 use Rattle.models.specs.Errors.{log_probability_of}
 use Rattle.models.specs.Heights.{height_of, heights_at}
-use Rattle.models.specs.HeightTerms.{height_terms_of, error_height_from, error_height_of, single_height_with, single_height_of, repeat_height_with, repeat_height_of, heights_of}
+use Rattle.models.specs.HeightTerms.{height_terms_of, error_height_from, error_height_of, single_height_with}
+use Rattle.models.specs.HeightTerms.{single_height_of, repeat_height_with, repeat_height_of, heights_of}
 use Rattle.models.specs.Hoists.{log_probability_between}
 use Rattle.models.specs.declared.fit.SpectrumFit.{SpectrumFit}
 

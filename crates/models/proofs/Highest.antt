@@ -5,7 +5,8 @@ use mathlib.Core.Path.{◌≡◌, refl, sym, ap, ◌∙◌, subst}
 use mathlib.Core.Bool.{Bool, true, false, not, ◌&&◌, ◌||◌, beq, cond, or-true, true≢false, false≢true}
 use mathlib.Core.List.{[], ◌∷◌, ◌++◌}
 use mathlib.Core.Logic.{◌⊎◌, inl, inr}
-use native.Mathlib.Nat.{le_trans, le_refl, lt_of_le_of_lt, le-suc, le_of_suc-le-suc, eq-or-lt_of_le, lt_of_lt_of_le, le_of_lt, le_of_eq}
+use native.Mathlib.Nat.{le_trans, le_refl, lt_of_le_of_lt, le-suc, le_of_suc-le-suc, eq-or-lt_of_le, lt_of_lt_of_le}
+use native.Mathlib.Nat.{le_of_lt, le_of_eq}
 use native.Mathlib.Omega.{arith}
 use borrow.Author.Tests.{le-ltb, eq-eqb, ne_eqb, ltb-true, ltb-false, eqb-false}
 use lib.Dec.{T, ltb, eqb, lit≤}

@@ -2,7 +2,6 @@
 pub mod WordsBack
 pub mod Lengths
 pub mod Loops
-pub mod Both
 pub mod Points
 pub mod HeightTerms
 pub mod HeightRows

@@ -9,7 +9,8 @@ use native.Mathlib.Omega.{arith}
 use borrow.Author.Tests.{ltb-true, ltb-false, lt-ltb, le-ltb, eq-eqb, ne_eqb}
 use lib.Dec.{T, ltb, eqb, eqb→eq}
 use lib.IntN.{ℤ, pos}
-use lib.Ieee.{Float, nan, inf, fin, binary64, up, down, below, level, sum, neg, lt, le, eq, ne, is_nan, of_bits, add, sub, round, fits}
+use lib.Ieee.{Float, nan, inf, fin, binary64, up, down, below, level, sum, neg, lt, le, eq, ne, is_nan, of_bits, add}
+use lib.Ieee.{sub, round, fits}
 use lib.Ieee.Compare.{differs_from_itself}
 use lib.Ieee.Fits.{down_pos, add-fits, and_l}
 use Rattle.routines.specs.Constants.{one, minus_one, zero as nought}

@@ -16,7 +16,8 @@ use Rattle.models.specs.Costs.{cost_with, table_with, cost_at, table_at, cost_of
 use Rattle.models.specs.Masses.{entries_of}
 use Rattle.models.specs.Params.{params_of}
 use Rattle.models.specs.Recovery.{used_scale_of}
-use Rattle.models.specs.Refusals.{all_zero, none_recovered, wrong_list, table_demand, short_table, spectrum_tests, fit_tests}
+use Rattle.models.specs.Refusals.{all_zero, none_recovered, wrong_list, table_demand, short_table, spectrum_tests}
+use Rattle.models.specs.Refusals.{fit_tests}
 use Rattle.models.specs.Spectra.{none_recovered_of}
 use Rattle.models.specs.Tables.{entries_in}
 use Rattle.models.specs.declared.families.ErrorModel.{ErrorModel}

@@ -18,7 +18,8 @@ use Rattle.helpers.proofs.Densities.{density-is}
 use Rattle.helpers.proofs.Ready.{Ready, nothing-ready, gamma-with-is, density-with-is}
 use Rattle.helpers.proofs.Ready.{lobe-mass-is, mix-at-is, mix-mass-is}
 use Rattle.models.specs.Errors.{survival_of, ln_tail_of, log_probability_of, log_window_mass_to}
-use Rattle.models.specs.Hoists.{survival_with, log_probability_between, window_mass_with, steady_of, masses_at, ahead_of}
+use Rattle.models.specs.Hoists.{survival_with, log_probability_between, window_mass_with, steady_of, masses_at}
+use Rattle.models.specs.Hoists.{ahead_of}
 use Rattle.models.specs.Hoists.{after_of, point_from, point_at, point_term_at, likelihood_at}
 use Rattle.models.specs.Likelihoods.{point_with, point_of, point_term, likelihood_of}
 use Rattle.models.specs.Masses.{window_masses_of}

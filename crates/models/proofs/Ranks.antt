@@ -4,7 +4,9 @@
 use Prim.Native.Nat.{ℕ, zero, suc, ◌+◌, ◌-◌, ◌*◌, ◌^◌, ◌≤◌, ◌<◌, zero-le}
 use mathlib.Core.Path.{◌≡◌, refl, sym, ap, ◌∙◌, subst}
 use mathlib.Core.Bool.{Bool, true, false, not, ◌&&◌, ◌||◌, cond, true≢false, false≢true}
-use native.Mathlib.Nat.{zero-lt-suc, le_refl, le_trans, le_of_lt, mul-le-mul_right, le_of_mul-le-mul_right, mul-pos, mul_comm, mul_assoc, mul_right_comm, lt_of_mul-lt-mul_right, eq_of_mul-eq-mul_right, mul-lt-mul_of_pos_right, lt_of_le_of_lt, lt_of_lt_of_le, le_of_eq}
+use native.Mathlib.Nat.{zero-lt-suc, le_refl, le_trans, le_of_lt, mul-le-mul_right, le_of_mul-le-mul_right, mul-pos}
+use native.Mathlib.Nat.{mul_comm, mul_assoc, mul_right_comm, lt_of_mul-lt-mul_right, eq_of_mul-eq-mul_right}
+use native.Mathlib.Nat.{mul-lt-mul_of_pos_right, lt_of_le_of_lt, lt_of_lt_of_le, le_of_eq}
 use native.Mathlib.Omega.{arith}
 use borrow.Author.Tests.{ltb-true, ltb-false, eqb-true, eqb-false, le-ltb, ne_eqb}
 use lib.IntN.{ℤ}

@@ -12,7 +12,8 @@ use Rattle.routines.specs.Ops.{of_count}
 use Rattle.routines.proofs.Counts.{count-more, count_less}
 use Rattle.routines.proofs.Logarithms.{lgamma-with-is}
 use Rattle.models.specs.Errors.{ln_tail_of, survival_of, log_probability_of}
-use Rattle.models.specs.HeightTerms.{error_height_from, error_height_of, single_height_of, repeat_height_of, heights_from, heights_of}
+use Rattle.models.specs.HeightTerms.{error_height_from, error_height_of, single_height_of, repeat_height_of}
+use Rattle.models.specs.HeightTerms.{heights_from, heights_of}
 use Rattle.models.specs.Hoists.{survival_with, log_probability_between}
 use Rattle.models.specs.declared.errors.ErrorParams.{ErrorParams}
 use Rattle.models.specs.declared.height_terms.HeightTerms.{HeightTerms}

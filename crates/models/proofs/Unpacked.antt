@@ -12,7 +12,8 @@ use Rattle.models.specs.Params.{params_of}
 use Rattle.models.specs.Refusals.{fit_tests}
 use Rattle.models.specs.Spectra.{window_of}
 use Rattle.models.specs.Tables.{entries_in}
-use Rattle.models.specs.Unpacking.{fit_of, fit_at, empty_fit, fit_answer_of, unpack_of, unpack_table, unpack_entries, unpack_at}
+use Rattle.models.specs.Unpacking.{fit_of, fit_at, empty_fit, fit_answer_of, unpack_of, unpack_table, unpack_entries}
+use Rattle.models.specs.Unpacking.{unpack_at}
 use Rattle.models.specs.declared.families.ErrorModel.{ErrorModel}
 use Rattle.models.specs.declared.families.GenomeModel.{GenomeModel}
 use Rattle.models.specs.declared.fit.SpectrumFit.{SpectrumFit}

@@ -31,7 +31,8 @@ use Rattle.models.specs.Masses.{masses_usable}
 use Rattle.models.specs.Params.{params_of}
 use Rattle.models.specs.Recovery.{used_scale_of}
 use Rattle.models.specs.Refusals.{fit_tests}
-use Rattle.models.specs.Spectra.{recovered_at, seen_term, observed_step, over_observed, all_step, all_of, none_recovered_of}
+use Rattle.models.specs.Spectra.{recovered_at, seen_term, observed_step, over_observed, all_step, all_of}
+use Rattle.models.specs.Spectra.{none_recovered_of}
 use Rattle.models.specs.Usable.{params_usable}
 use Rattle.models.specs.declared.families.ErrorModel.{ErrorModel}
 use Rattle.models.specs.declared.families.GenomeModel.{GenomeModel}
@@ -65,7 +66,10 @@ at_least_one n h = is_true (le constants.one (of_count n)) (unfold round in roun
 term-other : (p : Params) (m : WindowMasses) (table : List Float) (n i : ℕ) → 1 ≤ n → Other (point_term p m table n i)
 term-other p m table n i h =
     let point = point-other p m _ _ (of_count (i + 1)) table in
-    record { held = mul-fits binary64 _ _; other = λ (g : ℤ) (e : point_term p m table n i ≡ fin true 0 g). point.other (pos 0) (product-minus-zero (of_count n) _ g (at_least_one n h) point.held e) }
+    record {
+      held = mul-fits binary64 _ _;
+      other = λ (g : ℤ) (e : point_term p m table n i ≡ fin true 0 g). point.other (pos 0) (product-minus-zero (of_count n) _ g (at_least_one n h) point.held e);
+    }
 
 -- ---- the sum over the observed bins
 module _ (bins : List ℕ) (scale : Float) (term : ℕ → ℕ → Float) (terms : (n i : ℕ) → 1 ≤ n → Other (term n i)) where
@@ -92,17 +96,26 @@ module _ (bins : List ℕ) (scale : Float) (term : ℕ → ℕ → Float) (terms
   goes k total so = go (empty k) refl
     where
       go : (b : Bool) → empty k ≡ b → So (suc k) (cond b total (total ⊕ term (recovered_at bins scale k) k))
-      go true e = record { held = so.held; none = λ (g : ℤ) (z : total ≡ fin true 0 g). one_more k ∙ ap (λ (b : Bool). b && empty k) (so.none g z) ∙ e }
+      go true e = record {
+        held = so.held;
+        none = λ (g : ℤ) (z : total ≡ fin true 0 g). one_more k ∙ ap (λ (b : Bool). b && empty k) (so.none g z) ∙ e;
+      }
       go false e =
           let t = terms (recovered_at bins scale k) k (some (recovered_at bins scale k) e) in
-          record { held = add-fits binary64 _ _; none = λ (g : ℤ) (z : total ⊕ term (recovered_at bins scale k) k ≡ fin true 0 g). absurd (t.other (pos 0) (sum-minus-zero total _ g so.held t.held z).1) }
+          record {
+            held = add-fits binary64 _ _;
+            none = λ (g : ℤ) (z : total ⊕ term (recovered_at bins scale k) k ≡ fin true 0 g). absurd (t.other (pos 0) (sum-minus-zero total _ g so.held t.held z).1);
+          }
 
   minus-zero-none : (top : ℕ) (g : ℤ) → over_observed bins scale top term ≡ fin true 0 g → none_recovered_of bins scale top ≡ true
   unfolding over_observed
   minus-zero-none top = (fold-keeps (observed_step bins scale term) So 0 top (neg constants.zero) (omega arith) (λ (k : ℕ) (x : Float) (l : 0 ≤ k) (h : k < top). goes k x) begin).none
     where
       begin : So 0 (neg constants.zero)
-      begin = record { held = unfold neg of_bits fits in tt; none = λ g z. unfold all_of in fold-none (all_step empty) 0 0 true (omega arith) }
+      begin = record {
+        held = unfold neg of_bits fits in tt;
+        none = λ g z. unfold all_of in fold-none (all_step empty) 0 0 true (omega arith);
+      }
 
 -- ---- the cost
 abbrev Plus : Float → Type 0

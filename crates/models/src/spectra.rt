@@ -3,7 +3,8 @@
 // changed.
 ghost use Rattle.std.specs.Prelude.{◌≡◌, get_or};
 ghost use Rattle.routines.specs.Ops.{of_count};
-ghost use Rattle.models.specs.Spectra.{recovered_at, seen_term, observed_total_of, full_total_of, window_of, all_zero_of};
+ghost use Rattle.models.specs.Spectra.{recovered_at, seen_term, observed_total_of, full_total_of, window_of};
+ghost use Rattle.models.specs.Spectra.{all_zero_of};
 ghost use Rattle.models.specs.Spectra.{none_recovered_of};
 
 use crate::recovery::{rounded_quotient, used_scale};

@@ -23,10 +23,26 @@ abbrev pub of_logs3 : Logs3 → FlatLogs3
 of_logs3 l = record { first = l.first; second = l.second; third = l.third }
 
 abbrev pub of_lobe : Lobe → FlatLobe
-of_lobe l = record { poisson = byte_of l.poisson; mean = l.mean; rate = l.rate; size = l.size; gamma = l.gamma; start = l.start; slope = l.slope }
+of_lobe l = record {
+  poisson = byte_of l.poisson;
+  mean = l.mean;
+  rate = l.rate;
+  size = l.size;
+  gamma = l.gamma;
+  start = l.start;
+  slope = l.slope;
+}
 
 abbrev pub to_lobe : FlatLobe → Lobe
-to_lobe l = record { poisson = is_set l.poisson; mean = l.mean; rate = l.rate; size = l.size; gamma = l.gamma; start = l.start; slope = l.slope }
+to_lobe l = record {
+  poisson = is_set l.poisson;
+  mean = l.mean;
+  rate = l.rate;
+  size = l.size;
+  gamma = l.gamma;
+  start = l.start;
+  slope = l.slope;
+}
 
 abbrev pub of_shelf_logs : ShelfLogs → FlatPair
 of_shelf_logs l = record { first = l.rest; second = l.share }

@@ -1,4 +1,5 @@
-// The C interface of what no user calls, as a static library for oracle/ alone: each function calls that of its name in probe.
+// The C interface of what no user calls, as a static library for oracle/ alone: each function calls that of its name
+// in probe.
 #![tactic(auto)]
 
 mod errors;

@@ -14,7 +14,8 @@ use lib.Ieee.{Float, lt}
 use lib.Ieee.Scale.{finite}
 use Rattle.meaning.specs.Reply.{Reply, refuse, broken, give}
 use Rattle.models.specs.ClaimsCutoff.{removed_by, allowed_share, AtMost, Exceeds, Supposed, told_of}
-use Rattle.models.specs.Cutoffs.{Sureness, sure, not_sure, no_walk, allowed_of, ceiling_of, hole_cutoff_of, hole_cutoff_sure_of}
+use Rattle.models.specs.Cutoffs.{Sureness, sure, not_sure, no_walk, allowed_of, ceiling_of, hole_cutoff_of}
+use Rattle.models.specs.Cutoffs.{hole_cutoff_sure_of}
 use Rattle.models.proofs.HoleCutoffs.{told_same, sure-supposed, sure-keeps, hole-cutoff-range}
 use Rattle.models.proofs.Lower.{lower-keeps, least_kept, least-broken}
 use Rattle.fitter.specs.declared.asking.Asked.{Asked}

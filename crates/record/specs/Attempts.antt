@@ -21,7 +21,11 @@ no_cutoffs = record { hole = no_hole; crossover = Unknown; floor = Unknown }
 
 abbrev pub cutoffs_of : SpectrumFit → Float → Cutoffs
 cutoffs_of fit budget =
-    record { hole = hole_of fit budget; crossover = crossover_place (crossover_of fit); floor = floor_place (error_floor_of fit) }
+    record {
+      hole = hole_of fit budget;
+      crossover = crossover_place (crossover_of fit);
+      floor = floor_place (error_floor_of fit);
+    }
 
 unfoldable pub own_cutoffs : FitAttempt → Float → Cutoffs
 own_cutoffs attempt budget = cond attempt.has_candidate (cutoffs_of attempt.candidate budget) no_cutoffs

@@ -1,6 +1,7 @@
 -- `add` gives the same for x and y as for y and x, at every value: a NaN, the infinities and both zeros too. Assumes
 -- nothing.
-use Rattle.std.proofs.Common.{◌≡◌, ℕ, ◌-◌, ◌*◌, ◌<◌, ◌≤◌, Bool, true, false, cond, not, T, ltb, sym, refl, ap, ◌∙◌, mul_comm, add_comm, arith, ltb→lt, nltb→le}
+use Rattle.std.proofs.Common.{◌≡◌, ℕ, ◌-◌, ◌*◌, ◌<◌, ◌≤◌, Bool, true, false, cond, not, T, ltb, sym, refl, ap, ◌∙◌}
+use Rattle.std.proofs.Common.{mul_comm, add_comm, arith, ltb→lt, nltb→le}
 use lib.Ieee.{Float, nan, inf, fin, Format, up, down, round, sum, add}
 
 -- ---- `sum`

@@ -1,7 +1,9 @@
 -- The order of values that are not negative is the order of their units, -0 being 0 units, and a negative value lies
 -- below them all. And what a value from 0 to 2 holds.
 -- Assumes nothing.
-use Rattle.std.proofs.Common.{◌≡◌, ℕ, ◌+◌, ◌*◌, ◌^◌, ◌<◌, ◌≤◌, Bool, true, false, not, ◌||◌, T, eqb, ltb, ◌↔◌, pos, sym, ◌∙◌, le_of_eq, le_of_suc-le-suc, le_of_lt, mul-le-mul_right, mul-pos, lt_of_not-le, not-le_of_lt, le_of_mul-le-mul_right, arith, eqb→eq, ltb→lt, lt→ltb, T_not, pow_pos}
+use Rattle.std.proofs.Common.{◌≡◌, ℕ, ◌+◌, ◌*◌, ◌^◌, ◌<◌, ◌≤◌, Bool, true, false, not, ◌||◌, T, eqb, ltb, ◌↔◌, pos}
+use Rattle.std.proofs.Common.{sym, ◌∙◌, le_of_eq, le_of_suc-le-suc, le_of_lt, mul-le-mul_right, mul-pos, lt_of_not-le}
+use Rattle.std.proofs.Common.{not-le_of_lt, le_of_mul-le-mul_right, arith, eqb→eq, ltb→lt, lt→ltb, T_not, pow_pos}
 use mathlib.Core.Bool.{beq}
 use lib.Dec.{not_T}
 use lib.Ieee.{Float, nan, inf, fin, Format, low, up, down, below, level, lt, le, fits}

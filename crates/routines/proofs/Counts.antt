@@ -1,6 +1,8 @@
 -- Whole numbers up to 2 ^ 53 as `f64`: sums, differences, quotients, rounding, the way back and a comparison are those
 -- of the numbers. Assumes nothing.
-use Rattle.std.proofs.Common.{◌≡◌, ℕ, ◌+◌, ◌*◌, ◌^◌, ◌<◌, ◌≤◌, Bool, true, false, ◌&&◌, eqb, ℤ, sym, refl, ap, ◌∙◌, true≢false, zero-lt-suc, add_comm, mul-pos, mul-one, arith, le→leb, le-ltb, eq-eqb, ne_eqb, eqb-true}
+use Rattle.std.proofs.Common.{◌≡◌, ℕ, ◌+◌, ◌*◌, ◌^◌, ◌<◌, ◌≤◌, Bool, true, false, ◌&&◌, eqb, ℤ, sym, refl, ap, ◌∙◌}
+use Rattle.std.proofs.Common.{true≢false, zero-lt-suc, add_comm, mul-pos, mul-one, arith, le→leb, le-ltb, eq-eqb}
+use Rattle.std.proofs.Common.{ne_eqb, eqb-true}
 use native.Mathlib.Nat.{eq_of_mul-eq-mul_right}
 use borrow.Author.Tests.{eqb-false}
 use lib.Ieee.{Float, nan, inf, fin, Format, binary64, up, down, round, sum, add, sub, neg, div, eq}

@@ -1,6 +1,8 @@
 -- A difference v - t with t not negative is not above v, rounding and all; and what is below it is below v.
 -- Assumes nothing.
-use Rattle.std.proofs.Common.{◌≡◌, ℕ, zero, suc, ◌+◌, ◌-◌, ◌*◌, ◌<◌, ◌≤◌, Bool, true, false, cond, T, ltb, ℤ, refl, ap, ◌∙◌, subst, true≢false, mul-le-mul_right, zero-lt-suc, lt_of_mul-lt-mul_right, mul-lt-mul_of_pos_right, mul-pos, zero-mul, arith, ltb-false, ltb-true, le-ltb, lt-ltb}
+use Rattle.std.proofs.Common.{◌≡◌, ℕ, zero, suc, ◌+◌, ◌-◌, ◌*◌, ◌<◌, ◌≤◌, Bool, true, false, cond, T, ltb, ℤ, refl}
+use Rattle.std.proofs.Common.{ap, ◌∙◌, subst, true≢false, mul-le-mul_right, zero-lt-suc, lt_of_mul-lt-mul_right}
+use Rattle.std.proofs.Common.{mul-lt-mul_of_pos_right, mul-pos, zero-mul, arith, ltb-false, ltb-true, le-ltb, lt-ltb}
 use mathlib.Core.Bool.{false≢true}
 use lib.Ieee.{Float, nan, inf, fin, binary64, up, down, below, sum, neg, lt, le, add, sub, round, fits}
 use lib.Ieee.Fits.{down_pos}

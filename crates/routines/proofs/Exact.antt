@@ -2,7 +2,9 @@
 -- `Ieee.round` changes nothing there.
 -- So `round_of x` has x's sign and is `half_up` of x's size exactly, and `floor_of x` is `downward` of it. Assumes
 -- nothing.
-use Rattle.std.proofs.Common.{◌≡◌, ℕ, ◌+◌, ◌-◌, ◌*◌, ◌^◌, ◌<◌, ◌≤◌, Bool, true, false, not, T, ltb, ℤ, pos, sym, refl, ap, ◌∙◌, subst, le_of_lt, zero-lt-suc, div-lt_iff_lt-mul, mul-pos, mul-one, mul-div_cancel, arith, ltb→lt, nltb→le}
+use Rattle.std.proofs.Common.{◌≡◌, ℕ, ◌+◌, ◌-◌, ◌*◌, ◌^◌, ◌<◌, ◌≤◌, Bool, true, false, not, T, ltb, ℤ, pos, sym, refl}
+use Rattle.std.proofs.Common.{ap, ◌∙◌, subst, le_of_lt, zero-lt-suc, div-lt_iff_lt-mul, mul-pos, mul-one}
+use Rattle.std.proofs.Common.{mul-div_cancel, arith, ltb→lt, nltb→le}
 use lib.Ieee.{Float, fin, binary64, up, down, round, fits}
 use lib.Ieee.Fits.{down_pos}
 use lib.Ieee.Exact.{HasValue}

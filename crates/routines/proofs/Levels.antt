@@ -1,5 +1,6 @@
 -- The difference of two values that are level, one of them finite, is a zero; so its exponential is 1. Assumes nothing.
-use Rattle.std.proofs.Common.{◌≡◌, ℕ, ◌+◌, ◌-◌, ◌*◌, ◌<◌, Bool, true, false, not, ◌&&◌, ◌||◌, eqb, pos, sym, ap, ◌∙◌, le_of_eq, mul-pos, arith, eqb→eq, le-ltb}
+use Rattle.std.proofs.Common.{◌≡◌, ℕ, ◌+◌, ◌-◌, ◌*◌, ◌<◌, Bool, true, false, not, ◌&&◌, ◌||◌, eqb, pos, sym, ap, ◌∙◌}
+use Rattle.std.proofs.Common.{le_of_eq, mul-pos, arith, eqb→eq, le-ltb}
 use mathlib.Core.Bool.{beq, false≢true}
 use lib.Ieee.{Float, nan, inf, fin, binary64, up, down, sum, neg, sub, eq}
 use lib.Ieee.Fits.{down_pos, and_l, and_r}

@@ -1,5 +1,6 @@
 -- lgamma from a logarithm at hand is lgamma. Assumes nothing.
-use Rattle.std.proofs.Common.{◌≡◌, ℕ, ◌+◌, ◌*◌, ◌<◌, ◌≤◌, Bool, true, false, cond, ◌&&◌, eqb, ltb, sym, refl, ◌∙◌, ⊎_elim, le_of_eq, le_of_lt, arith, eqb→eq, ltb-true, lt-ltb}
+use Rattle.std.proofs.Common.{◌≡◌, ℕ, ◌+◌, ◌*◌, ◌<◌, ◌≤◌, Bool, true, false, cond, ◌&&◌, eqb, ltb, sym, refl, ◌∙◌}
+use Rattle.std.proofs.Common.{⊎_elim, le_of_eq, le_of_lt, arith, eqb→eq, ltb-true, lt-ltb}
 use mathlib.Core.Bool.{false≢true}
 use lib.Ieee.{Float, nan, inf, fin, up, down, of_bits, lt, le, eq}
 use lib.Ieee.Fits.{down_pos, and_l}

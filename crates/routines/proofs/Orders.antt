@@ -1,5 +1,7 @@
 -- What one comparison says of another, against zero and one, on every value. Assumes nothing.
-use Rattle.std.proofs.Common.{◌≡◌, ℕ, ◌+◌, ◌*◌, ◌<◌, ◌≤◌, Bool, true, false, cond, not, ◌&&◌, ◌||◌, T, eqb, ltb, ◌⊎◌, ℤ, pos, sym, refl, ap, ◌∙◌, subst, inl, inr, ⊎_elim, true≢false, le_of_eq, le_of_lt, le_antisymm, zero-mul, arith, eqb→eq, ltb-false, ltb-true, le-ltb, lt-ltb}
+use Rattle.std.proofs.Common.{◌≡◌, ℕ, ◌+◌, ◌*◌, ◌<◌, ◌≤◌, Bool, true, false, cond, not, ◌&&◌, ◌||◌, T, eqb, ltb, ◌⊎◌}
+use Rattle.std.proofs.Common.{ℤ, pos, sym, refl, ap, ◌∙◌, subst, inl, inr, ⊎_elim, true≢false, le_of_eq, le_of_lt}
+use Rattle.std.proofs.Common.{le_antisymm, zero-mul, arith, eqb→eq, ltb-false, ltb-true, le-ltb, lt-ltb}
 use mathlib.Core.Bool.{beq, false≢true}
 use lib.Ieee.{Float, nan, inf, fin, binary64, up, down, of_bits, lt, le, eq, is_nan, fits}
 use lib.Ieee.Back.{whole_unique}

@@ -1,6 +1,7 @@
 -- Which patterns are no NaN's, and which values are no NaN: what `f64::from_bits` and `f64::to_bits` ask. Assumes
 -- nothing.
-use Rattle.std.proofs.Common.{◌≡◌, ℕ, zero, suc, ◌+◌, ◌*◌, ◌/◌, ◌%◌, ◌^◌, ◌≤◌, Bool, true, false, cond, not, T, ltb, ℤ, pos, sym, ◌∙◌, subst, true≢false, arith, le-ltb}
+use Rattle.std.proofs.Common.{◌≡◌, ℕ, zero, suc, ◌+◌, ◌*◌, ◌/◌, ◌%◌, ◌^◌, ◌≤◌, Bool, true, false, cond, not, T, ltb}
+use Rattle.std.proofs.Common.{ℤ, pos, sym, ◌∙◌, subst, true≢false, arith, le-ltb}
 use mathlib.Core.Bool.{false≢true}
 use lib.Count.{count_trailing_zeros}
 use lib.Ieee.{Float, nan, inf, fin, Format, binary64, prec, emax, low, minus, odd, units, round, unlike, up, down, mul}

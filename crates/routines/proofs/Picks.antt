@@ -1,5 +1,6 @@
 -- What `max`, `min` and `is_finite` find by their tests, on plain values. Assumes nothing.
-use Rattle.std.proofs.Common.{◌≡◌, ℕ, ◌*◌, ◌<◌, Bool, true, false, sym, refl, ap, ◌∙◌, subst, true≢false, zero-lt-suc, mul-pos, mul-zero, zero-mul}
+use Rattle.std.proofs.Common.{◌≡◌, ℕ, ◌*◌, ◌<◌, Bool, true, false, sym, refl, ap, ◌∙◌, subst, true≢false, zero-lt-suc}
+use Rattle.std.proofs.Common.{mul-pos, mul-zero, zero-mul}
 use lib.Ieee.{Float, nan, inf, fin, binary64, up, down, unlike, of_bits, eq, ne, mul, round}
 use lib.Ieee.Fits.{down_pos}
 use lib.Ieee.Compare.{differs_from_itself, nan_differs}

@@ -1,5 +1,6 @@
 -- lgamma at 0, at -0 and at every negative whole number is +inf. Assumes nothing.
-use Rattle.std.proofs.Common.{◌≡◌, ℕ, ◌+◌, ◌*◌, ◌/◌, ◌≤◌, Bool, true, false, ◌&&◌, ◌||◌, T, eqb, ltb, ℤ, refl, ap, ◌∙◌, zero-mul, mul-div_cancel, arith, ltb-false}
+use Rattle.std.proofs.Common.{◌≡◌, ℕ, ◌+◌, ◌*◌, ◌/◌, ◌≤◌, Bool, true, false, ◌&&◌, ◌||◌, T, eqb, ltb, ℤ, refl, ap}
+use Rattle.std.proofs.Common.{◌∙◌, zero-mul, mul-div_cancel, arith, ltb-false}
 use lib.Dec.{eqb_refl}
 use lib.Ieee.{inf, fin, binary64, up, down, of_bits, neg, lt, le, eq, fits}
 use lib.Ieee.Bits.{is_true}

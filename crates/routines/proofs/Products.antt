@@ -1,7 +1,10 @@
 -- A product v x against v itself: by a factor of 1 or more v does not come nearer to 0, and by one of at most 1 it does
 -- not go further, rounding and all. So where v x is above v, v has the sign of x - 1.
 -- Assumes nothing.
-use Rattle.std.proofs.Common.{◌≡◌, ℕ, zero, suc, ◌+◌, ◌*◌, ◌<◌, ◌≤◌, Bool, true, false, cond, ◌&&◌, ◌||◌, T, eqb, ltb, ℤ, pos, sym, refl, ap, ◌∙◌, subst, true≢false, le_trans, le_of_eq, le_of_lt, mul-le-mul_right, zero-lt-suc, mul_assoc, mul_comm, mul-le-mul_left, mul-pos, zero-mul, le_of_mul-le-mul_right, arith, eqb→eq, ltb-true, le-ltb, lt-ltb}
+use Rattle.std.proofs.Common.{◌≡◌, ℕ, zero, suc, ◌+◌, ◌*◌, ◌<◌, ◌≤◌, Bool, true, false, cond, ◌&&◌, ◌||◌, T, eqb, ltb}
+use Rattle.std.proofs.Common.{ℤ, pos, sym, refl, ap, ◌∙◌, subst, true≢false, le_trans, le_of_eq, le_of_lt}
+use Rattle.std.proofs.Common.{mul-le-mul_right, zero-lt-suc, mul_assoc, mul_comm, mul-le-mul_left, mul-pos, zero-mul}
+use Rattle.std.proofs.Common.{le_of_mul-le-mul_right, arith, eqb→eq, ltb-true, le-ltb, lt-ltb}
 use mathlib.Core.Bool.{false≢true}
 use lib.Ieee.{Float, nan, inf, fin, binary64, up, down, unlike, of_bits, neg, lt, le, eq, mul, round, fits}
 use lib.Ieee.Fits.{down_pos, up_pos, and_l}

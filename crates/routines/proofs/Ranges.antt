@@ -1,7 +1,8 @@
 -- The five ranges that `round` and `floor` tell apart by comparing x with 0, 2 ^ 52 and -2 ^ 52, and what each test
 -- says there.
 -- Assumes nothing.
-use Rattle.std.proofs.Common.{◌≡◌, ℕ, ◌+◌, ◌*◌, ◌/◌, ◌^◌, ◌<◌, ◌≤◌, Bool, true, false, T, ℤ, pos, refl, subst, mul-div_cancel, arith, lt→ltb, ltb-false, ltb-true}
+use Rattle.std.proofs.Common.{◌≡◌, ℕ, ◌+◌, ◌*◌, ◌/◌, ◌^◌, ◌<◌, ◌≤◌, Bool, true, false, T, ℤ, pos, refl, subst}
+use Rattle.std.proofs.Common.{mul-div_cancel, arith, lt→ltb, ltb-false, ltb-true}
 use mathlib.Core.Bool.{false≢true}
 use lib.Ieee.{Float, nan, inf, fin, binary64, up, down, of_bits, neg, lt, round, fits}
 use lib.Ieee.Positive.{num, den, positive, first_pos}

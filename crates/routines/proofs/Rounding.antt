@@ -3,7 +3,10 @@
 -- So n units, rounded, are off by at most n / 2 ^ prec, and by at most the result / 2 ^ prec: below the normal range a
 -- whole number of units is exact.
 -- Nothing here is about floats but the format's numbers. Assumes nothing.
-use Rattle.std.proofs.Common.{◌≡◌, ℕ, suc, ◌+◌, ◌-◌, ◌*◌, ◌/◌, ◌%◌, ◌^◌, ◌<◌, ◌≤◌, not, T, eqb, sym, ap, ◌∙◌, subst, inl, inr, le_trans, le_of_eq, mul-le-mul_right, mod-lt, mul_assoc, eq-zero-or-pos, mul-pos, div-add-mod', le-div_iff_mul-le, mul-one, mul_right_comm, le_of_mul-le-mul_right, arith, eqb→eq, leb→le, pow_pos, pow-add}
+use Rattle.std.proofs.Common.{◌≡◌, ℕ, suc, ◌+◌, ◌-◌, ◌*◌, ◌/◌, ◌%◌, ◌^◌, ◌<◌, ◌≤◌, not, T, eqb, sym, ap, ◌∙◌, subst}
+use Rattle.std.proofs.Common.{inl, inr, le_trans, le_of_eq, mul-le-mul_right, mod-lt, mul_assoc, eq-zero-or-pos}
+use Rattle.std.proofs.Common.{mul-pos, div-add-mod', le-div_iff_mul-le, mul-one, mul_right_comm}
+use Rattle.std.proofs.Common.{le_of_mul-le-mul_right, arith, eqb→eq, leb→le, pow_pos, pow-add}
 use Prim.Native.Nat.{compare, Ordering}
 use native.Mathlib.Nat.{pow-succ'}
 use lib.Dec.{is_le, compare_is_eq, nleb→lt, eqb_refl}

@@ -1,5 +1,6 @@
 -- What `to_u64` and `to_u32` find by their tests, on plain values. Assumes nothing.
-use Rattle.std.proofs.Common.{◌≡◌, ℕ, ◌+◌, ◌-◌, ◌*◌, ◌/◌, ◌^◌, ◌<◌, ◌≤◌, min, true, false, refl, subst, true≢false, zero-lt-suc, mul-pos, le-div_iff_mul-le, arith, ltb-false}
+use Rattle.std.proofs.Common.{◌≡◌, ℕ, ◌+◌, ◌-◌, ◌*◌, ◌/◌, ◌^◌, ◌<◌, ◌≤◌, min, true, false, refl, subst, true≢false}
+use Rattle.std.proofs.Common.{zero-lt-suc, mul-pos, le-div_iff_mul-le, arith, ltb-false}
 use mathlib.Core.Bool.{false≢true}
 use lib.Ieee.{Float, nan, inf, fin, binary64, up, down, of_bits, neg, lt, to_unsigned}
 use lib.Ieee.Fits.{down_pos}

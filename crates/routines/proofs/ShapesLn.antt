@@ -1,11 +1,13 @@
 -- On which side of 0 ln lies, for every input; what it is below 0; and that it is never -0. Assumes nothing.
-use Rattle.std.proofs.Common.{◌≡◌, ℕ, ◌+◌, ◌*◌, ◌<◌, ◌≤◌, Bool, true, false, cond, ◌&&◌, T, eqb, ℤ, sym, refl, ap, ◌∙◌, subst, true≢false, mul-le-mul_right, arith, lit≤, eqb→eq, ltb-true}
+use Rattle.std.proofs.Common.{◌≡◌, ℕ, ◌+◌, ◌*◌, ◌<◌, ◌≤◌, Bool, true, false, cond, ◌&&◌, T, eqb, ℤ, sym, refl, ap}
+use Rattle.std.proofs.Common.{◌∙◌, subst, true≢false, mul-le-mul_right, arith, lit≤, eqb→eq, ltb-true}
 use mathlib.Core.Bool.{false≢true}
 use lib.Ieee.{Float, nan, inf, fin, binary64, up, down, of_bits, mul, lt, le, eq, fits}
 use lib.Ieee.Fits.{add-fits, cond-fits, inf-fits, nan-fits, down_pos}
 use Rattle.routines.specs.Constants.{one, zero as nought}
 use Rattle.routines.specs.Signs.{sign_clear}
-use Rattle.routines.specs.Ln.{ln_of, ln_core, beside_zero, not_above_zero, NORMAL, LARGEST, SCALE, OFFSET, SCALED_OFFSET}
+use Rattle.routines.specs.Ln.{ln_of, ln_core, beside_zero, not_above_zero, NORMAL, LARGEST, SCALE, OFFSET}
+use Rattle.routines.specs.Ln.{SCALED_OFFSET}
 use Rattle.routines.proofs.Tests.{yes}
 use Rattle.routines.proofs.Orders.{less-le, one-above-zero, above-clear}
 use Rattle.routines.proofs.Shapes.{zero-level}

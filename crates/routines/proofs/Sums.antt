@@ -1,6 +1,7 @@
 -- What the layers above cite of floats and their units: one rounded addition of `f64` values that are not negative is
 -- within 2 ^ -53 of its result of the exact sum, and is no less than either. Assumes nothing.
-use Rattle.std.proofs.Common.{◌≡◌, ℕ, ◌+◌, ◌*◌, ◌^◌, ◌<◌, ◌≤◌, false, sym, ap, ◌∙◌, subst, mul-le-mul_right, arith, pow_pos}
+use Rattle.std.proofs.Common.{◌≡◌, ℕ, ◌+◌, ◌*◌, ◌^◌, ◌<◌, ◌≤◌, false, sym, ap, ◌∙◌, subst, mul-le-mul_right, arith}
+use Rattle.std.proofs.Common.{pow_pos}
 use native.Mathlib.Nat.{eq_of_mul-eq-mul_right}
 use lib.Ieee.{Float, nan, inf, fin, binary64, low, down, round, add}
 use lib.Ieee.Exact.{round_exact}

@@ -1,7 +1,11 @@
 -- Values of a format in units of its smallest value: a finite value that fits is exactly `units_in` of them, and a sum
 -- of two that are not negative holds their units' sum, rounded once.
 -- -0 holds 0 units. Assumes nothing.
-use Rattle.std.proofs.Common.{◌≡◌, ℕ, zero, suc, ◌+◌, ◌-◌, ◌*◌, ◌/◌, ◌%◌, ◌^◌, ◌<◌, ◌≤◌, Bool, true, false, cond, not, ◌&&◌, T, eqb, ltb, leb, ℤ, pos, negsuc, sym, refl, ap, ◌∙◌, subst, le_trans, le_of_eq, le_of_suc-le-suc, lt_of_le_of_lt, mul-le-mul_right, mul_assoc, mul-le-mul_left, mul-pos, one-mul, lt_of_not-le, zero-mul, mul-one, not-le_of_lt, le_of_mul-le-mul_right, mul-div_cancel, arith, eqb→eq, ltb→lt, leb→le, nltb→le, pow_pos, pow-add}
+use Rattle.std.proofs.Common.{◌≡◌, ℕ, zero, suc, ◌+◌, ◌-◌, ◌*◌, ◌/◌, ◌%◌, ◌^◌, ◌<◌, ◌≤◌, Bool, true, false, cond, not}
+use Rattle.std.proofs.Common.{◌&&◌, T, eqb, ltb, leb, ℤ, pos, negsuc, sym, refl, ap, ◌∙◌, subst, le_trans, le_of_eq}
+use Rattle.std.proofs.Common.{le_of_suc-le-suc, lt_of_le_of_lt, mul-le-mul_right, mul_assoc, mul-le-mul_left, mul-pos}
+use Rattle.std.proofs.Common.{one-mul, lt_of_not-le, zero-mul, mul-one, not-le_of_lt, le_of_mul-le-mul_right}
+use Rattle.std.proofs.Common.{mul-div_cancel, arith, eqb→eq, ltb→lt, leb→le, nltb→le, pow_pos, pow-add}
 use native.Mathlib.Nat.{eq_of_mul-eq-mul_right}
 use lib.Dec.{not_T}
 use lib.Pow.{pow-lt}

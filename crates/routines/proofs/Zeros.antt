@@ -1,7 +1,11 @@
 -- WHEN A SUM OR A PRODUCT IS -0. What is one unit of the format or more does not round to zero, and a sum or a
 -- difference of two `f64` values is a whole number of units.
 -- So a sum is -0 only where both are, and a product by 1 or more only where the other factor is. Assumes nothing.
-use Rattle.std.proofs.Common.{◌≡◌, ℕ, zero, suc, ◌+◌, ◌-◌, ◌*◌, ◌/◌, ◌%◌, ◌^◌, ◌<◌, ◌≤◌, Bool, true, false, cond, ◌&&◌, T, eqb, ltb, ℤ, pos, negsuc, sym, refl, ap, ◌∙◌, subst, le_trans, le_of_eq, lt_of_lt_of_le, mul-le-mul_right, zero-lt-suc, mul_assoc, mul_comm, add-mul, mul-le-mul_left, mul-pos, one-mul, le-div_iff_mul-le, mul-one, mul_right_comm, arith, eqb→eq, pow_pos, pow_mono, ltb-true}
+use Rattle.std.proofs.Common.{◌≡◌, ℕ, zero, suc, ◌+◌, ◌-◌, ◌*◌, ◌/◌, ◌%◌, ◌^◌, ◌<◌, ◌≤◌, Bool, true, false, cond}
+use Rattle.std.proofs.Common.{◌&&◌, T, eqb, ltb, ℤ, pos, negsuc, sym, refl, ap, ◌∙◌, subst, le_trans, le_of_eq}
+use Rattle.std.proofs.Common.{lt_of_lt_of_le, mul-le-mul_right, zero-lt-suc, mul_assoc, mul_comm, add-mul}
+use Rattle.std.proofs.Common.{mul-le-mul_left, mul-pos, one-mul, le-div_iff_mul-le, mul-one, mul_right_comm, arith}
+use Rattle.std.proofs.Common.{eqb→eq, pow_pos, pow_mono, ltb-true}
 use mathlib.Core.Bool.{beq, false≢true}
 use Prim.Native.Nat.{compare}
 use native.Mathlib.Nat.{mul-sub}

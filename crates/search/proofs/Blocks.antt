@@ -67,9 +67,6 @@ module _ (s n : ℕ) (f : ℕ → List Float) (found : List Float) where
           ∙ ap (λ (k : ℕ). flat (list_of f n) ++ drop k found) m
 
       module _ (h : i < n) where
-        pub lies_in : i * s + s ≤ length now
-        lies_in = let l = b.long in omega (arith, row_fits i n s h)
-
         pub goes_on : (r : List Float) → length r ≡ s → r ≡ f i → Blocks s n f found (put_mid (i * s) (i * s + s - i * s) now r) (i + 1)
         goes_on r e g =
             let l : length now ≡ length found = b.long in

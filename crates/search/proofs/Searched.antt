@@ -4,7 +4,6 @@ use Prim.Native.Nat.{ℕ, ◌*◌, ◌≤◌, ◌<◌}
 use mathlib.Core.Path.{◌≡◌, refl, sym, ap, ◌∙◌}
 use mathlib.Core.Bool.{false}
 use mathlib.Core.List.{List}
-use native.Mathlib.Nat.{mul-le-mul}
 use native.Mathlib.Omega.{arith}
 use lib.Dec.{lit≤}
 use lib.ListN.{length, get_or}
@@ -26,10 +25,6 @@ use Rattle.models.specs.declared.problems.Problem.{Problem}
 use Rattle.search.specs.declared.refusing.Lent.{Lent}
 use Rattle.search.specs.declared.turns.Progress.{Progress}
 use Rattle.search.proofs.RowLaws.{rows-flat}
-
--- the rows of a simplex are few
-pub few-numbers : (w : ℕ) → w ≤ 12 → w * w ≤ 144
-few-numbers w h = let e : w * w ≤ 12 * 12 = mul-le-mul h h in omega arith
 
 -- a block is its rows laid out
 pub block-is : (w : ℕ) (block : List Float) (vs : List Vertex) → length block ≡ w * w → rows_in w w block ≡ vs → block ≡ flat vs

@@ -1,34 +1,19 @@
--- The row of slices that each hold one number for a run: each is long enough where the row has no number, and one of
--- them is not where it has; and what is known once no test of `report_tests` holds. Assumes nothing.
-use Prim.Native.Nat.{ℕ, ◌*◌, ◌≤◌, ◌<◌}
+-- The row of slices that each hold one number for a run: each is long enough where the row has no number; and what is
+-- known once no test of `report_tests` holds. Assumes nothing.
+use Prim.Native.Nat.{ℕ, ◌*◌, ◌≤◌}
 use mathlib.Core.Path.{◌≡◌, refl}
-use mathlib.Core.Bool.{Bool, true, false}
 use mathlib.Core.List.{List, [], ◌∷◌}
-use mathlib.Core.Logic.{inl, inr}
 use native.Mathlib.Omega.{arith}
-use borrow.Author.Tests.{ltb-false, lt-ltb, le-ltb}
+use borrow.Author.Tests.{ltb-false}
 use lib.Dec.{ltb}
 use Rattle.meaning.specs.Reply.{test, first_of}
 use Rattle.meaning.specs.Rows.{most, in_order, above_most, too_short}
 use Rattle.meaning.proofs.Chains.{parts}
-use Rattle.meaning.proofs.Rows.{Some, Each, test-passed, above-most-passed, too-short-passed}
+use Rattle.meaning.proofs.Rows.{Each, test-passed, above-most-passed, too-short-passed}
 use Rattle.search.specs.Reporting.{short_ones, report_tests}
 use Rattle.search.specs.declared.reporting.Columns.{Columns}
 
 module _ (need : ℕ) where
-  pub ones-clear : (rooms : List ℕ) → Each (λ (room : ℕ). need ≤ room) rooms → 0 ≡ first_of (short_ones rooms need)
-  ones-clear [] h = refl
-  ones-clear (room ∷ rooms) h = rw (le-ltb room need h.0) (ones-clear rooms h.1)
-
-  pub ones-found : (rooms : List ℕ) → Some (λ (room : ℕ). room < need) rooms → 10 ≡ first_of (short_ones rooms need)
-  ones-found [] h = absurd h
-  ones-found (room ∷ rooms) (inl h) = rw (lt-ltb room need h)
-  ones-found (room ∷ rooms) (inr h) = either (ltb room need) (ones-found rooms h)
-    where
-      either : (b : Bool) → 10 ≡ first_of (short_ones rooms need) → 10 ≡ first_of (test b 10 ∷ short_ones rooms need)
-      either true e = refl
-      either false e = e
-
   ones-passed : (rooms : List ℕ) → 0 ≡ first_of (short_ones rooms need) → Each (λ (room : ℕ). need ≤ room) rooms
   ones-passed [] e = tt
   ones-passed (room ∷ rooms) e =

@@ -9,7 +9,8 @@ use native.Mathlib.Omega.{arith}
 use lib.ListN.{length, take, drop, set, get_or}
 use lib.Ieee.{Float, lt, le}
 use Rattle.search.specs.Points.{moved, centroid_of}
-use Rattle.search.specs.Rule.{best, second_worst, worst, taken, shrunk, expanded, contracted_out, contracted_in, stepped}
+use Rattle.search.specs.Rule.{best, second_worst, worst, taken, shrunk, expanded, contracted_out, contracted_in}
+use Rattle.search.specs.Rule.{stepped}
 use Rattle.search.specs.Vertices.{Vertex, rows_in, vertex_at, cost_in, point_in}
 use Rattle.search.specs.declared.points.Move.TheVariants.{Reflect, Expand, Half}
 use Rattle.search.proofs.RowLaws.{rows-length, cost-at, point_at}

@@ -11,7 +11,8 @@ use lib.Seq.{get_or-set_other, get_or-drop}
 use lib.Ieee.{Float, lt, le}
 use Rattle.search.specs.Claims.{Every}
 use Rattle.search.specs.Points.{moved, centroid_of}
-use Rattle.search.specs.Rule.{vertex_of, best, second_worst, worst, taken, shrunk, expanded, contracted_out, contracted_in, stepped}
+use Rattle.search.specs.Rule.{vertex_of, best, second_worst, worst, taken, shrunk, expanded, contracted_out}
+use Rattle.search.specs.Rule.{contracted_in, stepped}
 use Rattle.search.specs.Vertices.{Vertex, vertex_at, cost_in, point_in}
 use Rattle.search.specs.declared.points.Move.TheVariants.{Reflect, Expand, Half}
 use Rattle.search.proofs.Kept.{set_so, map-so, more-so}

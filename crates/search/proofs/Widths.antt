@@ -1,10 +1,6 @@
 -- How many coordinates a point has, 7 to 11, and how many numbers the simplexes of many runs. Assumes nothing.
-use Prim.Native.Nat.{ℕ, ◌+◌, ◌*◌, ◌≤◌}
-use mathlib.Core.Path.{◌≡◌}
-use native.Mathlib.Nat.{mul-le-mul}
-use native.Mathlib.Omega.{arith}
+use Prim.Native.Nat.{◌≤◌}
 use lib.Dec.{lit≤}
-use Rattle.meaning.specs.Rows.{most}
 use Rattle.models.specs.Families.{list_length_of}
 use Rattle.models.specs.declared.families.ErrorModel.{ErrorModel}
 use Rattle.models.specs.declared.families.ErrorModel.TheVariants.{FreeSingletonWeibull, SingletonPareto}
@@ -22,13 +18,3 @@ some-wide FreeSingletonWeibull NegativeBinomial = lit≤ tt
 some-wide FreeSingletonWeibull ShelfNegativeBinomial = lit≤ tt
 some-wide SingletonPareto NegativeBinomial = lit≤ tt
 some-wide SingletonPareto ShelfNegativeBinomial = lit≤ tt
-
--- ---- the simplexes of at most 65,535 runs
-pub square-few : (error : ErrorModel) (genome : GenomeModel) (w : ℕ) → w ≡ list_length_of error genome + 1 → w * w ≤ 144
-square-few error genome w e = mul-le-mul (wide (few-wide error genome)) (wide (few-wide error genome))
-  where
-    wide : list_length_of error genome ≤ 11 → w ≤ 12
-    wide h = omega arith
-
-pub runs-few : (runs s : ℕ) → runs ≤ most → s ≤ 144 → runs * s ≤ most * 144
-runs-few runs s h k = mul-le-mul h k

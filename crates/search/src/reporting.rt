@@ -193,15 +193,18 @@ pub fn report_searches(
         stopped.now converged.old costs.old places.old
         lengths.old caps.old) }
     ensures converged_after { converged.new
-        ≡ on_give (report_of error genome runs (columns_of simplexes.now iterations.now stopped.now converged.old costs.old places.old lengths.old
+        ≡ on_give (report_of error genome runs (columns_of simplexes.now iterations.now stopped.now converged.old
+        costs.old places.old lengths.old
         caps.old)) (over (list_of (λ (i : ℕ). byte_of (reported_at error genome runs simplexes.now
         iterations.now stopped.now i).converged) runs) converged.old) converged.old }
     ensures costs_after { costs.new
-        ≡ on_give (report_of error genome runs (columns_of simplexes.now iterations.now stopped.now converged.old costs.old places.old lengths.old
+        ≡ on_give (report_of error genome runs (columns_of simplexes.now iterations.now stopped.now converged.old
+        costs.old places.old lengths.old
         caps.old)) (over (list_of (λ (i : ℕ). (reported_at error genome runs simplexes.now
         iterations.now stopped.now i).cost) runs) costs.old) costs.old }
     ensures places_after { places.new
-        ≡ on_give (report_of error genome runs (columns_of simplexes.now iterations.now stopped.now converged.old costs.old places.old lengths.old
+        ≡ on_give (report_of error genome runs (columns_of simplexes.now iterations.now stopped.now converged.old
+        costs.old places.old lengths.old
         caps.old)) (over (list_of (λ (i : ℕ). (reported_at error genome runs simplexes.now
         iterations.now stopped.now i).place) runs) places.old) places.old }
     ensures lengths_after { lengths.new
@@ -209,7 +212,8 @@ pub fn report_searches(
         stopped.now converged.old costs.old places.old
         lengths.old caps.old)) (over (list_of (λ (i : ℕ). list_length_of error genome) runs) lengths.old) lengths.old }
     ensures caps_after { caps.new
-        ≡ on_give (report_of error genome runs (columns_of simplexes.now iterations.now stopped.now converged.old costs.old places.old lengths.old
+        ≡ on_give (report_of error genome runs (columns_of simplexes.now iterations.now stopped.now converged.old
+        costs.old places.old lengths.old
         caps.old)) (over (list_of (λ (i : ℕ). byte_of (reported_at error genome runs simplexes.now
         iterations.now stopped.now i).hit_cap) runs) caps.old) caps.old }
 {

@@ -2,7 +2,8 @@
 -- Assumes nothing.
 use Rattle.accuracy.proofs.Prelude.{◌≡◌, refl, sym, ap, ◌∙◌, subst, Bool, true, false, true≢false, ℕ, suc, ◌+◌}
 use Rattle.accuracy.proofs.Prelude.{◌-◌, ◌*◌, ◌/◌, ◌^◌, ◌≤◌, ◌<◌, arith, T, lit<, pow_pos}
-use native.Mathlib.Nat.{le_of_eq, le_trans, le_antisymm, lt_of_lt_of_le, lt_of_le_of_lt, le_of_mul-le-mul_left, lt_of_mul-lt-mul_right}
+use native.Mathlib.Nat.{le_of_eq, le_trans, le_antisymm, lt_of_lt_of_le, lt_of_le_of_lt, le_of_mul-le-mul_left}
+use native.Mathlib.Nat.{lt_of_mul-lt-mul_right}
 use native.Mathlib.Nat.{mul-div_cancel, mul-pos}
 use lib.IntN.{ℤ}
 use lib.Ieee.{Float, nan, inf, fin, binary64, up, down, round, add, lt, le, of_bits, fits, size}

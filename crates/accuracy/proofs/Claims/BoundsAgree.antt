@@ -2,7 +2,9 @@
 -- is no empty claim: doubles that are further apart than it allows do not both meet it. Assumes nothing.
 use Rattle.accuracy.proofs.Prelude.{◌≡◌, subst, Bool, true, false, ℕ, zero, suc, ◌+◌, ◌-◌, ◌*◌, ◌^◌, ◌≤◌, ◌<◌}
 use Rattle.accuracy.proofs.Prelude.{arith}
-use native.Mathlib.Nat.{le_trans, le_of_eq, le_of_suc-le-suc, lt_of_not-le, mul-pos, mul_comm, mul-le-mul, mul-le-mul_left, mul-le-mul_right, le_of_mul-le-mul_left, pow-zero, pow-succ', pow-le-pow_left, le-add_right, mul-mul-mul_comm, sub-add_cancel, one-le-pow}
+use native.Mathlib.Nat.{le_trans, le_of_eq, le_of_suc-le-suc, lt_of_not-le, mul-pos, mul_comm, mul-le-mul}
+use native.Mathlib.Nat.{mul-le-mul_left, mul-le-mul_right, le_of_mul-le-mul_left, pow-zero, pow-succ'}
+use native.Mathlib.Nat.{pow-le-pow_left, le-add_right, mul-mul-mul_comm, sub-add_cancel, one-le-pow}
 use Rattle.accuracy.specs.Accuracy.{ExpAtMost, ExpAtLeast}
 use Rattle.accuracy.proofs.Euler.Means.{mul-pow}
 

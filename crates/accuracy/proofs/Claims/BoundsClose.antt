@@ -3,7 +3,8 @@
 -- for a large n. Assumes nothing.
 use Rattle.accuracy.proofs.Prelude.{◌≡◌, sym, ap, subst, Bool, true, false, ℕ, suc, ◌+◌, ◌-◌, ◌*◌, ◌^◌, ◌≤◌, ◌<◌}
 use Rattle.accuracy.proofs.Prelude.{arith}
-use native.Mathlib.Nat.{le_trans, le_of_eq, le_of_lt, one-mul, mul_comm, mul_assoc, mul-pos, mul-le-mul, mul-le-mul_left, mul-le-mul_right, le_of_mul-le-mul_left, sub-add_cancel, one-le-pow}
+use native.Mathlib.Nat.{le_trans, le_of_eq, le_of_lt, one-mul, mul_comm, mul_assoc, mul-pos, mul-le-mul}
+use native.Mathlib.Nat.{mul-le-mul_left, mul-le-mul_right, le_of_mul-le-mul_left, sub-add_cancel, one-le-pow}
 use Rattle.accuracy.specs.Accuracy.{ExpAtMost, ExpAtLeast}
 use Rattle.accuracy.proofs.Euler.Means.{mul-pow}
 use Rattle.accuracy.proofs.Euler.EveryN.{meet}

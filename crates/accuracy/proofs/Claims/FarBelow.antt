@@ -1,7 +1,8 @@
 -- Below -40 exp is at most 2 ^ -54, since e ^ 40 is more than 2 ^ 57. Assumes nothing.
 use Rattle.accuracy.proofs.Prelude.{◌≡◌, refl, sym, ◌∙◌, subst, inl, inr, Bool, true, false, ℕ, suc, ◌-◌, ◌*◌}
 use Rattle.accuracy.proofs.Prelude.{◌^◌, ◌≤◌, ◌<◌, arith, T, ltb→lt, lit≤, lit<}
-use native.Mathlib.Nat.{sub-add_cancel, le_trans, le_of_eq, le_of_lt, lt_of_le_of_lt, lt_of_lt_of_le, mul_comm, mul-le-mul_right}
+use native.Mathlib.Nat.{sub-add_cancel, le_trans, le_of_eq, le_of_lt, lt_of_le_of_lt, lt_of_lt_of_le, mul_comm}
+use native.Mathlib.Nat.{mul-le-mul_right}
 use native.Mathlib.Nat.{le_of_mul-le-mul_left, lt_of_mul-lt-mul_right, mul-lt-mul_of_pos_right}
 use lib.Ieee.{Float, nan, inf, fin, binary64, up, down, lt, le, of_bits, fits}
 use lib.Ieee.Order.{le_of_values}

@@ -6,7 +6,8 @@ use native.Mathlib.Nat.{le_trans, le_of_eq, le_of_lt, mul_comm, mul-le-mul_right
 use lib.ListN.{get_or}
 use lib.Ieee.{Float, nan, inf, fin, binary64, of_bits}
 use lib.Ieee.Fits.{and_l, and_r, down_pos}
-use Rattle.entries.specs.Fractions.{Fraction, sum_over, plus, half, exactly, value_of, is_finite, is_number, next_up, next_down, middle, nearest}
+use Rattle.entries.specs.Fractions.{Fraction, sum_over, plus, half, exactly, value_of, is_finite, is_number, next_up}
+use Rattle.entries.specs.Fractions.{next_down, middle, nearest}
 use Rattle.entries.specs.Series.{terms, least, most, exp_less, exp_more}
 use Rattle.entries.specs.Series as Entries
 use Rattle.entries.specs.LnTable.{Patterns, ln_rows}
@@ -15,7 +16,8 @@ use Rattle.entries.proofs.Logs.{logs-nearest}
 use Rattle.accuracy.specs.Accuracy.{ExpAtMost}
 use Rattle.accuracy.specs.LnTable.{AtMost, AtLeast, LogNearest}
 use Rattle.accuracy.proofs.Euler.Bounds.{Above, Below}
-use Rattle.accuracy.proofs.Euler.PartialSums.{part, scale, over, part-suc, part-zero, scale-suc, scale-zero, scale-pos, above-series, below-series}
+use Rattle.accuracy.proofs.Euler.PartialSums.{part, scale, over, part-suc, part-zero, scale-suc, scale-zero}
+use Rattle.accuracy.proofs.Euler.PartialSums.{scale-pos, above-series, below-series}
 use Rattle.accuracy.proofs.Euler.Weaker.{above-weaken, below-weaken}
 use Rattle.accuracy.proofs.Euler.EveryN.{lowered}
 

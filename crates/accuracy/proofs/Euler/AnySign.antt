@@ -2,7 +2,8 @@
 -- `Exp m p c Q P`. Its one law: where the exponents are added the bounds are multiplied. Assumes nothing.
 use Rattle.accuracy.proofs.Prelude.{◌≡◌, sym, ap, ◌∙◌, subst, ◌⊎◌, inl, inr, Bool, true, false, not, ℕ, suc, ◌+◌}
 use Rattle.accuracy.proofs.Prelude.{◌-◌, ◌*◌, ◌^◌, ◌≤◌, ◌<◌, arith, T, ltb, ltb→lt, nltb→le}
-use native.Mathlib.Nat.{le_refl, le_trans, le_of_eq, mul_comm, mul-pos, mul-le-mul_right, le_of_mul-le-mul_right, add-zero, le_of_lt, sub-zero, one-le-pow}
+use native.Mathlib.Nat.{le_refl, le_trans, le_of_eq, mul_comm, mul-pos, mul-le-mul_right, le_of_mul-le-mul_right}
+use native.Mathlib.Nat.{add-zero, le_of_lt, sub-zero, one-le-pow}
 use Rattle.accuracy.proofs.Euler.Bounds.{Above, Below}
 use Rattle.accuracy.proofs.Euler.Products.{above-mul, above-div, below-mul, below-div}
 use Rattle.accuracy.proofs.Euler.Weaker.{Near, above-weaken, below-weaken}

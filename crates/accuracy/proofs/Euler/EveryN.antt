@@ -2,7 +2,9 @@
 -- Assumes nothing.
 use Rattle.accuracy.proofs.Prelude.{◌≡◌, sym, ap, ◌∙◌, subst, true, false, ℕ, suc, ◌+◌, ◌*◌, ◌^◌, ◌≤◌, ◌<◌}
 use Rattle.accuracy.proofs.Prelude.{arith, pow-add}
-use native.Mathlib.Nat.{le_trans, le_of_eq, mul-le-mul_right, mul-le-mul_left, mul_comm, mul_assoc, le_of_mul-le-mul_left, le_of_mul-le-mul_right, mul-pos, mul_left_comm, mul_right_comm, sub-zero, one-le-pow}
+use native.Mathlib.Nat.{le_trans, le_of_eq, mul-le-mul_right, mul-le-mul_left, mul_comm, mul_assoc}
+use native.Mathlib.Nat.{le_of_mul-le-mul_left, le_of_mul-le-mul_right, mul-pos, mul_left_comm, mul_right_comm}
+use native.Mathlib.Nat.{sub-zero, one-le-pow}
 use Rattle.accuracy.proofs.Euler.Bounds.{Below, IsExp}
 use Rattle.accuracy.proofs.Euler.Means.{mean, mul-pow}
 use Rattle.accuracy.proofs.Euler.AnySign.{Nearly}

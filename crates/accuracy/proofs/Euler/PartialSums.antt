@@ -1,7 +1,9 @@
 -- The partial sums of e ^ t = 1 + t + t^2 / 2! + .. bound it from below, up to a factor 1 + t / m for any m, and with
 -- the last term twice they bound it from above. Assumes nothing.
 use Rattle.accuracy.proofs.Prelude.{◌≡◌, refl, sym, ap, ◌∙◌, subst, ℕ, zero, suc, ◌+◌, ◌*◌, ◌^◌, ◌≤◌, ◌<◌, arith}
-use native.Mathlib.Nat.{le_refl, le_trans, le_of_eq, pow-zero, pow-succ', mul-le-mul_right, mul-le-mul_left, mul_assoc, mul_comm, le_of_mul-le-mul_left, mul-pos, pow-le-pow_left, zero-lt-suc, le-add_right, mul_left_comm, zero-mul, one-le-pow}
+use native.Mathlib.Nat.{le_refl, le_trans, le_of_eq, pow-zero, pow-succ', mul-le-mul_right, mul-le-mul_left}
+use native.Mathlib.Nat.{mul_assoc, mul_comm, le_of_mul-le-mul_left, mul-pos, pow-le-pow_left, zero-lt-suc}
+use native.Mathlib.Nat.{le-add_right, mul_left_comm, zero-mul, one-le-pow}
 use Rattle.accuracy.proofs.Euler.Bounds.{Above, Below}
 use Rattle.accuracy.proofs.Euler.Means.{tangent, mul-pow}
 

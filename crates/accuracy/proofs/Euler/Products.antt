@@ -1,7 +1,8 @@
 -- e ^ (s + t) = e ^ s e ^ t, as four laws of bounds: products and quotients of upper and lower bounds, with nothing
 -- lost. Assumes nothing.
 use Rattle.accuracy.proofs.Prelude.{◌≡◌, sym, ap, ◌∙◌, subst, ℕ, ◌+◌, ◌*◌, ◌^◌, ◌≤◌, ◌<◌, arith, pow-add}
-use native.Mathlib.Nat.{le_trans, le_of_eq, mul-le-mul_right, mul-le-mul_left, mul-le-mul, le_of_mul-le-mul_left, mul-pos, pow-le-pow_left, mul-mul-mul_comm, one-le-pow}
+use native.Mathlib.Nat.{le_trans, le_of_eq, mul-le-mul_right, mul-le-mul_left, mul-le-mul, le_of_mul-le-mul_left}
+use native.Mathlib.Nat.{mul-pos, pow-le-pow_left, mul-mul-mul_comm, one-le-pow}
 use Rattle.accuracy.proofs.Euler.Bounds.{Above, Below}
 use Rattle.accuracy.proofs.Euler.Means.{mean, mul-pow}
 

@@ -3,7 +3,9 @@
 -- nothing.
 use Rattle.accuracy.proofs.Prelude.{◌≡◌, refl, sym, ap, ◌∙◌, subst, Bool, true, false, ℕ, suc, ◌+◌, ◌-◌, ◌*◌}
 use Rattle.accuracy.proofs.Prelude.{◌^◌, ◌≤◌, ◌<◌, arith, pow_pos, pow-add, pow_mono}
-use native.Mathlib.Nat.{le_trans, le_of_eq, mul-le-mul, mul-le-mul_left, le_of_mul-le-mul_left, lt_of_mul-lt-mul_right, lt_of_le_of_lt, lt_of_lt_of_le, mul-lt-mul_of_pos_right, mul-mul-mul_comm, lt_of_not-le, not-le_of_lt, mul_assoc, mul-le-mul_right}
+use native.Mathlib.Nat.{le_trans, le_of_eq, mul-le-mul, mul-le-mul_left, le_of_mul-le-mul_left}
+use native.Mathlib.Nat.{lt_of_mul-lt-mul_right, lt_of_le_of_lt, lt_of_lt_of_le, mul-lt-mul_of_pos_right}
+use native.Mathlib.Nat.{mul-mul-mul_comm, lt_of_not-le, not-le_of_lt, mul_assoc, mul-le-mul_right}
 use lib.Ieee.{Float, binary64, unlike, add, sub, mul, neg, size}
 unfoldable pub use Rattle.accuracy.specs.Accuracy.{L, Is}
 use Rattle.accuracy.proofs.Rounding.AnyFormat.{Close, Val, plus, less-of, mul-mag, add-val, neg-val, sub-opened}

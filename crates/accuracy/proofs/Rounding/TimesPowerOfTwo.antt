@@ -3,7 +3,10 @@
 use Rattle.accuracy.proofs.Prelude.{◌≡◌, refl, sym, ap, ◌∙◌, subst, ◌⊎◌, inl, inr, Bool, true, false, not, cond}
 use Rattle.accuracy.proofs.Prelude.{ℕ, suc, ◌+◌, ◌-◌, ◌*◌, ◌/◌, ◌^◌, ◌≤◌, ◌<◌, arith, T, leb, leb→le, nleb→lt}
 use Rattle.accuracy.proofs.Prelude.{ltb, ltb→lt, nltb→le, lit<, pow-add, pow_mono}
-use native.Mathlib.Nat.{le_refl, le_trans, le_of_eq, le_of_suc-le-suc, lt_of_le_of_lt, lt_of_lt_of_le, lt_of_not-le, not-le_of_lt, mul-one, mul_assoc, mul-pos, mul-le-mul_left, mul-le-mul_right, le_of_mul-le-mul_left, lt_of_mul-lt-mul_right, eq_of_mul-eq-mul_right, mul-lt-mul_of_pos_right, div-lt_iff_lt-mul, sub-add_cancel}
+use native.Mathlib.Nat.{le_refl, le_trans, le_of_eq, le_of_suc-le-suc, lt_of_le_of_lt, lt_of_lt_of_le, lt_of_not-le}
+use native.Mathlib.Nat.{not-le_of_lt, mul-one, mul_assoc, mul-pos, mul-le-mul_left, mul-le-mul_right}
+use native.Mathlib.Nat.{le_of_mul-le-mul_left, lt_of_mul-lt-mul_right, eq_of_mul-eq-mul_right}
+use native.Mathlib.Nat.{mul-lt-mul_of_pos_right, div-lt_iff_lt-mul, sub-add_cancel}
 use lib.Ieee.{Float, nan, inf, fin, Format, binary64, prec, low, down, round, mul, le, fits, units, odd}
 use lib.Ieee.Digits.{size-le}
 use lib.Ieee.Exact.{HasValue}

@@ -2,7 +2,8 @@
 -- m = N / 32 % 4096. Assumes nothing.
 use Rattle.accuracy.proofs.Prelude.{◌≡◌, sym, ap, ◌∙◌, Bool, false, cond, ℕ, ◌+◌, ◌-◌, ◌*◌, ◌/◌, ◌%◌, ◌^◌, ◌≤◌}
 use Rattle.accuracy.proofs.Prelude.{◌<◌, arith, pow_pos, pow-add, pow_mono}
-use native.Mathlib.Nat.{le_trans, le_of_eq, le_antisymm, lt_of_lt_of_le, mul-le-mul_right, mul-lt-mul_of_pos_right, mul-div_cancel, not-le_of_lt, lt_of_not-le}
+use native.Mathlib.Nat.{le_trans, le_of_eq, le_antisymm, lt_of_lt_of_le, mul-le-mul_right, mul-lt-mul_of_pos_right}
+use native.Mathlib.Nat.{mul-div_cancel, not-le_of_lt, lt_of_not-le}
 use lib.Ieee.{Float, nan, inf, fin, binary64, to_bits, size, up, down}
 use lib.Ieee.Digits.{size-lt, size-le}
 use lib.Ieee.Fits.{down_pos}

@@ -3,13 +3,16 @@
 -- Assumes nothing.
 use Rattle.accuracy.proofs.Prelude.{◌≡◌, refl, sym, ap, ◌∙◌, subst, Bool, true, false, ℕ, ◌+◌, ◌-◌, ◌*◌, ◌^◌}
 use Rattle.accuracy.proofs.Prelude.{◌≤◌, ◌<◌, arith, T, lit≤, lit<}
-use native.Mathlib.Nat.{le_trans, le_of_eq, lt_of_le_of_lt, mul-le-mul_right, mul-le-mul_left, mul-le-mul, mul_assoc, mul-one, le_of_mul-le-mul_left, add-sub_of_le, one-mul, le_of_mul-le-mul_right, mul_right_comm}
+use native.Mathlib.Nat.{le_trans, le_of_eq, lt_of_le_of_lt, mul-le-mul_right, mul-le-mul_left, mul-le-mul, mul_assoc}
+use native.Mathlib.Nat.{mul-one, le_of_mul-le-mul_left, add-sub_of_le, one-mul, le_of_mul-le-mul_right}
+use native.Mathlib.Nat.{mul_right_comm}
 use lib.IntN.{ℤ}
 use lib.Ieee.{Float, nan, inf, fin, binary64, round, add, sub, mul, neg, of_bits, fits, up, down}
 use lib.Ieee.Exact.{round_exact}
 use lib.Ieee.Fits.{add-fits}
 use Rattle.routines.specs.Exp.{PER_STEP, SHIFT}
-use Rattle.accuracy.proofs.Rounding.AnyFormat.{Close, Sg, plus, less-of, add_is, neg-val, sub-opened, plus-le, less-le, unlike-plus}
+use Rattle.accuracy.proofs.Rounding.AnyFormat.{Close, Sg, plus, less-of, add_is, neg-val, sub-opened, plus-le}
+use Rattle.accuracy.proofs.Rounding.AnyFormat.{less-le, unlike-plus}
 use Rattle.accuracy.proofs.Rounding.Binary64.{L, e, L-pos, Is, power, pair_of, mul-within, add-within}
 use Rattle.accuracy.proofs.Rounding.Binary64.{product-below, small-e}
 use Rattle.accuracy.proofs.Rounding.Binary64.{halves}

@@ -8,7 +8,8 @@ use lib.ListN.{length}
 use Rattle.accuracy.proofs.Euler.PartialSums.{part, scale, over, scale-pos, scale-times, above-series}
 use Rattle.accuracy.proofs.Euler.PartialSums.{below-series}
 use Rattle.accuracy.proofs.Euler.Weaker.{Near, above-weaken, below-weaken}
-use Rattle.accuracy.proofs.Steps.Polynomials.{ev, addl, smul, mulp, unit, tay, excess, ev-add, ev-smul, ev-lift, ev-mul, ev-unit, part-tay, at-most}
+use Rattle.accuracy.proofs.Steps.Polynomials.{ev, addl, smul, mulp, unit, tay, excess, ev-add, ev-smul, ev-lift}
+use Rattle.accuracy.proofs.Steps.Polynomials.{ev-mul, ev-unit, part-tay, at-most}
 
 -- exp's coefficients times S = 2 ^ 62, exactly: C3, C4, C5, C6
 abbrev pub S : ℕ

@@ -3,7 +3,8 @@
 use Rattle.accuracy.proofs.Prelude.{◌≡◌, refl, sym, ap, ◌∙◌, subst, ℕ, zero, suc, ◌+◌, ◌-◌, ◌*◌, ◌/◌, ◌^◌, ◌≤◌}
 use Rattle.accuracy.proofs.Prelude.{arith, pow-add}
 use mathlib.Core.List.{List, [], ◌∷◌}
-use native.Mathlib.Nat.{le_refl, le_trans, le_of_eq, pow-zero, pow-succ', mul-le-mul_right, mul-le-mul_left, le_of_mul-le-mul_left, zero-lt-suc, add-zero, mul-zero, zero-add, zero-mul}
+use native.Mathlib.Nat.{le_refl, le_trans, le_of_eq, pow-zero, pow-succ', mul-le-mul_right, mul-le-mul_left}
+use native.Mathlib.Nat.{le_of_mul-le-mul_left, zero-lt-suc, add-zero, mul-zero, zero-add, zero-mul}
 use lib.ListN.{length}
 use Rattle.accuracy.proofs.Euler.PartialSums.{part, part-suc, part-zero}
 

@@ -3,7 +3,8 @@
 -- Assumes nothing.
 use Rattle.accuracy.proofs.Prelude.{◌≡◌, refl, sym, ap, ◌∙◌, subst, Bool, true, false, ℕ, ◌+◌, ◌*◌, ◌^◌, ◌≤◌}
 use Rattle.accuracy.proofs.Prelude.{◌<◌, arith, lit≤, lit<, pow_pos}
-use native.Mathlib.Nat.{le_trans, le_of_eq, lt_of_le_of_lt, lt_of_lt_of_le, mul-le-mul_right, mul-le-mul_left, mul_comm, mul-pos, le_of_mul-le-mul_left, mul-lt-mul_of_pos_right, mul_right_comm}
+use native.Mathlib.Nat.{le_trans, le_of_eq, lt_of_le_of_lt, lt_of_lt_of_le, mul-le-mul_right, mul-le-mul_left}
+use native.Mathlib.Nat.{mul_comm, mul-pos, le_of_mul-le-mul_left, mul-lt-mul_of_pos_right, mul_right_comm}
 use lib.Ieee.{Float, binary64, round, sub, mul, of_bits}
 use lib.Ieee.Exact.{HasValue, round_exact}
 use Rattle.routines.specs.Exp.{STEP_HIGH, STEP_LOW, reduced}

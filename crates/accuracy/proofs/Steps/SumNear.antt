@@ -2,7 +2,8 @@
 -- times T, is e ^ (s + r) up to 0.1345 * 2 ^ -53. Assumes nothing.
 use Rattle.accuracy.proofs.Prelude.{◌≡◌, refl, sym, ap, ◌∙◌, ℕ, suc, ◌+◌, ◌-◌, ◌*◌, ◌^◌, ◌≤◌, ◌<◌, arith, lit≤}
 use Rattle.accuracy.proofs.Prelude.{lit<}
-use native.Mathlib.Nat.{le_trans, le_of_eq, mul-le-mul_right, mul-le-mul_left, mul_assoc, mul-pos, le_of_mul-le-mul_left, mul_right_comm}
+use native.Mathlib.Nat.{le_trans, le_of_eq, mul-le-mul_right, mul-le-mul_left, mul_assoc, mul-pos}
+use native.Mathlib.Nat.{le_of_mul-le-mul_left, mul_right_comm}
 use lib.Ieee.{Float}
 use Rattle.accuracy.proofs.Rounding.AnyFormat.{Close}
 use Rattle.accuracy.proofs.Rounding.Binary64.{L, e, L-pos, small-e}

@@ -2,7 +2,8 @@
 -- 2 ^ -58 of y. Assumes nothing.
 use Rattle.accuracy.proofs.Prelude.{◌≡◌, refl, sym, ap, subst, Bool, true, false, ℕ, ◌+◌, ◌-◌, ◌*◌, ◌/◌, ◌%◌}
 use Rattle.accuracy.proofs.Prelude.{◌^◌, ◌≤◌, ◌<◌, compare, arith, lit≤, pow_pos}
-use native.Mathlib.Nat.{le_trans, le_of_eq, mul-le-mul_right, mul-le-mul_left, mul-pos, le_of_mul-le-mul_left, mul-div_cancel, le-div_iff_mul-le}
+use native.Mathlib.Nat.{le_trans, le_of_eq, mul-le-mul_right, mul-le-mul_left, mul-pos, le_of_mul-le-mul_left}
+use native.Mathlib.Nat.{mul-div_cancel, le-div_iff_mul-le}
 use lib.Ieee.{Float, binary64, add, mul, size}
 use lib.Ieee.Nearest.{closest, nearest-ge}
 use lib.Ieee.Scale.{grid}

@@ -8,7 +8,8 @@ use Rattle.accuracy.proofs.Rounding.AnyFormat.{Close}
 use Rattle.accuracy.proofs.Rounding.Binary64.{L, e, Is, halves}
 use Rattle.accuracy.proofs.Steps.TailErrors.{inner-plus, inner-minus, outer-plus, outer-minus}
 use Rattle.accuracy.proofs.Steps.PolynomialNear.{S, c3, c4, c5, c6}
-use Rattle.accuracy.proofs.Steps.TailOperations.{Result, l, S-l, zed, one, two, three, four, five, six, seven, eight, six-close, eight-close, finish}
+use Rattle.accuracy.proofs.Steps.TailOperations.{Result, l, S-l, zed, one, two, three, four, five, six, seven, eight}
+use Rattle.accuracy.proofs.Steps.TailOperations.{six-close, eight-close, finish}
 
 -- the polynomial's parts
 abbrev pub Q6 : ℕ → ℕ

@@ -2,11 +2,15 @@
 use Rattle.accuracy.proofs.Prelude.{◌≡◌, refl, sym, ap, ◌∙◌, subst, inl, inr, Bool, true, false, not, cond, ℕ}
 use Rattle.accuracy.proofs.Prelude.{zero, suc, ◌+◌, ◌-◌, ◌*◌, ◌^◌, ◌≤◌, ◌<◌, arith, T, leb, leb→le, nleb→lt}
 use Rattle.accuracy.proofs.Prelude.{lit≤, lit<, pow-add, pow_mono}
-use native.Mathlib.Nat.{le_trans, le_of_eq, le_of_lt, lt_of_le_of_lt, lt_of_lt_of_le, not-le_of_lt, lt_of_not-le, mul-pos, mul_comm, mul-le-mul, mul-le-mul_left, mul-le-mul_right, lt_of_mul-lt-mul_right, le_of_mul-le-mul_right, mul-lt-mul_of_pos_right, add-sub_of_le, one-mul, sub-add_cancel, zero-lt-suc, zero-mul}
+use native.Mathlib.Nat.{le_trans, le_of_eq, le_of_lt, lt_of_le_of_lt, lt_of_lt_of_le, not-le_of_lt, lt_of_not-le}
+use native.Mathlib.Nat.{mul-pos, mul_comm, mul-le-mul, mul-le-mul_left, mul-le-mul_right, lt_of_mul-lt-mul_right}
+use native.Mathlib.Nat.{le_of_mul-le-mul_right, mul-lt-mul_of_pos_right, add-sub_of_le, one-mul, sub-add_cancel}
+use native.Mathlib.Nat.{zero-lt-suc, zero-mul}
 use lib.Ieee.{Float, inf, size}
 use lib.Ieee.Digits.{size-lt, size-le}
 use Rattle.routines.specs.Units.{Off}
-use Rattle.accuracy.specs.Accuracy.{L, Is, slack, ulp, of_small, of_normal, hundredths, ExpAtMost, ExpAtLeast, Within, InUlps, Answers}
+use Rattle.accuracy.specs.Accuracy.{L, Is, slack, ulp, of_small, of_normal, hundredths, ExpAtMost, ExpAtLeast, Within}
+use Rattle.accuracy.specs.Accuracy.{InUlps, Answers}
 use Rattle.accuracy.proofs.Rounding.Binary64.{L-pos, digits-53}
 use Rattle.accuracy.proofs.Steps.PartsTogether.{sharp}
 use Rattle.accuracy.proofs.Rounding.TimesPowerOfTwo.{L-pow, Exact, Small, Over}

@@ -2,7 +2,8 @@
 -- e ^ x up to one part in `sharp`. Assumes nothing.
 use Rattle.accuracy.proofs.Prelude.{◌≡◌, sym, ap, ◌∙◌, subst, Bool, false, not, ℕ, suc, ◌+◌, ◌-◌, ◌*◌, ◌/◌, ◌%◌}
 use Rattle.accuracy.proofs.Prelude.{◌^◌, ◌≤◌, ◌<◌, arith, T, lit<, pow_pos, pow-add}
-use native.Mathlib.Nat.{le_trans, le_of_eq, lt_of_lt_of_le, mul-pos, mul_assoc, mul-le-mul_right, eq_of_mul-eq-mul_right, mul_left_comm}
+use native.Mathlib.Nat.{le_trans, le_of_eq, lt_of_lt_of_le, mul-pos, mul_assoc, mul-le-mul_right}
+use native.Mathlib.Nat.{eq_of_mul-eq-mul_right, mul_left_comm}
 use lib.Ieee.{Float, binary64, add, mul, of_bits, to_bits, fits, size}
 use lib.Ieee.Fits.{add-fits}
 use lib.Ieee.Positive.{num, den, den_pos, value→cross}

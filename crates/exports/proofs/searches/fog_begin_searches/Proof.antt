@@ -8,7 +8,8 @@ use lib.ListN.{length, drop}
 use lib.Ieee.{Float}
 use Rattle.meaning.specs.Lent.{on_give}
 use Rattle.meaning.specs.Reply.{Reply}
-use Rattle.search.specs.Beginning.{simplexes_begun, iterations_begun, stopped_begun, begin_searches_of, size_of, runs_in}
+use Rattle.search.specs.Beginning.{simplexes_begun, iterations_begun, stopped_begun, begin_searches_of, size_of}
+use Rattle.search.specs.Beginning.{runs_in}
 use Rattle.search.specs.Prices.{price_of}
 use Rattle.search.specs.Searches.{lent_of, stood_from, ready_after}
 use Rattle.models.specs.declared.problems.Problem.{Problem}

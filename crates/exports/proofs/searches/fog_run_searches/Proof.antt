@@ -9,7 +9,8 @@ use lib.Ieee.{Float}
 use Rattle.meaning.specs.Lent.{on_give}
 use Rattle.meaning.specs.Reply.{Reply}
 use Rattle.search.specs.Prices.{price_of, cap_of, width_of}
-use Rattle.search.specs.Searches.{simplexes_after, iterations_after, stopped_after, lent_of, run_searches_of, stood_from, ready_after}
+use Rattle.search.specs.Searches.{simplexes_after, iterations_after, stopped_after, lent_of, run_searches_of}
+use Rattle.search.specs.Searches.{stood_from, ready_after}
 use Rattle.models.specs.declared.problems.Problem.{Problem}
 use Rattle.exports.specs.Flat.{say_written}
 use Rattle.exports.proofs.searches.fog_run_searches.Statement.{statement}

@@ -3,4 +3,7 @@ use Rattle.exports.proofs.spectra.fog_recover_bins.Goals as goal
 
 pub returns : goal.returns
 returns c =
-    record { value = rw (c.flat_written.ensures, c.recover_bins.ensures.result_value); out_after = c.recover_bins.ensures.out_after }
+    record {
+      value = rw (c.flat_written.ensures, c.recover_bins.ensures.result_value);
+      out_after = c.recover_bins.ensures.out_after;
+    }

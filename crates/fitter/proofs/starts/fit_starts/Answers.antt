@@ -23,4 +23,7 @@ pub returns : goal.returns
 returns c =
     let a = c.args in
     let e = fixed a.error a.genome c.pareto_starts-pareto.result c.weibull_starts-weibull.result a.seeds.now a.hint a.share
-    a.shapes.now (length a.out.now) c.pareto_starts-pareto.ensures c.weibull_starts-weibull.ensures in record { result_value = c.fit_starts_lent.ensures.result_value ∙ ap (λ (r : Reply (List Float)). counted r) e; out_after = c.fit_starts_lent.ensures.out_after ∙ ap (λ (r : Reply (List Float)). laid r a.out.now) e }
+    a.shapes.now (length a.out.now) c.pareto_starts-pareto.ensures c.weibull_starts-weibull.ensures in record {
+      result_value = c.fit_starts_lent.ensures.result_value ∙ ap (λ (r : Reply (List Float)). counted r) e;
+      out_after = c.fit_starts_lent.ensures.out_after ∙ ap (λ (r : Reply (List Float)). laid r a.out.now) e;
+    }

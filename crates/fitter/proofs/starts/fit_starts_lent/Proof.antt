@@ -12,7 +12,8 @@ use Rattle.meaning.specs.Reply.{give, first_of}
 use Rattle.fitter.specs.StartTables.{table_of, wrong_tables}
 use Rattle.fitter.specs.Starts.{hint_of, all_starts}
 use Rattle.fitter.proofs.Parts.{width_some}
-use Rattle.fitter.proofs.Answers.{chosen, empty-refused, some-fine, table-some, tables-refused, shapes-refused, room-refused}
+use Rattle.fitter.proofs.Answers.{chosen, empty-refused, some-fine, table-some, tables-refused, shapes-refused}
+use Rattle.fitter.proofs.Answers.{room-refused}
 use Rattle.fitter.proofs.Answers.{given, needed, starts-are}
 use borrow.Author.Rules.{rules}
 use Rattle.fitter.proofs.starts.fit_starts_lent.Statement.{statement}

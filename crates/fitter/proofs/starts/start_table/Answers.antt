@@ -6,7 +6,10 @@ use Rattle.fitter.proofs.starts.start_table.Goals as goal
 
 pub returns-then-start_tables_refusal-ne0 : goal.returns-then-start_tables_refusal-ne0
 returns-then-start_tables_refusal-ne0 c =
-    record { value = λ e. absurd (c.if-start_tables_refusal-ne0.true (c.start_tables_refusal.ensures ∙ sym e)); result_value = λ e. refl }
+    record {
+      value = λ e. absurd (c.if-start_tables_refusal-ne0.true (c.start_tables_refusal.ensures ∙ sym e));
+      result_value = λ e. refl;
+    }
 
 pub enum_told-1 : goal.enum_told-1
 enum_told-1 c = search rules
@@ -14,9 +17,15 @@ enum_told-1 c = search rules
 pub returns-in-FreeSingletonWeibull : goal.returns-in-FreeSingletonWeibull
 returns-in-FreeSingletonWeibull c =
     let n = c.start_tables_refusal.ensures in
-    record { value = λ e. rw c.in-FreeSingletonWeibull.is; result_value = λ e. absurd (omega (arith, n, e, c.if-start_tables_refusal-ne0.false)) }
+    record {
+      value = λ e. rw c.in-FreeSingletonWeibull.is;
+      result_value = λ e. absurd (omega (arith, n, e, c.if-start_tables_refusal-ne0.false));
+    }
 
 pub returns-in-SingletonPareto : goal.returns-in-SingletonPareto
 returns-in-SingletonPareto c =
     let n = c.start_tables_refusal.ensures in
-    record { value = λ e. rw c.in-SingletonPareto.is; result_value = λ e. absurd (omega (arith, n, e, c.if-start_tables_refusal-ne0.false)) }
+    record {
+      value = λ e. rw c.in-SingletonPareto.is;
+      result_value = λ e. absurd (omega (arith, n, e, c.if-start_tables_refusal-ne0.false));
+    }

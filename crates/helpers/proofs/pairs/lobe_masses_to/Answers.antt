@@ -52,4 +52,7 @@ pub returns : goal.returns
 unfolding lobe_mass_of kept_after
 returns c =
     let inv = c.loop-count.invariant in
-    record { value = rw (sum-ends _ _ _ inv.0 (omega arith), sum-ends _ _ _ inv.1 (omega arith)); kept_after = ends _ _ 1 _ inv.2 (omega arith) }
+    record {
+      value = rw (sum-ends _ _ _ inv.0 (omega arith), sum-ends _ _ _ inv.1 (omega arith));
+      kept_after = ends _ _ 1 _ inv.2 (omega arith);
+    }

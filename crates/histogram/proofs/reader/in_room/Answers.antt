@@ -28,7 +28,13 @@ returns-else-room-n c =
     }
 
 pub returns-in-Broken : goal.returns-in-Broken
-returns-in-Broken c = rw c.in-Broken.is record { result_bound = zero-le; by_index = λ (held : List ℕ) (h : 0 ≤ length held). refl }
+returns-in-Broken c = rw c.in-Broken.is record {
+  result_bound = zero-le;
+  by_index = λ (held : List ℕ) (h : 0 ≤ length held). refl;
+}
 
 pub returns-in-Refused : goal.returns-in-Refused
-returns-in-Refused c = rw c.in-Refused.is record { result_bound = zero-le; by_index = λ (held : List ℕ) (h : 0 ≤ length held). refl }
+returns-in-Refused c = rw c.in-Refused.is record {
+  result_bound = zero-le;
+  by_index = λ (held : List ℕ) (h : 0 ≤ length held). refl;
+}

@@ -8,7 +8,8 @@ use lib.ListN.{length}
 use Rattle.models.specs.Costs.{started}
 use Rattle.models.specs.Tables.{entries_in}
 use Rattle.models.specs.Usable.{params_usable}
-use Rattle.models.proofs.Costed.{params-stop, mode-stops, starts, stopped-cost, stopped-table, started-cost, started-table}
+use Rattle.models.proofs.Costed.{params-stop, mode-stops, starts, stopped-cost, stopped-table, started-cost}
+use Rattle.models.proofs.Costed.{started-table}
 use Rattle.models.proofs.Filled.{front-is, front-room, entries-few}
 use Rattle.models.proofs.costs.cost_at.Statement.{statement}
 use Rattle.models.proofs.costs.cost_at.Tie as tie

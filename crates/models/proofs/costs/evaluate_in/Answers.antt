@@ -3,7 +3,8 @@ use mathlib.Core.Path.{sym, ◌∙◌}
 use lib.Ieee.{div, of_bits}
 use Rattle.models.proofs.Costed.{not_finite, above_zero, at-most-zero, masses-stop, likelihood-stops, evaluates}
 use Rattle.models.proofs.costs.evaluate_in.Goals as goal
-use Rattle.models.proofs.costs.evaluate_in.Goals.{else-is_finite-via-then-is_finite+else-total, else-is_finite-via-else-is_finite}
+use Rattle.models.proofs.costs.evaluate_in.Goals.{else-is_finite-via-then-is_finite+else-total}
+use Rattle.models.proofs.costs.evaluate_in.Goals.{else-is_finite-via-else-is_finite}
 
 pub returns-then-not-masses_usable : goal.returns-then-not-masses_usable
 unfolding div of_bits

@@ -14,7 +14,10 @@ use Rattle.models.proofs.deviances.add_deviance.Goals as goal
 
 pub returns-then-n-eq0 : goal.returns-then-n-eq0
 unfolding seen_term
-returns-then-n-eq0 c = record { total_value = simp (eq-eqb _ _ c.if-n-eq0.true); ready_value_2 = c.requires.ready_value }
+returns-then-n-eq0 c = record {
+  total_value = simp (eq-eqb _ _ c.if-n-eq0.true);
+  ready_value_2 = c.requires.ready_value;
+}
 
 pub overflow_add-count : goal.overflow_add-count
 overflow_add-count c = omega arith

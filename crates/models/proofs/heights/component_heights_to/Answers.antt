@@ -45,4 +45,7 @@ returns c =
     let h = le-ltb _ _ c.if-last-gt-MOST.false in
     let k = le-ltb _ _ c.if-out-items.false in
     let a = c.args in
-    let same = rows_of a.fit _ c.height_terms.ensures a.last in record { result_value = simp (h, k) (ap give (sym (rows-length (λ (n : ℕ). heights_at a.fit (of_count n)) a.last))); out_after = simp (h, k) (c.write_heights.ensures ∙ ap (λ (l : List Float). over l a.out.now) same) }
+    let same = rows_of a.fit _ c.height_terms.ensures a.last in record {
+      result_value = simp (h, k) (ap give (sym (rows-length (λ (n : ℕ). heights_at a.fit (of_count n)) a.last)));
+      out_after = simp (h, k) (c.write_heights.ensures ∙ ap (λ (l : List Float). over l a.out.now) same);
+    }

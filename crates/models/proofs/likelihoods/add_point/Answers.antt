@@ -11,7 +11,10 @@ use Rattle.models.proofs.likelihoods.add_point.Goals as goal
 
 pub returns-then-n-eq0 : goal.returns-then-n-eq0
 unfolding seen_term
-returns-then-n-eq0 c = record { total_value = simp (eq-eqb _ _ c.if-n-eq0.true); ahead_value_2 = c.requires.ahead_value }
+returns-then-n-eq0 c = record {
+  total_value = simp (eq-eqb _ _ c.if-n-eq0.true);
+  ahead_value_2 = c.requires.ahead_value;
+}
 
 pub ahead_at-here-requires : goal.ahead_at-here-requires
 ahead_at-here-requires c = c.requires.ahead_value
@@ -33,4 +36,7 @@ returns c =
     let here = c.ahead_at-here.ensures in
     let next = c.ahead_after-next.ensures in
     let term = c.point-term.ensures
-    ∙ step_is a.p a.m a.steady a.ready.now a.table.now a.i _ _ _ (omega (arith, few)) here next c.gamma_at-gamma.ensures in record { total_value = simp (ne_eqb _ _ c.if-n-eq0.false) (ap (λ (x : Float). a.reached.total ⊕ of_count a.n ⊗ x) term); ahead_value_2 = next-stands a.p.error_params a.ready.now a.i _ _ here next }
+    ∙ step_is a.p a.m a.steady a.ready.now a.table.now a.i _ _ _ (omega (arith, few)) here next c.gamma_at-gamma.ensures in record {
+      total_value = simp (ne_eqb _ _ c.if-n-eq0.false) (ap (λ (x : Float). a.reached.total ⊕ of_count a.n ⊗ x) term);
+      ahead_value_2 = next-stands a.p.error_params a.ready.now a.i _ _ here next;
+    }

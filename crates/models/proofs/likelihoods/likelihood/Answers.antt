@@ -15,7 +15,11 @@ loop-i-init c = (standing _ _ c.ahead_of.ensures, begins _ _ _ _ _ (omega arith)
 
 pub add_point-reached-requires : goal.add_point-reached-requires
 add_point-reached-requires c =
-    record { i_lt_most = omega (arith, c.ranges.top); kept = kept-fewer c.requires _ (omega arith); ahead_value = c.loop-i.invariant.0 }
+    record {
+      i_lt_most = omega (arith, c.ranges.top);
+      kept = kept-fewer c.requires _ (omega arith);
+      ahead_value = c.loop-i.invariant.0;
+    }
 
 pub overflow_add-i : goal.overflow_add-i
 overflow_add-i c = omega arith

@@ -12,8 +12,14 @@ use Rattle.models.proofs.prepared.prepare_window.Goals as goal
 
 -- a refusal leaves the slice as it is
 kept : (n end : ℕ) (held : List Float) → prepare_of end (length held) ≡ refuse n
-    → record { result_value : refuse n ≡ counted (prepare_of end (length held)); out_after : held ≡ laid (prepare_of end (length held)) held }
-kept n end held e = record { result_value = ap counted (sym e); out_after = ap (λ (r : Reply (List Float)). laid r held) (sym e) }
+    → record {
+      result_value : refuse n ≡ counted (prepare_of end (length held));
+      out_after : held ≡ laid (prepare_of end (length held)) held;
+    }
+kept n end held e = record {
+  result_value = ap counted (sym e);
+  out_after = ap (λ (r : Reply (List Float)). laid r held) (sym e);
+}
 
 pub returns-then-window_end-gt-MOST : goal.returns-then-window_end-gt-MOST
 returns-then-window_end-gt-MOST c =
@@ -35,4 +41,7 @@ returns-then-out-rows c =
 pub returns : goal.returns
 returns c =
     let a = c.args in
-    let e = prepare-given a.window_end (length a.out.now) c.if-window_end-gt-MOST.false c.if-window_end-eq0.false c.if-out-rows.false in record { result_value = ap give (sym (rows-length (a.window_end + 2))) ∙ ap counted (sym e); out_after = c.write_rows.ensures ∙ ap (λ (r : Reply (List Float)). laid r a.out.now) (sym e) }
+    let e = prepare-given a.window_end (length a.out.now) c.if-window_end-gt-MOST.false c.if-window_end-eq0.false c.if-out-rows.false in record {
+      result_value = ap give (sym (rows-length (a.window_end + 2))) ∙ ap counted (sym e);
+      out_after = c.write_rows.ensures ∙ ap (λ (r : Reply (List Float)). laid r a.out.now) (sym e);
+    }

@@ -14,4 +14,8 @@ returns-then-s c =
 pub returns : goal.returns
 unfolding selected_text chosen_of last_of
 returns c =
-    rw c.if-s.false record { size_value = c.put_last.ensures.value; out_after = c.put_last.ensures.out_after; last_value = refl }
+    rw c.if-s.false record {
+      size_value = c.put_last.ensures.value;
+      out_after = c.put_last.ensures.out_after;
+      last_value = refl;
+    }

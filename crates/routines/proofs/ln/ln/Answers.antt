@@ -18,7 +18,10 @@ returns-else-x-3 c = rw (c.if-x.false, c.if-x-3.false) c.not_above_zero.ensures
 -- what `core` asks of a value and an offset that are known
 few-of : {y : Float} {k : ℕ} (v : Float) (o : ℕ) → v ≡ y → o ≡ k → T (not (is_nan y)) → k ≤ OFFSET
     → record { fact_1 : T (not (is_nan v)); fact_2 : o ≤ OFFSET }
-few-of v o p q n l = record { fact_1 = subst (λ (x : Float). T (not (is_nan x))) (sym p) n; fact_2 = subst (λ (x : ℕ). x ≤ OFFSET) (sym q) l }
+few-of v o p q n l = record {
+  fact_1 = subst (λ (x : Float). T (not (is_nan x))) (sym p) n;
+  fact_2 = subst (λ (x : ℕ). x ≤ OFFSET) (sym q) l;
+}
 
 pub core-requires : goal.core-requires
 core-requires c =

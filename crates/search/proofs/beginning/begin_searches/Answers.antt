@@ -11,7 +11,8 @@ use lib.ListN.{length, drop}
 use lib.Ieee.{Float}
 use Rattle.meaning.specs.Lent.{on_give}
 use Rattle.meaning.specs.Reply.{Reply, give, first_of}
-use Rattle.search.specs.Beginning.{size_of, runs_in, ragged, simplexes_begun, iterations_begun, stopped_begun, begin_searches_of}
+use Rattle.search.specs.Beginning.{size_of, runs_in, ragged, simplexes_begun, iterations_begun, stopped_begun}
+use Rattle.search.specs.Beginning.{begin_searches_of}
 use Rattle.search.specs.Prices.{ready_price_of, price_of, width_of}
 use Rattle.search.specs.Refusing.{search_tests}
 use Rattle.search.specs.Searches.{lent_of, stood_from, ready_after}

@@ -10,7 +10,8 @@ use lib.Ieee.{Float}
 use Rattle.meaning.specs.Lent.{on_give}
 use Rattle.meaning.specs.Reply.{Reply, give}
 use Rattle.search.specs.Prices.{ready_price_of, price_of, cap_of, width_of}
-use Rattle.search.specs.Searches.{simplexes_after, iterations_after, stopped_after, lent_of, stood_from, ready_after, run_searches_of}
+use Rattle.search.specs.Searches.{simplexes_after, iterations_after, stopped_after, lent_of, stood_from, ready_after}
+use Rattle.search.specs.Searches.{run_searches_of}
 use Rattle.models.specs.declared.problems.Problem.{Problem}
 use Rattle.search.specs.declared.refusing.Lent.{Lent}
 use Rattle.search.proofs.ReadyPrices.{ready-is-cost}

@@ -35,9 +35,6 @@ decreases-loop bins problem w best point₀ rows₀ ready table₀ n i₀ point 
 abbrev copied : tie.At-loop-i invariant-loop decreases-loop → tie.After-copy invariant-loop decreases-loop
 copied l = search
 
-abbrev start : tie.After-copy-arg-1 invariant-loop decreases-loop → tie.Start invariant-loop decreases-loop
-start k = search
-
 abbrev begun : tie.At-loop-i invariant-loop decreases-loop → tie.Start invariant-loop decreases-loop
 begun l = search
 

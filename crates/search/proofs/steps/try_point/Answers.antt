@@ -10,4 +10,8 @@ use Rattle.search.proofs.steps.try_point.Goals as goal
 pub returns : goal.returns
 returns c =
     let a = c.args in
-    let e = c.move_point.ensures ∙ ap (λ (x : List Float). moved a.how x a.other.now) c.copy.ensures in record { point_after = e; value = c.price.ensures.value ∙ ap (ready_price_of a.bins.now a.problem a.ready.now (length a.table.now)) e; table_unchanged = c.price.ensures.table_unchanged }
+    let e = c.move_point.ensures ∙ ap (λ (x : List Float). moved a.how x a.other.now) c.copy.ensures in record {
+      point_after = e;
+      value = c.price.ensures.value ∙ ap (ready_price_of a.bins.now a.problem a.ready.now (length a.table.now)) e;
+      table_unchanged = c.price.ensures.table_unchanged;
+    }

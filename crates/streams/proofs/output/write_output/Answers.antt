@@ -1,5 +1,6 @@
 -- What a turn writes is the next bytes. Assumes nothing.
-use Rattle.std.proofs.Common.{◌≡◌, ◌-◌, ◌≤◌, ◌<◌, ◌++◌, length, take, drop, arith, sym, ap, ◌∙◌, subst, take-add, take-take}
+use Rattle.std.proofs.Common.{◌≡◌, ◌-◌, ◌≤◌, ◌<◌, ◌++◌, length, take, drop, arith, sym, ap, ◌∙◌, subst, take-add}
+use Rattle.std.proofs.Common.{take-take}
 use Rattle.std.specs.Io.KnownBytes.{Appends}
 use Rattle.std.proofs.KnownBytes.{Appends-trans, Appends-kept}
 use Rattle.streams.proofs.output.write_output.Goals as goal
