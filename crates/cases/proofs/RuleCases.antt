@@ -65,8 +65,8 @@ rule-8-far : Each Bands rule8_far
 unfolding primary_mode_outside_band outside_band discrete_nb_mode_of min_of floor_of round to_unsigned of_int of_bits neg add sub mul lt le eq
 rule-8-far = (refl, (refl, (refl, (refl, tt))))
 
-reasons-Named : Each Named reasons
-reasons-Named = (refl, (refl, (refl, (refl, (refl, (refl, (refl, (refl, (refl, (refl, tt))))))))))
+reasons-named : Each Named reasons
+reasons-named = (refl, (refl, (refl, (refl, (refl, (refl, (refl, (refl, (refl, (refl, tt))))))))))
 
 pub rule-table : RuleTable
-rule-table = (rules-1-to-3, rules-4-to-6, rules-7-to-10, rule-8-far, rules-in-order, reasons-Named)
+rule-table = (rules-1-to-3, rules-4-to-6, rules-7-to-10, rule-8-far, rules-in-order, reasons-named)

@@ -11,7 +11,7 @@ use crate::turns::{begin_turns, end_turns, turn};
 use models::problems::Problem;
 
 // The attempt, or 1, 2, 4, 5, 6, 7, 9 or 10 instead, as `attempt_from_numbers` has it over the table's columns. The
-// loop is thin, for its proof is a walk by hand: the work of a turn is `turn`.
+// loop is thin: the work of a turn is `turn`.
 pub fn attempt_from(
     bins: &[u32],
     setup: Problem,

@@ -21,7 +21,7 @@ use Rattle.routines.proofs.Counts.{count-more, count-back}
 use Rattle.routines.proofs.Logarithms.{lgamma-with-is}
 use Rattle.helpers.specs.Hoists.{lobe_of, density_of, density_with, poisson_of, binomial_of, shelf_logs_of}
 use Rattle.helpers.specs.Kept.{growth_of}
-use Rattle.helpers.specs.Lobes.{nearly_poisson, size_of, log_QOf, ln_dpois_of, ln_dnbinom_of}
+use Rattle.helpers.specs.Lobes.{nearly_poisson, size_of, log_q_of, ln_dpois_of, ln_dnbinom_of}
 use Rattle.helpers.specs.LogSums.{lse2_of}
 use Rattle.helpers.specs.Masses.{recurrence, recurrence_step, poisson_ratio, binomial_ratio}
 use Rattle.helpers.specs.Masses.{poisson_mass_of, binomial_mass_of, log_nb_mass_to, single_copy_mass_to}
@@ -94,7 +94,7 @@ module _ (ready : List Float) (top : ℕ) (held : Ready ready (top + 1)) (mean d
       go false e =
           recurrence-same _ _ _ _ top e
           (λ (k : ℕ) (h : k ≤ top).
-          ap (λ (x : Float). ln_of (of_count k ⊕ size_of mean dispersion) ⊖ x ⊕ log_QOf dispersion) (next-log k h))
+          ap (λ (x : Float). ln_of (of_count k ⊕ size_of mean dispersion) ⊖ x ⊕ log_q_of dispersion) (next-log k h))
 
 -- ---- the single-copy component at a whole count, and its mass
 module _ (shelf : ShelfPart) (table : List Float) where

@@ -10,7 +10,7 @@ use Rattle.routines.specs.Lgamma.{lgamma_of}
 use Rattle.routines.specs.Ln.{ln_of}
 use Rattle.routines.specs.Ops.{◌⊕◌, ◌⊖◌, ◌⊗◌}
 use Rattle.helpers.specs.LogSums.{lse2_of}
-use Rattle.helpers.specs.Lobes.{nearly_poisson, size_of, log_QOf}
+use Rattle.helpers.specs.Lobes.{nearly_poisson, size_of, log_q_of}
 use Rattle.helpers.specs.Shelves.{entry_at_of}
 use Rattle.helpers.specs.declared.hoists.Lobe.{Lobe}
 use Rattle.helpers.specs.declared.shelves.ShelfLogs.{ShelfLogs}
@@ -37,7 +37,7 @@ binomial_with mean dispersion log_p log_q =
     }
 
 abbrev pub binomial_of : Float → Float → Lobe
-binomial_of mean dispersion = binomial_with mean dispersion (neg (ln_of dispersion)) (log_QOf dispersion)
+binomial_of mean dispersion = binomial_with mean dispersion (neg (ln_of dispersion)) (log_q_of dispersion)
 
 unfoldable pub lobe_of : Float → Float → Lobe
 lobe_of mean dispersion = cond (le dispersion nearly_poisson) (poisson_of mean) (binomial_of mean dispersion)

@@ -23,14 +23,14 @@ abbrev pub size_of : Float → Float → Float
 size_of mean dispersion = mean ⊘ (dispersion ⊖ one)
 
 -- ln(1 - 1 / dispersion)
-abbrev pub log_QOf : Float → Float
-log_QOf dispersion = ln_of (one ⊖ one ⊘ dispersion)
+abbrev pub log_q_of : Float → Float
+log_q_of dispersion = ln_of (one ⊖ one ⊘ dispersion)
 
 unfoldable pub ln_dnbinom_of : Float → Float → Float → Float
 ln_dnbinom_of x mean dispersion =
     cond (le dispersion nearly_poisson) (ln_dpois_of x mean)
     (let r = size_of mean dispersion in
-    lgamma_of (x ⊕ r) ⊖ lgamma_of (x ⊕ one) ⊖ lgamma_of r ⊕ r ⊗ neg (ln_of dispersion) ⊕ x ⊗ log_QOf dispersion)
+    lgamma_of (x ⊕ r) ⊖ lgamma_of (x ⊕ one) ⊖ lgamma_of r ⊕ r ⊗ neg (ln_of dispersion) ⊕ x ⊗ log_q_of dispersion)
 
 -- 18446744073709551616.0: Rust's usize::MAX as f64
 abbrev pub two64 : Float

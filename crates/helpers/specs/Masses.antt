@@ -10,7 +10,7 @@ use Rattle.routines.specs.Constants.{one}
 use Rattle.routines.specs.Ln.{ln_of}
 use Rattle.routines.specs.Ops.{◌⊕◌, ◌⊖◌, of_count}
 use Rattle.helpers.specs.LogSums.{lse2_of}
-use Rattle.helpers.specs.Lobes.{nearly_poisson, size_of, log_QOf, ln_dpois_of, ln_dnbinom_of}
+use Rattle.helpers.specs.Lobes.{nearly_poisson, size_of, log_q_of, ln_dpois_of, ln_dnbinom_of}
 use Rattle.helpers.specs.Shelves.{mixed}
 use Rattle.helpers.specs.declared.shelves.ShelfPart.{ShelfPart}
 use Rattle.helpers.specs.declared.shelves.ShelfPart.TheVariants.{Absent, Present}
@@ -27,7 +27,7 @@ poisson_ratio mean count = ln_of mean ⊖ ln_of (of_count (count + 1))
 
 abbrev pub binomial_ratio : Float → Float → ℕ → Float
 binomial_ratio mean dispersion count =
-    ln_of (of_count count ⊕ size_of mean dispersion) ⊖ ln_of (of_count (count + 1)) ⊕ log_QOf dispersion
+    ln_of (of_count count ⊕ size_of mean dispersion) ⊖ ln_of (of_count (count + 1)) ⊕ log_q_of dispersion
 
 -- the two named sums
 unfoldable pub poisson_mass_of : Float → ℕ → Float

@@ -34,8 +34,7 @@ pub fn write_output<W: Write>(to: &mut W, bytes: &[u8]) -> Result<()>
 }
 
 // Where standard output is a file, waits until its disk has it, since some disks tell of a failed write only then. A
-// pipe
-// or a terminal has no disk, and of a file that can't be opened once more or be waited for nothing can be learned.
+// pipe or a terminal has no disk, and of a file that can't be opened once more or be waited for nothing can be learned.
 pub fn settle_output<R: Files>(rt: &R) -> Result<()> {
     match rt.metadata(STDOUT) {
         Ok(found) => {
