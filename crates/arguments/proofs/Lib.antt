@@ -2,6 +2,5 @@
 pub mod Words
 pub mod Values
 pub mod Quotients
-pub mod Says
 pub mod Examples
 pub mod Theorems

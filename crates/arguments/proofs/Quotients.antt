@@ -3,7 +3,6 @@ use Prim.Native.Nat.{ℕ, ◌+◌, ◌^◌, ◌≤◌}
 use mathlib.Core.Path.{◌≡◌, refl, sym, ap, ◌∙◌}
 use mathlib.Core.Bool.{Bool, true, false, cond, ◌&&◌}
 use mathlib.Core.List.{List, ◌++◌}
-use mathlib.Core.Option.{none, some}
 use native.Mathlib.Nat.{one-le-pow, zero-lt-suc}
 use native.Mathlib.Omega.{arith}
 use lib.Dec.{leb}
@@ -16,6 +15,7 @@ use Rattle.listing.specs.Decimal.{value_of}
 use Rattle.arguments.specs.Numbers.{few, is_number, all_digits, quotient_of, read_whole_of}
 use Rattle.arguments.specs.Claims.{Number}
 use Rattle.arguments.proofs.Values.{both, digits-join, are-digits, digits_are, value-small, power_small}
+use Rattle.std.specs.Prelude.{None, Some}
 
 pub number_is : (bytes : List ℕ) → is_number bytes ≡ true → Number bytes
 number_is bytes e =
@@ -28,7 +28,7 @@ is-number bytes n =
     rw (le-leb 1 (length bytes) n.one, le-leb (length bytes) 15 n.most) (digits_are bytes n.digits)
 
 -- what is given behind a test
-pub given : {A : Type 0} (t : Bool) (y x : A) → cond t (some y) none ≡ some x → (t ≡ true) × (y ≡ x)
+pub given : {A : Type 0} (t : Bool) (y x : A) → cond t (Some y) None ≡ Some x → (t ≡ true) × (y ≡ x)
 given true y x e = (refl, cc)
 given false y x e = absurd (let z : ◌≡◌ {A = ℕ} 0 1 = cc in omega arith)
 
@@ -40,7 +40,7 @@ module _ (a b : List ℕ) where
   joined p q r = rw (length-append a b, digits-join a b) (λ i. p i && (q i && r i))
 
   pub refused : {f d e : Bool} → few (length a + length b) ≡ f → all_digits a ≡ d → all_digits b ≡ e
-      → (f && (d && e)) ≡ false → quotient_of a b ≡ none
+      → (f && (d && e)) ≡ false → quotient_of a b ≡ None
   unfolding quotient_of
   refused p q r h = rw (joined p q r ∙ h)
 
@@ -48,7 +48,7 @@ module _ (a b : List ℕ) where
   number_of p q r = number_is (a ++ b) (joined p q r)
 
   module _ (n : Number (a ++ b)) where
-    pub quotient_is : quotient_of a b ≡ some (of_count (value_of 0 (a ++ b)) ⊘ of_count (10 ^ length b))
+    pub quotient_is : quotient_of a b ≡ Some (of_count (value_of 0 (a ++ b)) ⊘ of_count (10 ^ length b))
     unfolding quotient_of
     quotient_is = rw (is-number (a ++ b) n)
 
@@ -62,10 +62,10 @@ module _ (a b : List ℕ) where
         let one = one-le-pow (length b) 10 (zero-lt-suc 9) in
         count-over (value_of 0 (a ++ b)) (10 ^ length b) (omega arith) one (omega arith)
 
-    pub rounded : quotient_of a b ≡ some (round binary64 false (value_of 0 (a ++ b)) (10 ^ length b))
-    rounded = quotient_is ∙ ap some once
+    pub rounded : quotient_of a b ≡ Some (round binary64 false (value_of 0 (a ++ b)) (10 ^ length b))
+    rounded = quotient_is ∙ ap Some once
 
-  pub given-quotient : (x : Float) → quotient_of a b ≡ some x
+  pub given-quotient : (x : Float) → quotient_of a b ≡ Some x
       → Number (a ++ b) × (x ≡ round binary64 false (value_of 0 (a ++ b)) (10 ^ length b))
   unfolding quotient_of
   given-quotient x e =
@@ -74,10 +74,10 @@ module _ (a b : List ℕ) where
       (n, sym t.1 ∙ once n)
 
 -- ---- a whole number
-pub not-whole : (word : List ℕ) → is_number word ≡ false → read_whole_of word ≡ none
+pub not-whole : (word : List ℕ) → is_number word ≡ false → read_whole_of word ≡ None
 unfolding read_whole_of
 not-whole word e = rw e
 
-pub whole_is : (word : List ℕ) → Number word → read_whole_of word ≡ some (value_of 0 word)
+pub whole_is : (word : List ℕ) → Number word → read_whole_of word ≡ Some (value_of 0 word)
 unfolding read_whole_of
 whole_is word n = rw (is-number word n)

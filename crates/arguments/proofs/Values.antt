@@ -6,9 +6,10 @@ use mathlib.Core.List.{List, [], ◌∷◌, ◌++◌}
 use native.Mathlib.Nat.{pow-suc, pow-le-pow_right, zero-lt-suc, lt_of_lt_of_le}
 use native.Mathlib.Omega.{arith}
 use lib.Dec.{leb}
-use lib.ListN.{length, drop, get_or, drop_of_length-le}
+use lib.ListN.{length, drop, get_or}
 use lib.Seq.{drop-cons}
 use borrow.Author.Tests.{leb-true, le-leb}
+use Rattle.std.specs.List.{list_all}
 use Rattle.listing.specs.Decimal.{value_of, Digits}
 use Rattle.arguments.specs.Numbers.{is_digit, all_digits}
 
@@ -34,12 +35,11 @@ module _ (word : List ℕ) (k : ℕ) (h : k < length word) where
       let t = both (is_digit (get_or word k 0)) (all_digits (drop (suc k) word)) (sym digits-at ∙ e) in
       ((in-range (get_or word k 0) t.0).0, t.1)
 
-pub digits-end : (word : List ℕ) (k : ℕ) → length word ≤ k → all_digits (drop k word) ≡ true
+-- the test as std's `all` has it
+pub digits-all : (word : List ℕ) → list_all is_digit word ≡ all_digits word
 unfolding all_digits
-digits-end word k h = rw (drop_of_length-le word h)
-
-pub value-end : (word : List ℕ) (k v : ℕ) → length word ≤ k → value_of v (drop k word) ≡ v
-value-end word k v h = rw (drop_of_length-le word h)
+digits-all [] = refl
+digits-all (d ∷ ds) = ap (λ (t : Bool). is_digit d && t) (digits-all ds)
 
 -- ---- in two parts
 pub digits-join : (a b : List ℕ) → all_digits (a ++ b) ≡ (all_digits a && all_digits b)

@@ -1,30 +1,33 @@
--- A word around its first point: found byte by byte, and what lies on each side. Assumes nothing.
+-- A word around its first point: its place, and what lies on each side. Assumes nothing.
 use Prim.Native.Nat.{ℕ, suc, ◌+◌, ◌-◌, ◌≤◌, ◌<◌}
 use mathlib.Core.Path.{◌≡◌, refl, sym, ap, ◌∙◌}
 use mathlib.Core.Bool.{Bool, true, false, cond}
 use mathlib.Core.List.{List, [], ◌∷◌, ◌++◌}
 use native.Mathlib.Omega.{arith}
 use lib.Dec.{eqb}
-use lib.ListN.{length, take, drop, get_or, length-drop, drop_of_length-le}
-use lib.Seq.{drop-cons, take_all, take_at, drop-append-add}
-use borrow.Author.Tests.{eqb-true, eq-eqb, ne_eqb}
+use native.Mathlib.Nat.{add-zero}
+use Rattle.std.specs.List.{position_from}
+use Rattle.std.specs.Option.{unwrap_or}
+use Rattle.std.specs.declared.option.Option.TheVariants.{Some}
+use lib.ListN.{length, take, drop, length-drop}
+use lib.Seq.{take_all, take_at, drop-append-add}
+use borrow.Author.Tests.{eqb-true, ne_eqb}
 use Rattle.listing.specs.Decimal.{Digits}
 use Rattle.arguments.specs.Numbers.{point, before, behind}
 
--- ---- the search for the point
-module _ (word : List ℕ) (k : ℕ) where
-  pub found : k < length word → get_or word k 0 ≡ point → before (drop k word) ≡ []
-  unfolding before
-  found h e = rw (drop-cons word k 0 h, eq-eqb (get_or word k 0) point e)
+-- ---- the search for the point, as std's `position` has it
+pub first-point : (i : ℕ) (word : List ℕ) → unwrap_or (position_from (λ (b : ℕ). eqb b point) i word) (i + length word) ≡ i + length (before word)
+unfolding before
+first-point i [] = refl
+first-point i (b ∷ bs) = sides (first-point (i + 1) bs) (eqb b point)
+  where
+    next : (i n : ℕ) → i + 1 + n ≡ i + suc n
+    next i n = omega arith
 
-  pub passed : k < length word → (get_or word k 0 ≡ point → ⊥)
-      → before (drop k word) ≡ get_or word k 0 ∷ before (drop (suc k) word)
-  unfolding before
-  passed h n = rw (drop-cons word k 0 h, ne_eqb (get_or word k 0) point n)
-
-  pub not_found : length word ≤ k → before (drop k word) ≡ []
-  unfolding before
-  not_found h = rw (drop_of_length-le word h)
+    sides : unwrap_or (position_from (λ (b : ℕ). eqb b point) (i + 1) bs) (i + 1 + length bs) ≡ i + 1 + length (before bs)
+        → (t : Bool) → unwrap_or (cond t (Some i) (position_from (λ (b : ℕ). eqb b point) (i + 1) bs)) (i + suc (length bs)) ≡ i + length (cond t [] (b ∷ before bs))
+    sides later true = sym (add-zero i)
+    sides later false = rw (← next i (length bs)) (later ∙ next i (length (before bs)))
 
 -- ---- the two sides
 pub pointed : (word : List ℕ) → length (before word) < length word → word ≡ before word ++ (point ∷ behind word)

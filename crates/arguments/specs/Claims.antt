@@ -1,6 +1,5 @@
 -- What the theorems speak of: the words that are accepted, and tables of words. Definitions only. Assumes nothing.
-use Rattle.std.specs.Prelude.{ℕ, ◌≤◌, ◌≡◌, List, ◌∷◌, ◌++◌, map, length}
-use Rattle.std.proofs.Math.Option.{Option}
+use Rattle.std.specs.Prelude.{ℕ, ◌≤◌, ◌≡◌, List, ◌∷◌, ◌++◌, map, length, Option}
 use Rattle.listing.specs.Decimal.{Digits}
 use Rattle.arguments.specs.Numbers.{point}
 

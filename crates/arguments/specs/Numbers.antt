@@ -1,9 +1,9 @@
 -- The numbers of a command line: a decimal is 1 to 15 digits with at most one point anywhere among, before or behind
 -- them, a whole number 1 to 15 digits. Nothing else is one. Definitions only. Assumes nothing.
 use Rattle.std.specs.Prelude.{ℕ, ◌^◌, Bool, true, cond, ◌&&◌, List, [], ◌∷◌, ◌++◌, leb, eqb, length, Float}
-use Rattle.std.proofs.Math.Option.{Option, none, some}
 use Rattle.routines.specs.Ops.{◌⊘◌, of_count}
 use Rattle.listing.specs.Decimal.{digit_of, value_of}
+use Rattle.std.specs.Prelude.{Option, None, Some}
 
 abbrev pub point : ℕ
 point = 46
@@ -35,10 +35,10 @@ is_number bytes = few (length bytes) && all_digits bytes
 unfoldable pub quotient_of : List ℕ → List ℕ → Option Float
 quotient_of whole places =
     let digits = whole ++ places in
-    cond (is_number digits) (some (of_count (value_of 0 digits) ⊘ of_count (10 ^ length places))) none
+    cond (is_number digits) (Some (of_count (value_of 0 digits) ⊘ of_count (10 ^ length places))) None
 
 unfoldable pub read_decimal_of : List ℕ → Option Float
 read_decimal_of word = quotient_of (before word) (behind word)
 
 unfoldable pub read_whole_of : List ℕ → Option ℕ
-read_whole_of word = cond (is_number word) (some (value_of 0 word)) none
+read_whole_of word = cond (is_number word) (Some (value_of 0 word)) None

@@ -1,13 +1,12 @@
 -- Document 01's cases marked P as one table: its rows, and what a row says of the definitions that the contracts cite.
 -- Definitions only. Assumes nothing.
-use Rattle.std.specs.Prelude.{ℕ, ◌≡◌, Bool, true, false, cond, List, [], ◌∷◌, get_or, Float}
-use Rattle.std.proofs.Math.Option.{Option, none, some}
+use Rattle.std.specs.Prelude.{ℕ, ◌≡◌, Bool, true, false, cond, List, [], ◌∷◌, get_or, Float, Option, None, Some}
 use Rattle.std.specs.Float.{nan}
 use Rattle.meaning.specs.Reply.{give}
 use Rattle.routines.specs.Constants.{one}
 use Rattle.routines.specs.Starts.{dec}
 use Rattle.models.specs.Walk.{walk_of}
-use Rattle.fitter.specs.Attempts.{valid_of}
+use Rattle.fitter.specs.Attempts.{valid_of, candidate_in}
 use Rattle.fitter.specs.Recovering.{recover_bins_of}
 use Rattle.fitter.specs.Selection.{chosen, select_of}
 use Rattle.fitter.specs.Shares.{shelf_share_of}
@@ -44,13 +43,14 @@ abbrev pub Walks : Float × Option ℕ → Type 0
 Walks row = walk_of probabilities row.0 4 ≡ row.1
 
 abbrev pub walk_rows : List (Float × Option ℕ)
-walk_rows = (dec 1 10, some 2) ∷ (dec 25 100, some 2) ∷ (dec 5 10, some 3) ∷ (dec 1 1, none) ∷ []
+walk_rows = (dec 1 10, Some 2) ∷ (dec 25 100, Some 2) ∷ (dec 5 10, Some 3) ∷ (dec 1 1, None) ∷ []
 
 -- ---- selection of two: their BICs, and whether the second is taken
 abbrev pub Selects : Float × Float × Bool → Type 0
 Selects row =
-    (a b : FitAttempt) → valid_of a ≡ true → valid_of b ≡ true → a.candidate.bic ≡ row.0 → b.candidate.bic ≡ row.1
-    → select_of (a ∷ b ∷ []) ≡ cond row.2 (chosen b.candidate) (chosen a.candidate)
+    (a b : FitAttempt) → valid_of a ≡ true → valid_of b ≡ true
+    → (candidate_in a).bic ≡ row.0 → (candidate_in b).bic ≡ row.1
+    → select_of (a ∷ b ∷ []) ≡ cond row.2 (chosen (candidate_in b)) (chosen (candidate_in a))
 
 abbrev pub selection_rows : List (Float × Float × Bool)
 selection_rows = (dec 100 1, dec 9999999995 100000000, false) ∷ (dec 100 1, dec 999999 10000, true) ∷ []

@@ -1,7 +1,7 @@
 -- The clauses of the shelf share, of the starts' hint and order and of the selection beside their limits, as the
 -- contracts of `shelf_share`, `fit_starts` and `select_fit` cite them. Definitions only. Assumes nothing.
-use Rattle.std.specs.Prelude.{ℕ, suc, ◌≡◌, Bool, true, false, ◌&&◌, cond, List, [], ◌∷◌, eqb, get_or, Float}
-use Rattle.std.proofs.Math.Option.{Option, none, some}
+use Rattle.std.specs.Prelude.{ℕ, suc, ◌≡◌, Bool, true, false, ◌&&◌, List, [], ◌∷◌, eqb, get_or, Float}
+use Rattle.std.specs.Prelude.{Option, None, Some}
 use Rattle.std.specs.Float.{nan, inf, binary64}
 use Rattle.std.specs.Float.Ieee.{neg, of_bits, to_bits}
 use Rattle.meaning.specs.Reply.{Reply, refuse, broken, give}
@@ -12,14 +12,13 @@ use Rattle.routines.specs.Starts.{dec, pareto_starts, weibull_starts}
 use Rattle.models.specs.declared.families.ErrorModel.TheVariants.{SingletonPareto}
 use Rattle.models.specs.declared.families.GenomeModel.{GenomeModel}
 use Rattle.models.specs.declared.families.GenomeModel.TheVariants.{NegativeBinomial, ShelfNegativeBinomial}
+use Rattle.models.specs.declared.fit.SpectrumFit.{SpectrumFit}
 use Rattle.fitter.specs.Attempts.{attempt_of}
 use Rattle.fitter.specs.Selection.{select_of}
 use Rattle.fitter.specs.Shares.{shelf_share_of}
 use Rattle.fitter.specs.Starts.{hint_of, starts_of}
 use Rattle.fitter.specs.declared.attempts.FitAttempt.{FitAttempt}
-use Rattle.fitter.specs.declared.attempts.RejectionPart.TheVariants.{Absent, Present}
 use Rattle.fitter.specs.declared.rejections.FitRejection.TheVariants.{NonFiniteLikelihood, OptimisationFailed}
-use Rattle.fitter.specs.declared.selection.Selected.{Selected}
 use Rattle.cases.specs.Cases.{Each}
 use Rattle.cases.specs.RuleFits.{set, count, bic, iterations, fit_from, outward, inward, largest}
 
@@ -200,32 +199,24 @@ pub data Tried : Type 0 where
 -- the iterations of a fit have its number
 abbrev pub tried_as : ℕ → Tried → FitAttempt
 tried_as i (valid x) =
-    attempt_of SingletonPareto NegativeBinomial true (fit_from (set bic x ∷ count iterations i ∷ [])) Absent 0 0
+    attempt_of SingletonPareto NegativeBinomial (Some (fit_from (set bic x ∷ count iterations i ∷ []))) None 0 0
 tried_as i (rejected x) =
     attempt_of
     SingletonPareto
     NegativeBinomial
-    true
-    (fit_from (set bic x ∷ count iterations i ∷ []))
-    (Present NonFiniteLikelihood)
+    (Some (fit_from (set bic x ∷ count iterations i ∷ [])))
+    (Some NonFiniteLikelihood)
     0
     0
-tried_as i failed =
-    attempt_of
-    SingletonPareto
-    NegativeBinomial
-    false
-    (fit_from (set bic (neg largest) ∷ count iterations i ∷ []))
-    (Present OptimisationFailed)
-    0
-    0
+tried_as i failed = attempt_of SingletonPareto NegativeBinomial None (Some OptimisationFailed) 0 0
 
 abbrev pub all_tried : ℕ → List Tried → List FitAttempt
 all_tried i [] = []
 all_tried i (t ∷ ts) = tried_as i t ∷ all_tried (suc i) ts
 
-abbrev pub taken_of : Selected → Option ℕ
-taken_of s = cond s.found (some s.fit.best_iterations) none
+abbrev pub taken_of : Option SpectrumFit → Option ℕ
+taken_of None = None
+taken_of (Some fit) = Some fit.best_iterations
 
 abbrev pub Selection : Type 0
 Selection = List Tried × Option ℕ
@@ -236,13 +227,13 @@ Takes row = taken_of (select_of (all_tried 1 row.0)) ≡ row.1
 -- a rejected one is passed over, and the earlier kept on a tie
 abbrev pub order_rows : List Selection
 order_rows =
-    (failed ∷ failed ∷ failed ∷ failed ∷ [], none)
-    ∷ (rejected one ∷ failed ∷ rejected one ∷ failed ∷ [], none)
-    ∷ (rejected one ∷ valid two ∷ rejected one ∷ failed ∷ [], some 2)
-    ∷ (valid two ∷ valid two ∷ valid two ∷ valid two ∷ [], some 1)
-    ∷ (valid two ∷ valid one ∷ valid one ∷ valid one ∷ [], some 2)
-    ∷ (valid (dec 4 1) ∷ valid three ∷ valid two ∷ valid one ∷ [], some 4)
-    ∷ (valid one ∷ valid two ∷ valid three ∷ valid (dec 4 1) ∷ [], some 1)
+    (failed ∷ failed ∷ failed ∷ failed ∷ [], None)
+    ∷ (rejected one ∷ failed ∷ rejected one ∷ failed ∷ [], None)
+    ∷ (rejected one ∷ valid two ∷ rejected one ∷ failed ∷ [], Some 2)
+    ∷ (valid two ∷ valid two ∷ valid two ∷ valid two ∷ [], Some 1)
+    ∷ (valid two ∷ valid one ∷ valid one ∷ valid one ∷ [], Some 2)
+    ∷ (valid (dec 4 1) ∷ valid three ∷ valid two ∷ valid one ∷ [], Some 4)
+    ∷ (valid one ∷ valid two ∷ valid three ∷ valid (dec 4 1) ∷ [], Some 1)
     ∷ []
 
 abbrev pub two_of : Float → Float → List Tried
@@ -252,28 +243,28 @@ two_of first next = failed ∷ valid first ∷ valid next ∷ failed ∷ []
 abbrev pub tolerance_rows : List Selection
 tolerance_rows =
     -- 100 - 1.01e-7
-    (two_of (dec 100 1) (dec 99999999899 1000000000), some 2)
-    ∷ (two_of (dec 100 1) (inward (dec 99999999899 1000000000)), some 3)
+    (two_of (dec 100 1) (dec 99999999899 1000000000), Some 2)
+    ∷ (two_of (dec 100 1) (inward (dec 99999999899 1000000000)), Some 3)
     -- the larger is the second: -1e-9·(1 + 1e-9)
-    ∷ (two_of zero (neg (of_bits binary64 0x3e112e0be870a00d)), some 2)
-    ∷ (two_of zero (neg (outward (of_bits binary64 0x3e112e0be870a00d))), some 3)
+    ∷ (two_of zero (neg (of_bits binary64 0x3e112e0be870a00d)), Some 2)
+    ∷ (two_of zero (neg (outward (of_bits binary64 0x3e112e0be870a00d))), Some 3)
     -- the larger is the first: 2e-9 - 1e-9·(1 + 2e-9)
-    ∷ (two_of (dec 2 1000000000) (of_bits binary64 0x3e112e0be79343a7), some 2)
-    ∷ (two_of (dec 2 1000000000) (inward (of_bits binary64 0x3e112e0be79343a7)), some 3)
+    ∷ (two_of (dec 2 1000000000) (of_bits binary64 0x3e112e0be79343a7), Some 2)
+    ∷ (two_of (dec 2 1000000000) (inward (of_bits binary64 0x3e112e0be79343a7)), Some 3)
     -- each is held against the best, and not against the one before: 100, 100 - 5e-8, 100 - 1.2e-7
-    ∷ (valid (dec 100 1) ∷ valid (dec 9999999995 100000000) ∷ valid (dec 9999999988 100000000) ∷ failed ∷ [], some 3)
+    ∷ (valid (dec 100 1) ∷ valid (dec 9999999995 100000000) ∷ valid (dec 9999999988 100000000) ∷ failed ∷ [], Some 3)
     ∷ []
 
 -- a NaN or an infinity takes no place, and keeps its own
 abbrev pub odd_rows : List Selection
 odd_rows =
-    (two_of nan one, some 2)
-    ∷ (two_of one nan, some 2)
-    ∷ (two_of (inf false) one, some 2)
-    ∷ (two_of one (inf false), some 2)
-    ∷ (two_of (inf true) one, some 2)
-    ∷ (two_of one (inf true), some 2)
-    ∷ (two_of one (neg largest), some 3)
+    (two_of nan one, Some 2)
+    ∷ (two_of one nan, Some 2)
+    ∷ (two_of (inf false) one, Some 2)
+    ∷ (two_of one (inf false), Some 2)
+    ∷ (two_of (inf true) one, Some 2)
+    ∷ (two_of one (inf true), Some 2)
+    ∷ (two_of one (neg largest), Some 3)
     ∷ []
 
 abbrev pub SelectionTable : Type 0

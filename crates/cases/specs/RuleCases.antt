@@ -1,15 +1,14 @@
 -- The validator's ten rules beside their limits: for each rule fits on either side, for each rule and the next a fit that
 -- breaks both, and the numbers that come back instead. Definitions only. Assumes nothing.
-use Rattle.std.specs.Prelude.{ℕ, List, [], ◌∷◌, ◌≡◌, Bool, true, false, Float}
+use Rattle.std.specs.Prelude.{ℕ, List, [], ◌∷◌, ◌≡◌, Bool, true, false, Float, Some}
 use Rattle.std.specs.Float.{binary64, nan, inf}
 use Rattle.std.specs.Float.Ieee.{neg, of_bits}
-use Rattle.meaning.specs.Reply.{refuse}
+use Rattle.meaning.specs.Reply.{refuse, give}
 use Rattle.routines.specs.Constants.{zero, half, one, two, three}
 use Rattle.routines.specs.Starts.{dec}
-use Rattle.fitter.specs.Validation.{primary_mode_outside_band, verdict_says}
+use Rattle.fitter.specs.Validation.{primary_mode_outside_band, judgement_in}
 use Rattle.fitter.specs.declared.rejections.FitRejection.{FitRejection}
 use Rattle.fitter.specs.declared.rejections.FitRejection.TheVariants as reason
-use Rattle.fitter.specs.declared.validation.Verdict.TheVariants.{Rejected}
 use Rattle.cases.specs.Cases.{Each}
 use Rattle.cases.specs.RuleFits.{Change, set, count, weibull, shelved, fit_from, Case, passes, breaks, Answers}
 use Rattle.cases.specs.RuleFits.{outward, inward, least, largest}
@@ -341,7 +340,7 @@ refused =
 
 -- ---- the reasons by their names
 abbrev pub Named : FitRejection × ℕ → Type 0
-Named row = verdict_says (Rejected row.0) ≡ breaks row.1
+Named row = give (judgement_in (Some row.0)) ≡ breaks row.1
 
 abbrev pub reasons : List (FitRejection × ℕ)
 reasons =

@@ -1,15 +1,12 @@
 -- Fits for the cases beside the validator's limits: a valid one, and what is changed in it; a row has the changes and the
 -- answer. Definitions only. Assumes nothing.
-use Rattle.std.specs.Prelude.{ℕ, suc, ◌-◌, ◌≡◌, cond, List, [], ◌∷◌, eqb, Float}
+use Rattle.std.specs.Prelude.{ℕ, suc, ◌-◌, ◌≡◌, cond, List, [], ◌∷◌, eqb, Float, Option, None, Some}
 use Rattle.std.specs.Float.{binary64}
 use Rattle.std.specs.Float.Ieee.{neg, of_bits, to_bits}
 use Rattle.meaning.specs.Reply.{Reply, give}
 use Rattle.routines.specs.Constants.{zero, one, two, three}
 use Rattle.routines.specs.Starts.{dec}
-use Rattle.helpers.specs.declared.shelves.ShelfPart.{ShelfPart}
-use Rattle.helpers.specs.declared.shelves.ShelfPart.TheVariants as shelf
-use Rattle.models.specs.declared.errors.ShapePart.{ShapePart}
-use Rattle.models.specs.declared.errors.ShapePart.TheVariants as shape
+use Rattle.helpers.specs.declared.shelves.Shelf.{Shelf}
 use Rattle.models.specs.declared.families.ErrorModel.TheVariants.{SingletonPareto}
 use Rattle.models.specs.declared.families.GenomeModel.TheVariants.{NegativeBinomial}
 use Rattle.models.specs.declared.fit.SpectrumFit.{SpectrumFit}
@@ -50,19 +47,19 @@ count_in (count n k ∷ cs) name usual = cond (eqb n name) k (count_in cs name u
 count_in (weibull x ∷ cs) name usual = count_in cs name usual
 count_in (shelved s a b ∷ cs) name usual = count_in cs name usual
 
-abbrev pub shape_in : List Change → ShapePart
-shape_in [] = shape.Absent
+abbrev pub shape_in : List Change → Option Float
+shape_in [] = None
 shape_in (set n x ∷ cs) = shape_in cs
 shape_in (count n k ∷ cs) = shape_in cs
-shape_in (weibull x ∷ cs) = shape.Present x
+shape_in (weibull x ∷ cs) = Some x
 shape_in (shelved s a b ∷ cs) = shape_in cs
 
-abbrev pub shelf_in : List Change → ShelfPart
-shelf_in [] = shelf.Absent
+abbrev pub shelf_in : List Change → Option Shelf
+shelf_in [] = None
 shelf_in (set n x ∷ cs) = shelf_in cs
 shelf_in (count n k ∷ cs) = shelf_in cs
 shelf_in (weibull x ∷ cs) = shelf_in cs
-shelf_in (shelved s a b ∷ cs) = shelf.Present (record { share = s; alpha = a; beta = b })
+shelf_in (shelved s a b ∷ cs) = Some (record { share = s; alpha = a; beta = b })
 
 -- the names of numbers
 abbrev pub w_error : ℕ

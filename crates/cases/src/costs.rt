@@ -1,13 +1,13 @@
 // The cost's numbers at their limits, each beside an input that gets none.
 use crate::show;
-use helpers::answers::Number;
+use meaning::refusals::Refusal;
 use models::costs::cost;
 use models::families::{ErrorModel, GenomeModel};
 
-fn answer<R: Print>(rt: &R, number: Number) {
+fn answer<R: Print>(rt: &R, number: Result<f64, Refusal>) {
     match number {
-        Number::Value(value) => show::value(rt, value),
-        Number::Refused(n) => show::refused(rt, n),
+        Ok(value) => show::value(rt, value),
+        Err(refusal) => show::refused(rt, refusal),
     }
 }
 
@@ -53,7 +53,7 @@ fn scale<R: Print>(rt: &R, x: f64, n: u64) {
 
 fn scale_nan<R: Print>(rt: &R) {
     show::name(rt, b"cost, scale NaN");
-    threes(rt, 0.0 / 0.0, 2, 2);
+    threes(rt, f64::NAN, 2, 2);
 }
 
 // In a window of one count every k-mer is sure to have it: the log-likelihood is +0, and the cost -0.

@@ -1,27 +1,23 @@
 // Histogram files at the limits: each file's bytes and its listing, and what the writer makes of the limits' bin
 // counts.
 use crate::show;
-use histogram::reader::{FileRead, LONGEST_FILE, MAX_FILE_BINS, read_histogram};
+use histogram::reader::{LONGEST_FILE, MAX_FILE_BINS, ReadError, read_histogram};
 use histogram::writer::write_histogram;
 use listing::text::{LONGEST_LISTING, list_histogram, list_refusal};
-use meaning::answers::Written;
+use meaning::refusals::Refusal;
 
 const ENOUGH: usize = LONGEST_FILE + 1;
 
-fn list_first(bins: &[u32], n: usize, text: &mut [u8]) -> Written {
-    if n < bins.len() {
-        return list_histogram(&bins[..n], text);
-    }
-    list_histogram(bins, text)
+fn list_first(bins: &[u32], n: usize, text: &mut [u8]) -> Result<usize, Refusal> {
+    list_histogram(&bins[..n.min(bins.len())], text)
 }
 
-fn list(file: &[u8], text: &mut [u8]) -> Written {
+fn list(file: &[u8], text: &mut [u8]) -> Result<usize, Refusal> {
     let mut bins = [0u32; MAX_FILE_BINS];
-    let read = read_histogram(file, &mut bins);
-    match read {
-        FileRead::Bins(n) => list_first(&bins, n, text),
-        FileRead::Broken(place) => list_refusal(place, text),
-        FileRead::Refused(number) => Written::Refused(number),
+    match read_histogram(file, &mut bins) {
+        Ok(n) => list_first(&bins, n, text),
+        Err(ReadError::Broken(place)) => list_refusal(place, text),
+        Err(ReadError::Refused(refusal)) => Err(refusal),
     }
 }
 
@@ -29,8 +25,8 @@ fn listing_of<R: Print>(rt: &R, file: &[u8]) {
     let mut text = [0u8; LONGEST_LISTING];
     let written = list(file, &mut text);
     match written {
-        Written::Items(n) => show::text(rt, &text, n),
-        Written::Refused(number) => show::refused(rt, number),
+        Ok(n) => show::text(rt, &text, n),
+        Err(refusal) => show::refused(rt, refusal),
     }
 }
 
@@ -84,11 +80,7 @@ fn largest<R: Print>(rt: &R) {
 
 fn first<R: Print>(rt: &R, file: &[u8], n: usize) {
     show::number(rt, b"file, first bytes", n as u64);
-    if n < file.len() {
-        listing_of(rt, &file[..n]);
-    } else {
-        listing_of(rt, file);
-    }
+    listing_of(rt, &file[..n.min(file.len())]);
 }
 
 // 2,047 bins as the writer writes them, of so many bytes; then one byte fewer and one more.
@@ -96,7 +88,7 @@ fn most<R: Print>(rt: &R, value: u32, size: usize) {
     let bins = [value; MAX_FILE_BINS];
     let mut file = [0u8; ENOUGH];
     let written = write_histogram(&bins, &mut file);
-    show::written(rt, b"write 2047 bins of", value as u64, written);
+    show::written(rt, b"write 2047 bins of", u64::from(value), written);
     first(rt, &file, size);
     if size > 0 {
         first(rt, &file, size - 1);

@@ -1,6 +1,6 @@
 // A line for a case: the call's name, its arguments and its answer, floats as 16 hexadecimal digits of their bits.
-use histogram::reader::FileRead;
-use meaning::answers::Written;
+use histogram::reader::ReadError;
+use meaning::refusals::Refusal;
 
 // A failed write is seen by whoever compares what was written.
 fn put<R: Print>(rt: &R, text: &[u8]) {
@@ -75,8 +75,8 @@ pub(crate) fn value<R: Print>(rt: &R, x: f64) {
     end(rt);
 }
 
-pub(crate) fn refused<R: Print>(rt: &R, n: u8) {
-    number(rt, b"refused", n as u64);
+pub(crate) fn refused<R: Print>(rt: &R, refusal: Refusal) {
+    number(rt, b"refused", u64::from(u8::from(refusal)));
 }
 
 fn byte<R: Print>(rt: &R, b: u8) {
@@ -103,19 +103,19 @@ pub(crate) fn text<R: Print>(rt: &R, text: &[u8], n: usize) {
     }
 }
 
-pub(crate) fn written<R: Print>(rt: &R, text: &[u8], n: u64, answer: Written) {
+pub(crate) fn written<R: Print>(rt: &R, text: &[u8], n: u64, answer: Result<usize, Refusal>) {
     label(rt, text, n);
     match answer {
-        Written::Items(size) => number(rt, b"bytes", size as u64),
-        Written::Refused(k) => refused(rt, k),
+        Ok(size) => number(rt, b"bytes", size as u64),
+        Err(refusal) => refused(rt, refusal),
     }
 }
 
-pub(crate) fn read<R: Print>(rt: &R, text: &[u8], n: u64, answer: FileRead) {
+pub(crate) fn read<R: Print>(rt: &R, text: &[u8], n: u64, answer: Result<usize, ReadError>) {
     label(rt, text, n);
     match answer {
-        FileRead::Bins(size) => number(rt, b"bins", size as u64),
-        FileRead::Broken(place) => number(rt, b"refused 3 at", place as u64),
-        FileRead::Refused(k) => refused(rt, k),
+        Ok(size) => number(rt, b"bins", size as u64),
+        Err(ReadError::Broken(place)) => number(rt, b"refused 3 at", place as u64),
+        Err(ReadError::Refused(refusal)) => refused(rt, refusal),
     }
 }

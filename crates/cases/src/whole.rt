@@ -15,31 +15,39 @@ fn floor_at<R: Print>(rt: &R, x: f64) {
 }
 
 fn rounding<R: Print>(rt: &R) {
-    round_at(rt, 0.0);
-    round_at(rt, 0.3);
-    round_at(rt, 0.49999999999999994);
-    round_at(rt, 0.5);
-    round_at(rt, 1.5);
-    round_at(rt, 2.5);
-    round_at(rt, 4503599627370495.5);
-    round_at(rt, 4503599627370497.0);
-    round_at(rt, 9007199254740993.0);
-    round_at(rt, 1e300);
-    round_at(rt, 1.0 / 0.0);
-    round_at(rt, 0.0 / 0.0);
+    for x in [
+        0.0,
+        0.3,
+        0.49999999999999994,
+        0.5,
+        1.5,
+        2.5,
+        4503599627370495.5,
+        4503599627370497.0,
+        9007199254740993.0,
+        1e300,
+        f64::INFINITY,
+        f64::NAN,
+    ] {
+        round_at(rt, x);
+    }
 }
 
 fn floors<R: Print>(rt: &R) {
-    floor_at(rt, 0.0);
-    floor_at(rt, 0.3);
-    floor_at(rt, 0.9999999999999999);
-    floor_at(rt, 1.0);
-    floor_at(rt, 2.5);
-    floor_at(rt, 4503599627370495.5);
-    floor_at(rt, 4503599627370497.0);
-    floor_at(rt, 1e300);
-    floor_at(rt, 1.0 / 0.0);
-    floor_at(rt, 0.0 / 0.0);
+    for x in [
+        0.0,
+        0.3,
+        0.9999999999999999,
+        1.0,
+        2.5,
+        4503599627370495.5,
+        4503599627370497.0,
+        1e300,
+        f64::INFINITY,
+        f64::NAN,
+    ] {
+        floor_at(rt, x);
+    }
 }
 
 fn pair<R: Print>(rt: &R, a: f64, b: f64) {
@@ -48,33 +56,41 @@ fn pair<R: Print>(rt: &R, a: f64, b: f64) {
 }
 
 fn pairs<R: Print>(rt: &R) {
-    pair(rt, 1.0, 2.0);
-    pair(rt, 2.0, 1.0);
-    pair(rt, 0.0, -0.0);
-    pair(rt, -0.0, 0.0);
-    pair(rt, 0.0 / 0.0, 1.0);
-    pair(rt, 1.0, 0.0 / 0.0);
-    pair(rt, 0.0 / 0.0, 0.0 / 0.0);
-    pair(rt, -1.0 / 0.0, 0.0 / 0.0);
+    for (a, b) in [
+        (1.0, 2.0),
+        (2.0, 1.0),
+        (0.0, -0.0),
+        (-0.0, 0.0),
+        (f64::NAN, 1.0),
+        (1.0, f64::NAN),
+        (f64::NAN, f64::NAN),
+        (f64::NEG_INFINITY, f64::NAN),
+    ] {
+        pair(rt, a, b);
+    }
 }
 
 fn cast<R: Print>(rt: &R, x: f64) {
-    show::cast(rt, b"to_u32", x, to_u32(x) as u64);
+    show::cast(rt, b"to_u32", x, u64::from(to_u32(x)));
     show::cast(rt, b"to_u64", x, to_u64(x));
 }
 
 fn casts<R: Print>(rt: &R) {
-    cast(rt, -1.0);
-    cast(rt, -0.9);
-    cast(rt, 0.9);
-    cast(rt, 4294967295.9);
-    cast(rt, 4294967296.0);
-    cast(rt, 9007199254740993.0);
-    cast(rt, 18446744073709549568.0);
-    cast(rt, 18446744073709551616.0);
-    cast(rt, 1.0 / 0.0);
-    cast(rt, -1.0 / 0.0);
-    cast(rt, 0.0 / 0.0);
+    for x in [
+        -1.0,
+        -0.9,
+        0.9,
+        4294967295.9,
+        4294967296.0,
+        9007199254740993.0,
+        18446744073709549568.0,
+        18446744073709551616.0,
+        f64::INFINITY,
+        f64::NEG_INFINITY,
+        f64::NAN,
+    ] {
+        cast(rt, x);
+    }
     show::one(
         rt,
         b"from_u64",

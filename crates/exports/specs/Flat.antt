@@ -1,11 +1,9 @@
 -- How C has an answer and a shelf. Definitions only. Assumes nothing.
-use Rattle.std.specs.Prelude.{ℕ, cond, eqb, Float}
+use Rattle.std.specs.Prelude.{ℕ, cond, eqb, Float, Option, None, Some}
 use Rattle.meaning.specs.Numbers as number
 use Rattle.meaning.specs.Reply.{Reply, refuse, broken, give}
 use Rattle.routines.specs.Constants as constants
 use Rattle.helpers.specs.declared.shelves.Shelf.{Shelf}
-use Rattle.helpers.specs.declared.shelves.ShelfPart.{ShelfPart}
-use Rattle.helpers.specs.declared.shelves.ShelfPart.TheVariants.{Absent, Present}
 use Rattle.exports.specs.declared.answers.FlatCount.{FlatCount}
 use Rattle.exports.specs.declared.answers.FlatNumber.{FlatNumber}
 use Rattle.exports.specs.declared.answers.FlatWritten.{FlatWritten}
@@ -31,5 +29,5 @@ abbrev pub shelf_of : FlatShelf → Shelf
 shelf_of s = record { share = s.share; alpha = s.alpha; beta = s.beta }
 
 -- 0: no shelf; any other number: this one
-abbrev pub part_of : ℕ → FlatShelf → ShelfPart
-part_of present s = cond (eqb present 0) Absent (Present (shelf_of s))
+abbrev pub part_of : ℕ → FlatShelf → Option Shelf
+part_of present s = cond (eqb present 0) None (Some (shelf_of s))

@@ -1,19 +1,20 @@
 -- How C has a verdict, an attempt and the fit that is selected. Definitions only. Assumes nothing.
-use Rattle.std.specs.Prelude.{ℕ, Bool, true, false, not, cond, List, [], ◌∷◌, eqb, get_or}
+use Rattle.std.specs.Prelude.{ℕ, cond, List, [], ◌∷◌, eqb, get_or, Option, None, Some, is_some, unwrap_or}
+use Rattle.meaning.specs.Flags.{byte_of}
 use Rattle.meaning.specs.Numbers as number
 use Rattle.meaning.specs.Reply.{Reply, refuse, broken, give}
 use Rattle.fitter.specs.Attempts.{attempt_of}
 use Rattle.fitter.specs.Validation.{Judgement, valid, rejected}
 use Rattle.fitter.specs.declared.attempts.FitAttempt.{FitAttempt}
-use Rattle.fitter.specs.declared.attempts.RejectionPart.{RejectionPart}
-use Rattle.fitter.specs.declared.attempts.RejectionPart.TheVariants.{Absent, Present}
 use Rattle.fitter.specs.declared.rejections.FitRejection.{FitRejection}
 use Rattle.fitter.specs.declared.rejections.FitRejection.TheVariants as reason
-use Rattle.fitter.specs.declared.selection.Selected.{Selected}
 use Rattle.models.specs.Parts.{error_of, genome_of}
+use Rattle.models.specs.Unpacking.{empty_fit}
+use Rattle.models.specs.declared.fit.SpectrumFit.{SpectrumFit}
 use Rattle.exports.specs.FlatFits.{fit_of, of_fit}
 use Rattle.exports.specs.declared.flat_attempts.FlatAttempt.{FlatAttempt}
 use Rattle.exports.specs.declared.flat_attempts.FlatSelected.{FlatSelected}
+use Rattle.exports.specs.declared.fits.FlatFit.{FlatFit}
 use Rattle.exports.specs.declared.verdicts.FlatVerdict.{FlatVerdict}
 
 -- ---- a verdict: the number, 0 for an answer; the reason's number, 0 for a valid fit and for a refusal
@@ -46,24 +47,22 @@ abbrev pub reason_of : ℕ → FitRejection
 reason_of n = get_or reasons n reason.OptimisationFailed
 
 -- 0: none; any other number: this one
-abbrev pub rejection_of : ℕ → ℕ → RejectionPart
-rejection_of present n = cond (eqb present 0) Absent (Present (reason_of n))
+abbrev pub rejection_of : ℕ → ℕ → Option FitRejection
+rejection_of present n = cond (eqb present 0) None (Some (reason_of n))
+
+abbrev pub candidate_of : ℕ → FlatFit → Option SpectrumFit
+candidate_of present f = cond (eqb present 0) None (Some (fit_of f))
 
 unfoldable pub attempt_of_flat : FlatAttempt → FitAttempt
 attempt_of_flat a =
     attempt_of
     (error_of a.error_model)
     (genome_of a.genome_model)
-    (not (eqb a.has_candidate 0))
-    (fit_of a.candidate)
+    (candidate_of a.has_candidate a.candidate)
     (rejection_of a.rejection_present a.rejection)
     a.total_iterations
     a.capped_starts
 
--- ---- the fit that is selected
-abbrev pub found_number : Bool → ℕ
-found_number true = 1
-found_number false = 0
-
-unfoldable pub of_selected : Selected → FlatSelected
-of_selected s = record { found = found_number s.found; fit = of_fit s.fit }
+-- ---- the fit that is selected: 1 and the fit, or 0 and the empty one
+unfoldable pub of_selected : Option SpectrumFit → FlatSelected
+of_selected s = record { found = byte_of (is_some s); fit = of_fit (unwrap_or s empty_fit) }

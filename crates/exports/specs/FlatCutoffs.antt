@@ -1,6 +1,5 @@
 -- How C has a cutoff. Definitions only. Assumes nothing.
-use Rattle.std.specs.Prelude.{ℕ}
-use Rattle.std.proofs.Math.Option.{Option, none, some}
+use Rattle.std.specs.Prelude.{ℕ, Option, unwrap_or}
 use Rattle.meaning.specs.Numbers as number
 use Rattle.meaning.specs.Reply.{Reply, refuse, broken, give}
 use Rattle.models.specs.Cutoffs.{Sureness, sure, not_sure, no_walk}
@@ -9,8 +8,7 @@ use Rattle.exports.specs.declared.flat_cutoffs.FlatSureCutoff.{FlatSureCutoff}
 
 -- a cutoff is 2 at least (`hole-cutoff-range` of crates/models), so 0 stands for none
 abbrev pub or_zero : Option ℕ → ℕ
-or_zero none = 0
-or_zero (some c) = c
+or_zero c = unwrap_or c 0
 
 -- the number, 0 for an answer; the cutoff, 0 for a refusal
 abbrev pub say_cutoff : Reply (Option ℕ) → FlatCutoff

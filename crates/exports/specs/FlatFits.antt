@@ -1,14 +1,16 @@
 -- How C has a fit and what is read off one. Definitions only. Assumes nothing.
+use Rattle.std.specs.Prelude.{Option}
 use Rattle.meaning.specs.Numbers as number
+use Rattle.meaning.specs.Onward.{number_said}
 use Rattle.meaning.specs.Reply.{Reply, refuse, broken, give}
 use Rattle.routines.specs.Constants as constants
-use Rattle.helpers.specs.declared.shelves.ShelfPart.{ShelfPart}
+use Rattle.helpers.specs.declared.shelves.Shelf.{Shelf}
 use Rattle.models.specs.Parts.{error_number, genome_number, error_of, genome_of, shape_there, shape_number, shape_of}
 use Rattle.models.specs.Parts.{shelf_there, shelf_held}
+use Rattle.models.specs.Unpacking.{fit_in}
 use Rattle.models.specs.declared.errors.ErrorParams.{ErrorParams}
 use Rattle.models.specs.declared.fit.SpectrumFit.{SpectrumFit}
 use Rattle.models.specs.declared.height_terms.Heights.{Heights}
-use Rattle.models.specs.declared.unpacking.FitAnswer.{FitAnswer}
 use Rattle.exports.specs.Flat.{part_of}
 use Rattle.exports.specs.declared.answers.FlatHeights.{FlatHeights}
 use Rattle.exports.specs.declared.costs.FlatFitAnswer.{FlatFitAnswer}
@@ -62,7 +64,7 @@ of_errors e =
       weibull_shape = shape_number e.weibull_shape;
     }
 
-abbrev pub shelf_numbers : ShelfPart → FlatShelf
+abbrev pub shelf_numbers : Option Shelf → FlatShelf
 shelf_numbers shelf = let s = shelf_held shelf in record { share = s.share; alpha = s.alpha; beta = s.beta }
 
 unfoldable pub of_fit : SpectrumFit → FlatFit
@@ -94,8 +96,9 @@ of_fit f =
       full_distinct_total = f.full_distinct_total;
     }
 
-abbrev pub of_fit_answer : FitAnswer → FlatFitAnswer
-of_fit_answer a = record { number = a.number; fit = of_fit a.fit }
+-- the number, 0 for an answer; the fit, the empty one for a refusal
+abbrev pub say_fit : Reply SpectrumFit → FlatFitAnswer
+say_fit r = record { number = number_said r; fit = of_fit (fit_in r) }
 
 abbrev pub say_heights : Reply Heights → FlatHeights
 say_heights (refuse n) = record { number = n; error = constants.zero; single = constants.zero; repeat = constants.zero }

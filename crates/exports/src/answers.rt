@@ -1,14 +1,11 @@
 // Answers that can refuse, as C has them: a number, 0 for an answer, and the value beside it, 0 for a refusal.
 ghost use Rattle.std.specs.Prelude.{◌≡◌};
-ghost use Rattle.meaning.specs.Answers.{written_says};
-ghost use Rattle.helpers.specs.Answers.{number_says, count_says};
-ghost use Rattle.models.specs.Heights.{heights_says};
+ghost use Rattle.meaning.specs.Answers.{reply_of, number_in};
 ghost use Rattle.exports.specs.Flat.{say_number, say_written, say_count};
 ghost use Rattle.exports.specs.FlatFits.{say_heights};
 
-use helpers::answers::{Count, Number};
-use meaning::answers::Written;
-use models::heights::HeightsAnswer;
+use meaning::refusals::Refusal;
+use models::height_terms::Heights;
 
 #[repr(C)]
 #[derive(Clone, Copy)]
@@ -40,48 +37,55 @@ pub struct FlatHeights {
     pub repeat: f64,
 }
 
-pub fn flat_number(answer: Number) -> FlatNumber
-    ensures { result ≡ say_number (number_says answer) }
+// The number of a refusal, 0 for an answer.
+pub(crate) fn number_in<T: Copy>(answer: Result<T, Refusal>) -> u8
+    ensures { result ≡ number_in answer }
 {
     match answer {
-        Number::Value(value) => FlatNumber { number: 0, value },
-        Number::Refused(number) => FlatNumber { number, value: 0.0 },
+        Ok(_) => 0,
+        Err(refusal) => u8::from(refusal),
     }
 }
 
-pub fn flat_written(answer: Written) -> FlatWritten
-    ensures { result ≡ say_written (written_says answer) }
+pub fn flat_number(answer: Result<f64, Refusal>) -> FlatNumber
+    ensures { result ≡ say_number (reply_of answer) }
 {
-    match answer {
-        Written::Items(items) => FlatWritten { number: 0, items },
-        Written::Refused(number) => FlatWritten { number, items: 0 },
+    FlatNumber {
+        number: number_in(answer),
+        value: answer.unwrap_or(0.0),
     }
 }
 
-pub(crate) fn flat_count(answer: Count) -> FlatCount
-    ensures { result ≡ say_count (count_says answer) }
+pub fn flat_written(answer: Result<usize, Refusal>) -> FlatWritten
+    ensures { result ≡ say_written (reply_of answer) }
 {
-    match answer {
-        Count::Whole(count) => FlatCount { number: 0, count },
-        Count::Refused(number) => FlatCount { number, count: 0 },
+    FlatWritten {
+        number: number_in(answer),
+        items: answer.unwrap_or(0),
     }
 }
 
-pub(crate) fn flat_heights(answer: HeightsAnswer) -> FlatHeights
-    ensures { result ≡ say_heights (heights_says answer) }
+pub(crate) fn flat_count(answer: Result<u64, Refusal>) -> FlatCount
+    ensures { result ≡ say_count (reply_of answer) }
 {
-    match answer {
-        HeightsAnswer::At(h) => FlatHeights {
-            number: 0,
-            error: h.error,
-            single: h.single,
-            repeat: h.repeat,
-        },
-        HeightsAnswer::Refused(number) => FlatHeights {
-            number,
-            error: 0.0,
-            single: 0.0,
-            repeat: 0.0,
-        },
+    FlatCount {
+        number: number_in(answer),
+        count: answer.unwrap_or(0),
+    }
+}
+
+pub(crate) fn flat_heights(answer: Result<Heights, Refusal>) -> FlatHeights
+    ensures { result ≡ say_heights (reply_of answer) }
+{
+    let h = answer.unwrap_or(Heights {
+        error: 0.0,
+        single: 0.0,
+        repeat: 0.0,
+    });
+    FlatHeights {
+        number: number_in(answer),
+        error: h.error,
+        single: h.single,
+        repeat: h.repeat,
     }
 }

@@ -1,19 +1,22 @@
 // The cost of a parameter list, and a converged list as a fit.
 ghost use Rattle.std.specs.Prelude.{◌≡◌, length};
+ghost use Rattle.meaning.specs.Answers.{reply_of};
 ghost use Rattle.meaning.specs.Lent.{laid, counted};
 ghost use Rattle.models.specs.Costs.{cost_of, cost_table};
 ghost use Rattle.models.specs.Prepared.{prepare_of, prepared_cost_of, prepared_cost_table};
-ghost use Rattle.models.specs.Unpacking.{unpack_of, unpack_table, fit_answer_of};
+ghost use Rattle.models.specs.Unpacking.{unpack_of, unpack_table};
 ghost use Rattle.exports.specs.Flat.{say_number, say_written};
 ghost use Rattle.models.specs.Parts.{error_of, genome_of};
-ghost use Rattle.exports.specs.FlatFits.{of_fit_answer};
+ghost use Rattle.exports.specs.FlatFits.{say_fit};
 
-use crate::answers::{FlatNumber, FlatWritten, flat_number, flat_written};
+use crate::answers::{FlatNumber, FlatWritten, flat_number, flat_written, number_in};
 use crate::fits::{FlatFit, flat_fit};
+use meaning::refusals::Refusal;
 use models::costs::{cost, cost_prepared};
-use models::parts::{error_of, genome_of};
+use models::families::{ErrorModel, GenomeModel};
+use models::fit::SpectrumFit;
 use models::prepared::prepare_window;
-use models::unpacking::{FitAnswer, unpack};
+use models::unpacking::{empty_fit, unpack};
 
 #[repr(C)]
 #[derive(Clone, Copy)]
@@ -22,12 +25,12 @@ pub struct FlatFitAnswer {
     pub fit: FlatFit,
 }
 
-fn flat_fit_answer(answer: FitAnswer) -> FlatFitAnswer
-    ensures { result ≡ of_fit_answer answer }
+fn flat_fit_answer(answer: Result<SpectrumFit, Refusal>) -> FlatFitAnswer
+    ensures { result ≡ say_fit (reply_of answer) }
 {
     FlatFitAnswer {
-        number: answer.number,
-        fit: flat_fit(answer.fit),
+        number: number_in(answer),
+        fit: flat_fit(answer.unwrap_or(empty_fit())),
     }
 }
 
@@ -48,8 +51,8 @@ pub fn fog_cost(
         ≡ cost_table bins.now scale window_end peak (error_of error) (genome_of genome) theta.now
         table.old }
 {
-    let tail = error_of(error);
-    let lobes = genome_of(genome);
+    let tail = ErrorModel::from(error);
+    let lobes = GenomeModel::from(genome);
     flat_number(cost(bins, scale, window_end, peak, tail, lobes, theta, table))
 }
 
@@ -78,8 +81,8 @@ pub fn fog_cost_prepared(
         ≡ prepared_cost_table bins.now scale window_end peak (error_of error) (genome_of genome)
         theta.now ready.now table.old }
 {
-    let tail = error_of(error);
-    let lobes = genome_of(genome);
+    let tail = ErrorModel::from(error);
+    let lobes = GenomeModel::from(genome);
     flat_number(cost_prepared(
         bins, scale, window_end, peak, tail, lobes, theta, ready, table,
     ))
@@ -98,14 +101,14 @@ pub fn fog_unpack(
     table: &mut [f64],
 ) -> FlatFitAnswer
     ensures value { result
-        ≡ of_fit_answer (fit_answer_of (unpack_of bins.now scale window_end peak (error_of error)
-        (genome_of genome) theta.now cost iterations (length table.old))) }
+        ≡ say_fit (unpack_of bins.now scale window_end peak (error_of error) (genome_of genome)
+        theta.now cost iterations (length table.old)) }
     ensures table_after { table.new
         ≡ unpack_table bins.now scale window_end peak (error_of error) (genome_of genome)
         theta.now cost iterations table.old }
 {
-    let tail = error_of(error);
-    let lobes = genome_of(genome);
+    let tail = ErrorModel::from(error);
+    let lobes = GenomeModel::from(genome);
     flat_fit_answer(unpack(
         bins, scale, window_end, peak, tail, lobes, theta, cost, iterations, table,
     ))

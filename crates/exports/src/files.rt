@@ -7,9 +7,9 @@ ghost use Rattle.exports.specs.Flat.{say_written};
 ghost use Rattle.exports.specs.FlatFile.{say_file};
 
 use crate::answers::{FlatWritten, flat_written};
-use histogram::reader::{FileRead, read_histogram};
+use histogram::reader::{ReadError, read_histogram};
 use histogram::writer::write_histogram;
-use meaning::refusals::BROKEN_FILE;
+use meaning::refusals::Refusal;
 
 // `place` is the place of the first fault where the number is 3, and 0 otherwise.
 #[repr(C)]
@@ -20,22 +20,22 @@ pub struct FlatFile {
     pub place: usize,
 }
 
-pub fn flat_file(answer: FileRead) -> FlatFile
+pub fn flat_file(answer: Result<usize, ReadError>) -> FlatFile
     ensures { result ≡ say_file (file_says answer) }
 {
     match answer {
-        FileRead::Bins(items) => FlatFile {
+        Ok(items) => FlatFile {
             number: 0,
             items,
             place: 0,
         },
-        FileRead::Broken(place) => FlatFile {
-            number: BROKEN_FILE,
+        Err(ReadError::Broken(place)) => FlatFile {
+            number: u8::from(Refusal::BrokenFile),
             items: 0,
             place,
         },
-        FileRead::Refused(number) => FlatFile {
-            number,
+        Err(ReadError::Refused(refusal)) => FlatFile {
+            number: u8::from(refusal),
             items: 0,
             place: 0,
         },

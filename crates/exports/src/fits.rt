@@ -3,13 +3,11 @@ ghost use Rattle.std.specs.Prelude.{◌≡◌};
 ghost use Rattle.exports.specs.FlatFits.{errors_of, fit_of, of_errors, shelf_numbers, of_fit};
 
 use crate::shelf::{FlatShelf, part_of};
-use helpers::shelves::ShelfPart;
+use helpers::shelves::Shelf;
 use models::errors::ErrorParams;
+use models::families::{ErrorModel, GenomeModel};
 use models::fit::SpectrumFit;
-use models::parts::{
-    error_number, error_of, genome_number, genome_of, shape_number, shape_of, shape_there,
-    shelf_held, shelf_there,
-};
+use models::parts::{shape_number, shape_of, shape_there, shelf_held, shelf_there};
 
 #[repr(C)]
 #[derive(Clone, Copy)]
@@ -52,34 +50,30 @@ pub struct FlatFit {
 pub fn errors_of(errors: FlatErrors) -> ErrorParams
     ensures { result ≡ errors_of errors }
 {
-    let shape = shape_of(errors.shape_present, errors.weibull_shape);
     ErrorParams {
         singleton_probability: errors.singleton_probability,
         tail_exponent: errors.tail_exponent,
-        weibull_shape: shape,
+        weibull_shape: shape_of(errors.shape_present, errors.weibull_shape),
     }
 }
 
+#[tactic(auto, unfolding(crate::specs::FlatFits::fit_of))]
 pub fn fit_of(fit: FlatFit) -> SpectrumFit
     ensures { result ≡ fit_of fit }
 {
     let masses = fit.component_log_window_masses;
     let totals = fit.component_log_totals;
-    let error_model = error_of(fit.error_model);
-    let genome_model = genome_of(fit.genome_model);
-    let error_params = errors_of(fit.error_params);
-    let shelf = part_of(fit.shelf_present, fit.shelf);
     SpectrumFit {
-        error_model: error_model,
-        genome_model: genome_model,
+        error_model: ErrorModel::from(fit.error_model),
+        genome_model: GenomeModel::from(fit.genome_model),
         w_error: fit.w_error,
         w_single: fit.w_single,
         w_repeat: fit.w_repeat,
         mean: fit.mean,
         dispersion: fit.dispersion,
         target_mode: fit.target_mode,
-        error_params: error_params,
-        shelf: shelf,
+        error_params: errors_of(fit.error_params),
+        shelf: part_of(fit.shelf_present, fit.shelf),
         repeat_ratio: fit.repeat_ratio,
         genome_kmers: fit.genome_kmers,
         error_kmers: fit.error_kmers,
@@ -99,16 +93,15 @@ pub fn fit_of(fit: FlatFit) -> SpectrumFit
 pub fn flat_errors(errors: ErrorParams) -> FlatErrors
     ensures { result ≡ of_errors errors }
 {
-    let shape = errors.weibull_shape;
     FlatErrors {
         singleton_probability: errors.singleton_probability,
         tail_exponent: errors.tail_exponent,
-        shape_present: shape_there(shape),
-        weibull_shape: shape_number(shape),
+        shape_present: shape_there(errors.weibull_shape),
+        weibull_shape: shape_number(errors.weibull_shape),
     }
 }
 
-pub fn shelf_numbers(shelf: ShelfPart) -> FlatShelf
+pub fn shelf_numbers(shelf: Option<Shelf>) -> FlatShelf
     ensures { result ≡ shelf_numbers shelf }
 {
     let s = shelf_held(shelf);
@@ -119,27 +112,24 @@ pub fn shelf_numbers(shelf: ShelfPart) -> FlatShelf
     }
 }
 
+#[tactic(auto, unfolding(crate::specs::FlatFits::of_fit))]
 pub(crate) fn flat_fit(fit: SpectrumFit) -> FlatFit
     ensures { result ≡ of_fit fit }
 {
     let masses = fit.component_log_window_masses;
     let totals = fit.component_log_totals;
-    let error_model = fit.error_model;
-    let genome_model = fit.genome_model;
-    let error_params = flat_errors(fit.error_params);
-    let shelf = fit.shelf;
     FlatFit {
-        error_model: error_number(error_model),
-        genome_model: genome_number(genome_model),
+        error_model: u8::from(fit.error_model),
+        genome_model: u8::from(fit.genome_model),
         w_error: fit.w_error,
         w_single: fit.w_single,
         w_repeat: fit.w_repeat,
         mean: fit.mean,
         dispersion: fit.dispersion,
         target_mode: fit.target_mode,
-        error_params: error_params,
-        shelf_present: shelf_there(shelf),
-        shelf: shelf_numbers(shelf),
+        error_params: flat_errors(fit.error_params),
+        shelf_present: shelf_there(fit.shelf),
+        shelf: shelf_numbers(fit.shelf),
         repeat_ratio: fit.repeat_ratio,
         genome_kmers: fit.genome_kmers,
         error_kmers: fit.error_kmers,

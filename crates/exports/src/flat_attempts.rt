@@ -3,14 +3,16 @@ ghost use Rattle.std.specs.Prelude.{◌≡◌, [], ◌∷◌};
 ghost use Rattle.meaning.specs.Flags.{byte_of};
 ghost use Rattle.fitter.specs.Attempts.{valid_of};
 ghost use Rattle.fitter.specs.Selection.{select_of};
-ghost use Rattle.exports.specs.FlatAttempts.{reason_of, rejection_of, attempt_of_flat, of_selected};
+ghost use Rattle.exports.specs.FlatAttempts.{reason_of, rejection_of, candidate_of, attempt_of_flat, of_selected};
 
 use crate::fits::{FlatFit, fit_of, flat_fit};
-use fitter::attempts::{FitAttempt, RejectionPart, is_valid, make_attempt};
+use fitter::attempts::{FitAttempt, is_valid, make_attempt};
 use fitter::rejections::FitRejection;
-use fitter::selection::{Selected, select_fit};
+use fitter::selection::select_fit;
 use meaning::flags::byte_of;
-use models::parts::{error_of, genome_of};
+use models::families::{ErrorModel, GenomeModel};
+use models::fit::SpectrumFit;
+use models::unpacking::empty_fit;
 
 #[repr(C)]
 #[derive(Clone, Copy)]
@@ -50,40 +52,39 @@ fn reason_of(n: u8) -> FitRejection
     }
 }
 
-fn rejection_of(present: u8, n: u8) -> RejectionPart
+fn rejection_of(present: u8, n: u8) -> Option<FitRejection>
     ensures { result ≡ rejection_of present n }
 {
-    if present == 0 {
-        return RejectionPart::Absent;
-    }
-    RejectionPart::Present(reason_of(n))
+    (present != 0).then_some(reason_of(n))
 }
 
+fn candidate_of(present: u8, fit: FlatFit) -> Option<SpectrumFit>
+    ensures { result ≡ candidate_of present fit }
+{
+    (present != 0).then_some(fit_of(fit))
+}
+
+#[tactic(auto, unfolding(crate::specs::FlatAttempts::attempt_of_flat))]
 fn attempt_of(attempt: FlatAttempt) -> FitAttempt
     ensures { result ≡ attempt_of_flat attempt }
 {
-    let error = error_of(attempt.error_model);
-    let genome = genome_of(attempt.genome_model);
-    let candidate = fit_of(attempt.candidate);
-    let rejection = rejection_of(attempt.rejection_present, attempt.rejection);
     make_attempt(
-        error,
-        genome,
-        attempt.has_candidate != 0,
-        candidate,
-        rejection,
+        ErrorModel::from(attempt.error_model),
+        GenomeModel::from(attempt.genome_model),
+        candidate_of(attempt.has_candidate, attempt.candidate),
+        rejection_of(attempt.rejection_present, attempt.rejection),
         attempt.total_iterations,
         attempt.capped_starts,
     )
 }
 
-fn flat_selected(selected: Selected) -> FlatSelected
+#[tactic(auto, unfolding(crate::specs::FlatAttempts::of_selected))]
+fn flat_selected(selected: Option<SpectrumFit>) -> FlatSelected
     ensures { result ≡ of_selected selected }
 {
-    let fit = flat_fit(selected.fit);
     FlatSelected {
-        found: if selected.found { 1 } else { 0 },
-        fit,
+        found: byte_of(selected.is_some()),
+        fit: flat_fit(selected.unwrap_or(empty_fit())),
     }
 }
 

@@ -1,15 +1,16 @@
 // The cutoffs of a fit.
 ghost use Rattle.std.specs.Prelude.{◌≡◌};
-ghost use Rattle.models.specs.Cutoffs.{cutoff_says, sure_says, hole_cutoff_of, hole_cutoff_sure_of};
-ghost use Rattle.models.specs.HeightCutoffs.{crossover_of, floor_says, error_floor_of};
-ghost use Rattle.models.specs.Walk.{part_says};
-ghost use Rattle.exports.specs.FlatCutoffs.{or_zero, say_cutoff, say_sure, say_floor};
+ghost use Rattle.meaning.specs.Answers.{reply_of, reply_as};
+ghost use Rattle.models.specs.Cutoffs.{sure_says, hole_cutoff_of, hole_cutoff_sure_of};
+ghost use Rattle.models.specs.HeightCutoffs.{crossover_of, error_floor_of};
+ghost use Rattle.exports.specs.FlatCutoffs.{say_cutoff, say_sure, say_floor};
 ghost use Rattle.exports.specs.FlatFits.{fit_of};
 
+use crate::answers::number_in;
 use crate::fits::{FlatFit, fit_of};
-use models::cutoffs::{Cutoff, SureCutoff, hole_cutoff, hole_cutoff_sure};
-use models::height_cutoffs::{FloorAnswer, crossover, error_floor_cutoff};
-use models::walk::CutoffPart;
+use meaning::refusals::Refusal;
+use models::cutoffs::{SureCutoff, hole_cutoff, hole_cutoff_sure};
+use models::height_cutoffs::{crossover, error_floor_cutoff};
 
 // A cutoff is 2 at least, so 0 stands for none.
 #[repr(C)]
@@ -29,56 +30,28 @@ pub struct FlatSureCutoff {
     pub cutoff: u16,
 }
 
-pub(crate) fn flat_cutoff(answer: Cutoff) -> FlatCutoff
-    ensures { result ≡ say_cutoff (cutoff_says answer) }
+pub(crate) fn flat_cutoff(answer: Result<Option<u16>, Refusal>) -> FlatCutoff
+    ensures { result ≡ say_cutoff (reply_of answer) }
 {
-    match answer {
-        Cutoff::At(cutoff) => FlatCutoff { number: 0, cutoff },
-        Cutoff::Nothing => FlatCutoff {
-            number: 0,
-            cutoff: 0,
-        },
-        Cutoff::Refused(number) => FlatCutoff { number, cutoff: 0 },
+    FlatCutoff {
+        number: number_in(answer),
+        cutoff: answer.unwrap_or(None).unwrap_or(0),
     }
 }
 
-fn or_zero(part: CutoffPart) -> u16
-    ensures { result ≡ or_zero (part_says part) }
+fn flat_sure(answer: Result<SureCutoff, Refusal>) -> FlatSureCutoff
+    ensures { result ≡ say_sure (reply_as sure_says answer) }
 {
-    match part {
-        CutoffPart::Absent => 0,
-        CutoffPart::Present(cutoff) => cutoff,
-    }
-}
-
-fn flat_sure(answer: SureCutoff) -> FlatSureCutoff
-    ensures { result ≡ say_sure (sure_says answer) }
-{
-    match answer {
-        SureCutoff::Sure(found) => FlatSureCutoff {
-            number: 0,
-            walk: 1,
-            sure: 1,
-            cutoff: or_zero(found),
-        },
-        SureCutoff::NotSure(found) => FlatSureCutoff {
-            number: 0,
-            walk: 1,
-            sure: 0,
-            cutoff: or_zero(found),
-        },
-        SureCutoff::NoWalk => FlatSureCutoff {
-            number: 0,
-            walk: 0,
-            sure: 0,
-            cutoff: 0,
-        },
-        SureCutoff::Refused(number) => FlatSureCutoff {
-            number,
-            walk: 0,
-            sure: 0,
-            cutoff: 0,
-        },
+    let (walk, sure, found) = match answer.unwrap_or(SureCutoff::NoWalk) {
+        SureCutoff::Sure(found) => (1, 1, found),
+        SureCutoff::NotSure(found) => (1, 0, found),
+        SureCutoff::NoWalk => (0, 0, None),
+    };
+    FlatSureCutoff {
+        number: number_in(answer),
+        walk,
+        sure,
+        cutoff: found.unwrap_or(0),
     }
 }
 
@@ -94,12 +67,12 @@ pub fn fog_hole_cutoff_sure(fit: FlatFit, budget: f64) -> FlatSureCutoff
     flat_sure(hole_cutoff_sure(fit_of(fit), budget))
 }
 
-fn flat_floor(answer: FloorAnswer) -> FlatCutoff
-    ensures { result ≡ say_floor (floor_says answer) }
+fn flat_floor(answer: Result<u16, Refusal>) -> FlatCutoff
+    ensures { result ≡ say_floor (reply_of answer) }
 {
-    match answer {
-        FloorAnswer::At(cutoff) => FlatCutoff { number: 0, cutoff },
-        FloorAnswer::Refused(number) => FlatCutoff { number, cutoff: 0 },
+    FlatCutoff {
+        number: number_in(answer),
+        cutoff: answer.unwrap_or(0),
     }
 }
 

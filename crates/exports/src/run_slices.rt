@@ -1,6 +1,6 @@
 // Attempts over a run table that is an array of run structs, as C has them.
 ghost use Rattle.std.specs.Prelude.{◌≡◌, length, drop};
-ghost use Rattle.fitter.specs.Attempting.{attempt_answer_of, attempt_from, stands_from};
+ghost use Rattle.fitter.specs.Attempting.{attempt_from, stands_from};
 ghost use Rattle.fitter.specs.Columns.{run_in};
 ghost use Rattle.exports.specs.FlatTables.{say_attempt};
 ghost use Rattle.exports.specs.FlatSetups.{setup_from};
@@ -37,6 +37,7 @@ fn setup_from(setup: FlatSetup) -> Problem
     )
 }
 
+#[tactic(auto, unfolding(crate::specs::FlatTables::say_attempt))]
 pub fn fog_attempt_from(
     bins: &[u32],
     setup: FlatSetup,
@@ -45,8 +46,8 @@ pub fn fog_attempt_from(
     table: &mut [f64],
 ) -> FlatAttemptAnswer
     ensures value { result
-        ≡ say_attempt (attempt_answer_of (attempt_from bins.now (setup_from setup) lists.now
-        (length table.old) (run_in runs.now) (length runs.now))) }
+        ≡ say_attempt (attempt_from bins.now (setup_from setup) lists.now (length table.old)
+        (run_in runs.now) (length runs.now)) }
     ensures table_unchanged { drop (stands_from (setup_from setup) result.number) table.new
         ≡ drop (stands_from (setup_from setup) result.number) table.old }
 {

@@ -1,18 +1,21 @@
 // Attempts over a run table, as C has them: the table is six arrays, and has as many runs as the shortest of them.
 ghost use Rattle.std.specs.Prelude.{◌≡◌, length, drop};
-ghost use Rattle.fitter.specs.Attempting.{attempt_answer_of, attempt_from, stands_from};
+ghost use Rattle.meaning.specs.Answers.{reply_of};
+ghost use Rattle.fitter.specs.Attempting.{attempt_from, stands_from};
 ghost use Rattle.fitter.specs.Columns.{count_of_runs, run_of};
-ghost use Rattle.exports.specs.FlatTables.{rejection_there, rejection_number, of_attempt, setup_of, say_attempt};
+ghost use Rattle.exports.specs.FlatTables.{of_attempt, empty_attempt, setup_of, say_attempt};
 
+use crate::answers::number_in;
 use crate::fits::flat_fit;
 use crate::flat_attempts::FlatAttempt;
+use crate::verdicts::rejection_number;
 use fitter::attempting::attempt_from_numbers;
-use fitter::attempts::{FitAttempt, RejectionPart};
-use fitter::rejections::reason_number;
-use fitter::settling::AttemptAnswer;
+use fitter::attempts::{FitAttempt, make_attempt};
 use meaning::flags::byte_of;
-use models::parts::{error_number, error_of, genome_number, genome_of};
+use meaning::refusals::Refusal;
+use models::families::{ErrorModel, GenomeModel};
 use models::problems::Problem;
+use models::unpacking::empty_fit;
 
 #[repr(C)]
 #[derive(Clone, Copy)]
@@ -21,49 +24,38 @@ pub struct FlatAttemptAnswer {
     pub attempt: FlatAttempt,
 }
 
-fn rejection_there(rejection: RejectionPart) -> u8
-    ensures { result ≡ rejection_there rejection }
-{
-    match rejection {
-        RejectionPart::Absent => 0,
-        RejectionPart::Present(_) => 1,
-    }
-}
-
-fn rejection_number(rejection: RejectionPart) -> u8
-    ensures { result ≡ rejection_number rejection }
-{
-    match rejection {
-        RejectionPart::Absent => 0,
-        RejectionPart::Present(why) => reason_number(why),
-    }
-}
-
+#[tactic(auto, unfolding(crate::specs::FlatTables::of_attempt))]
 fn flat_attempt(attempt: FitAttempt) -> FlatAttempt
     ensures { result ≡ of_attempt attempt }
 {
-    let error = attempt.error_model;
-    let genome = attempt.genome_model;
-    let rejection = attempt.rejection;
-    let candidate = flat_fit(attempt.candidate);
     FlatAttempt {
-        error_model: error_number(error),
-        genome_model: genome_number(genome),
-        has_candidate: byte_of(attempt.has_candidate),
-        candidate: candidate,
-        rejection_present: rejection_there(rejection),
-        rejection: rejection_number(rejection),
+        error_model: u8::from(attempt.error_model),
+        genome_model: u8::from(attempt.genome_model),
+        has_candidate: byte_of(attempt.candidate.is_some()),
+        candidate: flat_fit(attempt.candidate.unwrap_or(empty_fit())),
+        rejection_present: byte_of(attempt.rejection.is_some()),
+        rejection: rejection_number(attempt.rejection),
         total_iterations: attempt.total_iterations,
         capped_starts: attempt.capped_starts,
     }
 }
 
-pub(crate) fn flat_attempt_answer(answer: AttemptAnswer) -> FlatAttemptAnswer
-    ensures { result ≡ say_attempt answer }
+// The attempt beside a number.
+fn empty_attempt() -> FitAttempt
+    ensures { result ≡ empty_attempt }
+{
+    let error = ErrorModel::FreeSingletonWeibull;
+    let genome = GenomeModel::NegativeBinomial;
+    make_attempt(error, genome, None, None, 0, 0)
+}
+
+#[tactic(auto, unfolding(crate::specs::FlatTables::say_attempt))]
+pub(crate) fn flat_attempt_answer(answer: Result<FitAttempt, Refusal>) -> FlatAttemptAnswer
+    ensures { result ≡ say_attempt (reply_of answer) }
 {
     FlatAttemptAnswer {
-        number: answer.number,
-        attempt: flat_attempt(answer.attempt),
+        number: number_in(answer),
+        attempt: flat_attempt(answer.unwrap_or(empty_attempt())),
     }
 }
 
@@ -83,12 +75,13 @@ pub(crate) fn setup_of(
         window_end,
         valley,
         peak,
-        error: error_of(error),
-        genome: genome_of(genome),
+        error: ErrorModel::from(error),
+        genome: GenomeModel::from(genome),
         mass_limit,
     }
 }
 
+#[tactic(auto, unfolding(crate::specs::FlatTables::say_attempt))]
 pub fn fog_attempt_from_numbers(
     bins: &[u32],
     scale: f64,
@@ -108,11 +101,10 @@ pub fn fog_attempt_from_numbers(
     table: &mut [f64],
 ) -> FlatAttemptAnswer
     ensures value { result
-        ≡ say_attempt (attempt_answer_of (attempt_from bins.now (setup_of scale window_end valley peak error
-        genome mass_limit) lists.now (length table.old) (run_of converged.now
-        costs.now places.now lengths.now iterations.now
-        caps.now) (count_of_runs converged.now costs.now places.now
-        lengths.now iterations.now caps.now))) }
+        ≡ say_attempt (attempt_from bins.now (setup_of scale window_end valley peak error genome
+        mass_limit) lists.now (length table.old) (run_of converged.now costs.now places.now
+        lengths.now iterations.now caps.now) (count_of_runs converged.now costs.now
+        places.now lengths.now iterations.now caps.now)) }
     ensures table_unchanged { drop (stands_from (setup_of scale window_end valley peak error genome mass_limit)
         result.number)
         table.new

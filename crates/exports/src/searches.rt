@@ -17,7 +17,7 @@ ghost use Rattle.exports.specs.FlatSearches.{problem_of};
 
 use crate::answers::{FlatWritten, flat_written};
 use crate::run_tables::setup_of;
-use models::parts::{error_of, genome_of};
+use models::families::{ErrorModel, GenomeModel};
 use models::problems::Problem;
 use search::beginning::begin_searches;
 use search::reporting::report_searches;
@@ -187,8 +187,8 @@ pub fn fog_report_searches(
         (genome_of genome) runs simplexes.now iterations.now stopped.now i
         ).hit_cap) runs) caps.old) caps.old }
 {
-    let tail = error_of(error);
-    let lobes = genome_of(genome);
+    let tail = ErrorModel::from(error);
+    let lobes = GenomeModel::from(genome);
     let answer = report_searches(
         tail, lobes, runs, simplexes, iterations, stopped, converged, costs, places, lengths, caps,
     );

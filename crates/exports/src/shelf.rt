@@ -2,7 +2,7 @@
 ghost use Rattle.std.specs.Prelude.{◌≡◌};
 ghost use Rattle.exports.specs.Flat.{shelf_of, part_of};
 
-use helpers::shelves::{Shelf, ShelfPart};
+use helpers::shelves::Shelf;
 
 #[repr(C)]
 #[derive(Clone, Copy)]
@@ -22,11 +22,8 @@ pub fn shelf_of(shelf: FlatShelf) -> Shelf
     }
 }
 
-pub fn part_of(present: u8, shelf: FlatShelf) -> ShelfPart
+pub fn part_of(present: u8, shelf: FlatShelf) -> Option<Shelf>
     ensures { result ≡ part_of present shelf }
 {
-    if present == 0 {
-        return ShelfPart::Absent;
-    }
-    ShelfPart::Present(shelf_of(shelf))
+    (present != 0).then_some(shelf_of(shelf))
 }

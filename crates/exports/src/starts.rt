@@ -9,14 +9,14 @@ ghost use Rattle.fitter.specs.Starts.{starts_of};
 ghost use Rattle.exports.specs.Flat.{say_written};
 ghost use Rattle.models.specs.Parts.{error_of, genome_of};
 
-use crate::answers::{FlatWritten, flat_written};
+use crate::answers::{FlatWritten, flat_written, number_in};
 use fitter::starts::{fit_starts, fit_starts_lent, start_tables_refusal};
-use models::parts::{error_of, genome_of};
+use models::families::{ErrorModel, GenomeModel};
 
 pub fn fog_start_tables_refusal(pareto: &[f64], weibull: &[f64]) -> u8
     ensures { result ≡ first_of (wrong_tables (length pareto.now) (length weibull.now)) }
 {
-    start_tables_refusal(pareto, weibull)
+    number_in(start_tables_refusal(pareto, weibull))
 }
 
 pub fn fog_fit_starts(
@@ -35,8 +35,8 @@ pub fn fog_fit_starts(
         ≡ laid (starts_of (error_of error) (genome_of genome) pareto_starts weibull_starts seeds.now hint share
         shapes.now (length out.old)) out.old }
 {
-    let tail = error_of(error);
-    let lobes = genome_of(genome);
+    let tail = ErrorModel::from(error);
+    let lobes = GenomeModel::from(genome);
     flat_written(fit_starts(tail, lobes, seeds, hint, share, shapes, out))
 }
 
@@ -58,8 +58,8 @@ pub fn fog_fit_starts_lent<'a>(
         ≡ laid (starts_of (error_of error) (genome_of genome) pareto.now weibull.now
         seeds.now hint share shapes.now (length out.old)) out.old }
 {
-    let tail = error_of(error);
-    let lobes = genome_of(genome);
+    let tail = ErrorModel::from(error);
+    let lobes = GenomeModel::from(genome);
     flat_written(fit_starts_lent(
         tail, lobes, pareto, weibull, seeds, hint, share, shapes, out,
     ))

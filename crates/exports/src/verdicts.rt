@@ -1,12 +1,16 @@
 // The validator, and its reasons by their numbers.
 ghost use Rattle.std.specs.Prelude.{◌≡◌};
-ghost use Rattle.fitter.specs.Validation.{validate_of, verdict_says};
+ghost use Rattle.meaning.specs.Answers.{reply_as};
+ghost use Rattle.fitter.specs.Validation.{validate_of, judgement_in};
 ghost use Rattle.exports.specs.FlatFits.{fit_of};
 ghost use Rattle.exports.specs.FlatAttempts.{say_verdict};
+ghost use Rattle.exports.specs.FlatTables.{rejection_number};
 
+use crate::answers::number_in;
 use crate::fits::{FlatFit, fit_of};
-use fitter::rejections::reason_number;
-use fitter::validation::{Verdict, validate_fit};
+use fitter::rejections::FitRejection;
+use fitter::validation::validate_fit;
+use meaning::refusals::Refusal;
 
 #[repr(C)]
 #[derive(Clone, Copy)]
@@ -15,19 +19,21 @@ pub struct FlatVerdict {
     pub reason: u8,
 }
 
-fn flat_verdict(verdict: Verdict) -> FlatVerdict
-    ensures { result ≡ say_verdict (verdict_says verdict) }
+pub(crate) fn rejection_number(rejection: Option<FitRejection>) -> u8
+    ensures { result ≡ rejection_number rejection }
 {
-    match verdict {
-        Verdict::Valid => FlatVerdict {
-            number: 0,
-            reason: 0,
-        },
-        Verdict::Rejected(why) => FlatVerdict {
-            number: 0,
-            reason: reason_number(why),
-        },
-        Verdict::Refused(number) => FlatVerdict { number, reason: 0 },
+    match rejection {
+        None => 0,
+        Some(why) => u8::from(why),
+    }
+}
+
+fn flat_verdict(verdict: Result<Option<FitRejection>, Refusal>) -> FlatVerdict
+    ensures { result ≡ say_verdict (reply_as judgement_in verdict) }
+{
+    FlatVerdict {
+        number: number_in(verdict),
+        reason: rejection_number(verdict.unwrap_or(None)),
     }
 }
 

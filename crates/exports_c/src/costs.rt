@@ -3,10 +3,10 @@ ghost use Rattle.std.specs.Prelude.{◌≡◌, length};
 ghost use Rattle.meaning.specs.Lent.{laid, counted};
 ghost use Rattle.models.specs.Costs.{cost_of, cost_table};
 ghost use Rattle.models.specs.Prepared.{prepare_of, prepared_cost_of, prepared_cost_table};
-ghost use Rattle.models.specs.Unpacking.{unpack_of, unpack_table, fit_answer_of};
+ghost use Rattle.models.specs.Unpacking.{unpack_of, unpack_table};
 ghost use Rattle.exports.specs.Flat.{say_number, say_written};
 ghost use Rattle.models.specs.Parts.{error_of, genome_of};
-ghost use Rattle.exports.specs.FlatFits.{of_fit_answer};
+ghost use Rattle.exports.specs.FlatFits.{say_fit};
 
 use exports::answers::{FlatNumber, FlatWritten};
 use exports::costs::FlatFitAnswer;
@@ -78,8 +78,8 @@ pub extern "C" fn fog_unpack(
     table: &mut [f64],
 ) -> FlatFitAnswer
     ensures value { result
-        ≡ of_fit_answer (fit_answer_of (unpack_of bins.now scale window_end peak (error_of error)
-        (genome_of genome) theta.now cost iterations (length table.old))) }
+        ≡ say_fit (unpack_of bins.now scale window_end peak (error_of error) (genome_of genome)
+        theta.now cost iterations (length table.old)) }
     ensures table_after { table.new
         ≡ unpack_table bins.now scale window_end peak (error_of error) (genome_of genome)
         theta.now cost iterations table.old }

@@ -1,4 +1,5 @@
 // The starts of a search, and the tables that they are made from. An exported function can't return a reference, so
+// `start_table` has no C form.
 ghost use Rattle.std.specs.Prelude.{◌≡◌, length};
 ghost use Rattle.meaning.specs.Lent.{counted, laid};
 ghost use Rattle.meaning.specs.Reply.{first_of};

@@ -13,7 +13,7 @@ use Rattle.meaning.specs.Rows.{in_order, below_two, above_most}
 use Rattle.meaning.proofs.Replies.{same_number, answer-not-refused}
 use Rattle.models.specs.Families.{list_length_of}
 use Rattle.models.specs.Refusals.{table_demand, wrong_list, spectrum_tests, fit_tests}
-use Rattle.models.specs.Unpacking.{empty_fit, fit_answer_of, unpack_of}
+use Rattle.models.specs.Unpacking.{fit_in, unpack_of}
 use Rattle.fitter.specs.Attempting.{wrong_lists, wrong_costs, setup_tests, attempt_tests, candidate_of, attempt_from}
 use Rattle.fitter.specs.Attempts.{attempt_of, unrejected}
 use Rattle.fitter.specs.Candidates.{LongEnough}
@@ -22,7 +22,6 @@ use Rattle.fitter.specs.Runs.{list_at, has_wrong_list, has_wrong_cost, any_of, i
 use Rattle.fitter.specs.Surveys.{least_of}
 use Rattle.fitter.specs.Validation.{outside_limit, verdict_of}
 use Rattle.fitter.specs.declared.attempts.FitAttempt.{FitAttempt}
-use Rattle.fitter.specs.declared.attempts.RejectionPart.TheVariants.{Present}
 use Rattle.fitter.specs.declared.judging.JudgedFit.{JudgedFit}
 use Rattle.fitter.specs.declared.rejections.FitRejection.TheVariants as reason
 use Rattle.fitter.specs.declared.runs.Run.{Run}
@@ -30,6 +29,7 @@ use Rattle.models.specs.declared.problems.Problem.{Problem}
 use Rattle.fitter.specs.declared.surveys.Best.{Best}
 use Rattle.fitter.proofs.Cleared.{clear}
 use Rattle.fitter.proofs.RunFits.{whole}
+use Rattle.std.specs.Prelude.{None, Some}
 
 -- ---- chains whose last test is that of 10
 abbrev ten : Bool → List Test
@@ -106,9 +106,9 @@ module _ (bins : List ℕ) (setup : Problem) (lists : List Float) (at : ℕ → 
   candidate-by judge =
       let best = kept_by judge in
       cond best.run.converged
-      (attempt_of setup.error setup.genome true (judge best.run).fit (judge best.run).rejection
+      (attempt_of setup.error setup.genome (Some (judge best.run).fit) (judge best.run).rejection
       (iterations_of at n) (capped_of at n))
-      (attempt_of setup.error setup.genome false empty_fit (Present reason.OptimisationFailed) (iterations_of at n)
+      (attempt_of setup.error setup.genome None (Some reason.OptimisationFailed) (iterations_of at n)
       (capped_of at n))
 
   module _ (room other : ℕ) (z : 0 ≡ first_of (attempt_tests bins setup lists room at n))
@@ -125,9 +125,8 @@ module _ (bins : List ℕ) (setup : Problem) (lists : List Float) (at : ℕ → 
     same-fit run =
         let list = list_at lists run.place run.length in
         ap (λ (b : Bool).
-        (fit_answer_of
-        (chain (unpack-others (length list) ++ ten b) (give (whole bins setup list run.cost run.iterations)))
-        ).fit) same-short
+        fit_in
+        (chain (unpack-others (length list) ++ ten b) (give (whole bins setup list run.cost run.iterations)))) same-short
 
     same-judged : judged_fit_of bins setup lists room ≡ judged_fit_of bins setup lists other
     unfolding judged_fit_of

@@ -1,34 +1,33 @@
 -- THE THEOREM: two passes over the run table come to the attempt that specs/Attempting.antt defines, over any table.
 -- Assumes nothing.
-use Prim.Native.Nat.{ℕ, zero, suc, ◌+◌, ◌≤◌, ◌<◌, zero-le}
+use Prim.Native.Nat.{ℕ, ◌+◌, ◌≤◌, ◌<◌, zero-le}
 use mathlib.Core.Path.{◌≡◌, refl, sym, ap, ◌∙◌}
 use mathlib.Core.Bool.{Bool, true, false, not, cond, ◌&&◌, ◌||◌, true≢false}
 use mathlib.Core.List.{List, [], ◌∷◌}
 use native.Mathlib.Omega.{arith}
-use borrow.Author.Tests.{ne_eqb}
-use lib.Dec.{eqb}
 use lib.ListN.{length}
 use lib.Ieee.{Float}
 use Rattle.meaning.specs.Fold.{fold}
-use Rattle.meaning.specs.Reply.{give, Test, first_of}
+use Rattle.meaning.specs.Onward.{onward}
+use Rattle.meaning.specs.Reply.{Reply, give, Test, test, chain, first_of}
 use Rattle.meaning.specs.Rows.{most, in_order, below_two, above_most}
-use Rattle.meaning.proofs.Chains.{numbered, goes_on, chain-refused, chain-passed}
+use Rattle.meaning.proofs.Chains.{numbered, goes_on}
 use Rattle.meaning.proofs.Folds.{fold_more, fold-split, fold-keeps}
 use Rattle.models.specs.Refusals.{spectrum_tests, short_table}
 use Rattle.fitter.specs.Attempts.{unrejected}
 use Rattle.fitter.specs.Validation.{outside_limit}
 use Rattle.fitter.specs.Attempting.{wrong_lists, wrong_costs, setup_tests, survey_tests, wanted, attempt_tests}
-use Rattle.fitter.specs.Attempting.{candidate_of, attempt_from, attempt_answer_of, refused_answer}
+use Rattle.fitter.specs.Attempting.{candidate_of, attempt_from}
 use Rattle.fitter.specs.Judging.{judged_fit_of, kept_best}
 use Rattle.fitter.specs.Retrying.{held_of, retried_of}
 use Rattle.fitter.specs.Runs.{bad_cost, has_wrong_cost, any_of, top32, iterations_of, capped_of}
-use Rattle.fitter.specs.Settling.{no_held, closed_by, held_by, settle_of, with_held}
-use Rattle.fitter.specs.Settling.{failed_answer, kept_answer, finish_of}
-use Rattle.fitter.specs.Settling.{surveyed, settled, again, answered_of}
+use Rattle.fitter.specs.Settling.{no_held, unheld_by, held_by, settle_of, with_held}
+use Rattle.fitter.specs.Settling.{failed_attempt, kept_attempt, finish_of}
+use Rattle.fitter.specs.Settling.{surveyed, again, answered_of}
 use Rattle.fitter.specs.Surveys.{least_of}
 use Rattle.fitter.specs.declared.judging.Held.{Held}
 use Rattle.fitter.specs.declared.runs.Run.{Run}
-use Rattle.fitter.specs.declared.settling.AttemptAnswer.{AttemptAnswer}
+use Rattle.fitter.specs.declared.attempts.FitAttempt.{FitAttempt}
 use Rattle.fitter.specs.declared.settling.Settled.{Settled}
 use Rattle.models.specs.declared.problems.Problem.{Problem}
 use Rattle.fitter.specs.declared.surveys.Best.{Best}
@@ -44,10 +43,6 @@ use Rattle.fitter.proofs.Keeping.{kept-none, kept-least, kept-converged, kept-re
 module _ (bins : List ℕ) (setup : Problem) (n : ℕ) (wrong bad : Bool) (room : ℕ) where
   abbrev tests : List Test
   tests = setup_tests bins setup n wrong bad room
-
-  pub setup-numbered : numbered tests ≡ true
-  unfolding setup_tests spectrum_tests
-  setup-numbered = refl
 
   abbrev from-limit : List (List Test)
   from-limit = outside_limit setup.mass_limit ∷ short_table setup.genome setup.window_end room ∷ []
@@ -124,60 +119,19 @@ module _ (bins : List ℕ) (setup : Problem) (lists : List Float) (room : ℕ) (
   abbrev least : Best
   least = least_of at (λ (run : Run). run.converged) n
 
-  abbrev answer : AttemptAnswer
-  answer = attempt_answer_of (attempt_from bins setup lists room at n)
+  abbrev answer : Reply FitAttempt
+  answer = attempt_from bins setup lists room at n
 
   tests_same : survey_tests bins setup n survey room ≡ all
   tests_same j =
       setup_tests bins setup n (survey-wrong (length lists) (wanted bins setup lists room at n) at n j)
       (survey-bad (length lists) (wanted bins setup lists room at n) at n j) room
 
-  number_is : first_of (survey_tests bins setup n survey room) ≡ first_of all
-  number_is = ap (λ (ts : List Test). first_of ts) tests_same
-
   least-is : survey.least ≡ least
   least-is = survey-least (length lists) (wanted bins setup lists room at n) at n
 
-  abbrev first : Settled
-  first = settled bins setup lists room at n
-
-  finished : (s : Settled) → first ≡ s
-      → answered_of bins setup lists room at n ≡ finish_of survey (again bins setup lists room at n s)
-  unfolding answered_of
-  finished s e = ap (λ (t : Settled). finish_of survey (again bins setup lists room at n t)) e
-
-  -- ---- refused
-  some_number : (k : ℕ) → eqb (suc k) 0 ≡ false
-  some_number k = ne_eqb (suc k) 0 (λ (z : suc k ≡ 0). none k z)
-    where
-      none : (k : ℕ) → suc k ≡ 0 → ⊥
-      none k z = omega arith
-
-  first-refused : (k : ℕ) → first_of all ≡ suc k → first ≡ closed_by (suc k) setup
-  unfolding settle_of
-  first-refused k e = rw (number_is ∙ e, some_number k)
-
-  refused-answer : (k : ℕ) → finish_of survey (closed_by (suc k) setup) ≡ refused_answer (suc k)
-  unfolding finish_of
-  refused-answer k = rw (some_number k)
-
-  refused-same : (k : ℕ) → first_of all ≡ suc k → answered_of bins setup lists room at n ≡ answer
-  unfolding attempt_from
-  refused-same k e =
-      finished (closed_by (suc k) setup) (first-refused k e)
-      ∙ refused-answer k
-      ∙ sym
-      (ap attempt_answer_of
-      (chain-refused (give (candidate_of bins setup lists room at n kept)) all (suc k) (sym e) (omega arith)))
-
   -- ---- not refused
   module _ (z : 0 ≡ first_of all) where
-    passed : answer ≡ record { number = 0; attempt = candidate_of bins setup lists room at n kept }
-    unfolding attempt_from
-    passed =
-        ap attempt_answer_of
-        (chain-passed (give (candidate_of bins setup lists room at n kept)) all (setup-numbered bins setup n _ _ room) z)
-
     pub good : (i : ℕ) → i < n → (at i).converged ≡ true → bad_cost (at i).cost ≡ false
     good i l e =
         good-cost (at i) (any_none (λ (k : ℕ). has_wrong_cost (at k)) n (clear bins setup n _ _ room z).good i l) e
@@ -195,28 +149,14 @@ module _ (bins : List ℕ) (setup : Problem) (lists : List Float) (room : ℕ) (
         survey-capped (length lists) (wanted bins setup lists room at n) at n
         ∙ sym (within top32 (capped_of at n) (omega arith))
 
-    zero_number : first_of (survey_tests bins setup n survey room) ≡ 0
-    zero_number = number_is ∙ sym z
-
     failed-same : least.run.converged ≡ false
-        → failed_answer setup survey ≡ record { number = 0; attempt = candidate_of bins setup lists room at n kept }
+        → failed_attempt setup survey ≡ candidate_of bins setup lists room at n kept
     failed-same e = rw (kept-none bins setup lists room at n good e, e, iterations-are, capped-are)
 
     kept_same : least.run.converged ≡ true
-        → kept_answer setup survey (held_of bins setup lists room kept)
-        ≡ record { number = 0; attempt = candidate_of bins setup lists room at n kept }
+        → kept_attempt setup survey (held_of bins setup lists room kept)
+        ≡ candidate_of bins setup lists room at n kept
     kept_same e = rw (kept-converged bins setup lists room at n good e, iterations-are, capped-are)
-
-    first-none : least.run.converged ≡ false → first ≡ closed_by 0 setup
-    unfolding settle_of
-    first-none e = rw (zero_number, least-is, e)
-
-    first_some : least.run.converged ≡ true → first ≡ held_by setup (held_of bins setup lists room least)
-    unfolding settle_of
-    first_some e = rw (zero_number, least-is, e)
-
-    none-same : least.run.converged ≡ false → answered_of bins setup lists room at n ≡ answer
-    none-same e = finished (closed_by 0 setup) (first-none e) ∙ unfold finish_of no_held in (failed-same e ∙ sym passed)
 
     abbrev lowest : Settled
     lowest = held_by setup (held_of bins setup lists room least)
@@ -231,32 +171,55 @@ module _ (bins : List ℕ) (setup : Problem) (lists : List Float) (room : ℕ) (
     by-judgement : (b : Bool) → least.run.converged ≡ true
         → unrejected (judged_fit_of bins setup lists room least.run).rejection ≡ b
         → finish_of survey (again bins setup lists room at n lowest)
-        ≡ kept_answer setup survey (held_of bins setup lists room kept)
+        ≡ kept_attempt setup survey (held_of bins setup lists room kept)
     by-judgement true e f =
         ap (finish_of survey) (again-is true f)
-        ∙ sym (finished-kept survey lowest refl e)
-        ∙ ap (λ (b : Best). kept_answer setup survey (held_of bins setup lists room b))
+        ∙ sym (finished-kept survey lowest e)
+        ∙ ap (λ (b : Best). kept_attempt setup survey (held_of bins setup lists room b))
         (sym (kept-least bins setup lists room at n good e f))
     by-judgement false e f =
         let h = kept-retried bins setup lists room at n good f in
         ap (finish_of survey) (again-is false f ∙ ap (with_held lowest) h)
         ∙ sym
-        (finished-kept survey (with_held lowest (held_of bins setup lists room kept)) refl
+        (finished-kept survey (with_held lowest (held_of bins setup lists room kept))
         (kept-converged bins setup lists room at n good e))
 
-    some_same : least.run.converged ≡ true → answered_of bins setup lists room at n ≡ answer
-    some_same e =
-        finished (held_by setup (held_of bins setup lists room least)) (first_some e)
-        ∙ by-judgement (unrejected (judged_fit_of bins setup lists room least.run).rejection) e refl
-        ∙ kept_same e ∙ sym passed
+    -- what nothing is refused of, settled
+    abbrev settled-as : Bool → Best → Settled
+    settled-as c best = cond c (held_by setup (held_of bins setup lists room best)) (unheld_by setup)
 
-    passed-same : (b : Bool) → least.run.converged ≡ b → answered_of bins setup lists room at n ≡ answer
-    passed-same true e = some_same e
-    passed-same false e = none-same e
+    passed-same : (c : Bool) → least.run.converged ≡ c
+        → finish_of survey (again bins setup lists room at n (settled-as c least))
+        ≡ candidate_of bins setup lists room at n kept
+    passed-same true e =
+        by-judgement (unrejected (judged_fit_of bins setup lists room least.run).rejection) e refl ∙ kept_same e
+    passed-same false e = unfold finish_of no_held in failed-same e
+
+    same : finish_of survey (again bins setup lists room at n (settled-as survey.least.run.converged survey.least))
+        ≡ candidate_of bins setup lists room at n kept
+    same =
+        ap (λ (b : Best). finish_of survey (again bins setup lists room at n (settled-as b.run.converged b))) least-is
+        ∙ passed-same least.run.converged refl
+
+  -- of two chains of the same tests
+  onward-chain : {A B : Type 0} (f : A → B) (ts : List Test) (a : A) → onward f (chain ts (give a)) ≡ chain ts (give (f a))
+  onward-chain f [] a = refl
+  onward-chain f (test true k ∷ ts) a = refl
+  onward-chain f (test false k ∷ ts) a = onward-chain f ts a
+
+  chain-same : {A : Type 0} (ts : List Test) (a b : A) → (0 ≡ first_of ts → a ≡ b) → chain ts (give a) ≡ chain ts (give b)
+  chain-same [] a b h = ap give (h refl)
+  chain-same (test true k ∷ ts) a b h = refl
+  chain-same (test false k ∷ ts) a b h = chain-same ts a b h
 
   pub answered : answered_of bins setup lists room at n ≡ answer
-  answered = go (first_of all) refl
-    where
-      go : (k : ℕ) → first_of all ≡ k → answered_of bins setup lists room at n ≡ answer
-      go zero e = passed-same (sym e) least.run.converged refl
-      go (suc k) e = refused-same k e
+  unfolding answered_of settle_of attempt_from
+  answered =
+      onward-chain (λ (s : Settled). finish_of survey (again bins setup lists room at n s))
+      (survey_tests bins setup n survey room) _
+      ∙ ap (λ (ts : List Test). chain ts (give
+      (finish_of survey
+      (again bins setup lists room at n
+      (cond survey.least.run.converged (held_by setup (held_of bins setup lists room survey.least)) (unheld_by setup))))))
+      tests_same
+      ∙ chain-same all _ _ same

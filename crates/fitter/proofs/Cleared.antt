@@ -1,15 +1,17 @@
 -- What is known once no test of an attempt holds, row by row. Assumes nothing.
 use Prim.Native.Nat.{ℕ, ◌≤◌}
-use mathlib.Core.Path.{◌≡◌, refl}
-use mathlib.Core.Bool.{Bool, false}
+use mathlib.Core.Path.{◌≡◌, refl, ◌∙◌}
+use mathlib.Core.Bool.{Bool, true, false}
 use mathlib.Core.List.{List, [], ◌∷◌}
 use native.Mathlib.Omega.{arith}
+use borrow.Author.Tests.{le-ltb}
 use lib.ListN.{length}
+use lib.Ieee.{Float}
 use Rattle.meaning.specs.Reply.{first_of}
 use Rattle.meaning.specs.Rows.{most, in_order, below_two, above_most}
-use Rattle.meaning.proofs.Chains.{parts}
+use Rattle.meaning.proofs.Chains.{numbered, parts}
 use Rattle.meaning.proofs.Rows.{Each, test-passed, above-most-passed, too-short-passed}
-use Rattle.models.specs.Refusals.{table_demand, short_table, spectrum_tests}
+use Rattle.models.specs.Refusals.{table_demand, short_table, spectrum_tests, bins_tests}
 use Rattle.fitter.specs.Attempting.{wrong_lists, wrong_costs, setup_tests}
 use Rattle.fitter.specs.Candidates.{LongEnough}
 use Rattle.fitter.specs.Validation.{outside_limit}
@@ -26,6 +28,18 @@ pub record Clear (bins : List ℕ) (setup : Problem) (n : ℕ) (wrong bad : Bool
   pub good : bad ≡ false
   pub limited : 0 ≡ first_of (outside_limit setup.mass_limit)
   pub roomed : LongEnough setup room
+
+pub setup-numbered : (bins : List ℕ) (setup : Problem) (n : ℕ) (wrong bad : Bool) (room : ℕ)
+    → numbered (setup_tests bins setup n wrong bad room) ≡ true
+unfolding setup_tests spectrum_tests
+setup-numbered bins setup n wrong bad room = refl
+
+-- where the bins and the window end are in their limits, their number is the spectrum's
+pub spectrum-first : (bins : List ℕ) (scale : Float) (end n : ℕ) → 2 ≤ length bins → length bins ≤ most → end ≤ most
+    → n ≡ first_of (bins_tests bins scale end) → n ≡ first_of (spectrum_tests bins scale end)
+unfolding bins_tests spectrum_tests
+spectrum-first bins scale end n few many window e =
+    e ∙ simp (le-ltb (length bins) 2 few, le-ltb most (length bins) many, le-ltb most end window)
 
 pub clear : (bins : List ℕ) (setup : Problem) (n : ℕ) (wrong bad : Bool) (room : ℕ)
     → 0 ≡ first_of (setup_tests bins setup n wrong bad room) → Clear bins setup n wrong bad room

@@ -1,5 +1,5 @@
--- The shortest of six lengths, and the columns of a run table: their runs are the table's. Assumes nothing.
-use Prim.Native.Nat.{ℕ, ◌≤◌, ◌<◌}
+-- The shorter of two lengths, and the columns of a run table: their runs are the table's. Assumes nothing.
+use Prim.Native.Nat.{ℕ, ◌≤◌, ◌<◌, min}
 use mathlib.Core.Path.{◌≡◌, refl, ap, ◌∙◌}
 use mathlib.Core.Bool.{Bool, true, false, cond}
 use mathlib.Core.List.{List, map}
@@ -15,46 +15,13 @@ use Rattle.fitter.specs.Columns.{shorter, shortest, count_of_runs, run_of, past_
 use Rattle.fitter.specs.declared.runs.LentRun.{LentRun}
 use Rattle.models.specs.declared.problems.Problem.{Problem}
 
-module _ (a b i : ℕ) where
-  shorter-first : i < shorter a b → i < a
-  shorter-first = go (ltb b a) refl
-    where
-      go : (l : Bool) → ltb b a ≡ l → i < cond l b a → i < a
-      go true e h = let k : b < a = ltb-true b a e in omega arith
-      go false e h = h
-
-  shorter-second : i < shorter a b → i < b
-  shorter-second = go (ltb b a) refl
-    where
-      go : (l : Bool) → ltb b a ≡ l → i < cond l b a → i < b
-      go true e h = h
-      go false e h = let k : a ≤ b = ltb-false b a e in omega arith
-
--- a position below the shortest is below each
-pub record Within (a b c d e f i : ℕ) : Type 0 where
-  pub first : i < a
-  pub second : i < b
-  pub third : i < c
-  pub fourth : i < d
-  pub fifth : i < e
-  pub sixth : i < f
-
-pub within_all : (a b c d e f i : ℕ) → i < shortest a b c d e f → Within a b c d e f i
-within_all a b c d e f i h =
-    let ab = shorter a b in
-    let cd = shorter c d in
-    let four = shorter-first (shorter ab cd) (shorter e f) i h in
-    let last = shorter-second (shorter ab cd) (shorter e f) i h in
-    let front = shorter-first ab cd i four in
-    let back = shorter-second ab cd i four in
-    record {
-      first = shorter-first a b i front;
-      second = shorter-second a b i front;
-      third = shorter-first c d i back;
-      fourth = shorter-second c d i back;
-      fifth = shorter-first e f i last;
-      sixth = shorter-second e f i last;
-    }
+-- what the code takes for the shorter of two
+pub min_shorter : (a b : ℕ) → min a b ≡ shorter a b
+min_shorter a b = go (ltb b a) refl
+  where
+    go : (l : Bool) → ltb b a ≡ l → min a b ≡ cond l b a
+    go true e = let k : b < a = ltb-true b a e in omega arith
+    go false e = let k : a ≤ b = ltb-false b a e in omega arith
 
 -- ---- the columns of a table
 same-shorter : (n : ℕ) → shorter n n ≡ n

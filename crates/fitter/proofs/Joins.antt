@@ -1,13 +1,13 @@
 -- A list written behind another by a writer that is lent the rest of the buffer. Assumes nothing.
 use Prim.Native.Nat.{ℕ, zero, suc, ◌+◌, ◌-◌, ◌≤◌}
-use mathlib.Core.Path.{◌≡◌, ap, ◌∙◌}
+use mathlib.Core.Path.{◌≡◌, refl, ap, ◌∙◌}
 use mathlib.Core.List.{List, ◌++◌}
 use native.Mathlib.Omega.{arith}
 use lib.ListN.{length, take, drop, length-append}
 use Rattle.meaning.specs.Over.{over}
 use Rattle.meaning.proofs.Overs.{over-length}
 use Rattle.fitter.specs.InTurn.{in_turn}
-use Rattle.fitter.proofs.Writing.{Writing, asks, goes_on, ends}
+use Rattle.fitter.proofs.Writing.{Writing, goes_on, ends}
 
 module _ {A : Type 0} where
   abbrev two-lists : List A → List A → ℕ → List A
@@ -34,16 +34,10 @@ module _ {A : Type 0} where
           let s = same in
           record { upto = omega arith; behind = ek; inside = omega arith; same = s; held = er }
 
-      pub fits : k + length ys ≤ length rest
-      fits = let e = length-append xs ys in let s = same in omega arith
-
-      pub room : length ys ≤ length (take (length rest - k) (drop k rest))
-      room = asks (two-lists xs ys) 2 b rest k 1 half-way (omega arith) both-fit
-
-      pub puts-rest : (zs : List A) (j : ℕ) → length zs ≡ length (take (length rest - k) (drop k rest)) → j ≡ length ys
-          → zs ≡ over ys (take (length rest - k) (drop k rest))
+      pub puts-rest : (zs : List A) (j : ℕ) → length zs ≡ length (take (length rest - k) (drop k rest))
+          → (j ≡ length ys) × (zs ≡ over ys (take (length rest - k) (drop k rest)))
           → (k + j ≡ length (xs ++ ys)) × (take k rest ++ (zs ++ drop (length rest - k) (drop k rest)) ≡ over (xs ++ ys) b)
       unfolding in_turn
-      puts-rest zs j el ej ez =
+      puts-rest zs j el w =
           ends (two-lists xs ys) 2 b (take k rest ++ (zs ++ drop (length rest - k) (drop k rest))) (k + j) 2
-          (goes_on (two-lists xs ys) 2 b rest k 1 half-way (omega arith) both-fit zs j el ej ez) (omega arith)
+          (goes_on (two-lists xs ys) 2 b rest k 1 half-way (omega arith) both-fit ys refl zs j el w) (omega arith)

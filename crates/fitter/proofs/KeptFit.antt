@@ -3,23 +3,21 @@
 -- and where there is no candidate no run converged. Of every run table, out of the answer alone. Assumes nothing.
 use Prim.Native.Nat.{ℕ, ◌<◌}
 use mathlib.Core.Path.{◌≡◌, refl, sym, ap, ◌∙◌, subst}
-use mathlib.Core.Bool.{Bool, true, false, cond, true≢false, false≢true}
+use mathlib.Core.Bool.{Bool, true, false, cond, true≢false}
 use mathlib.Core.List.{List}
 use lib.ListN.{length}
 use lib.Ieee.{Float}
-use Rattle.meaning.specs.Reply.{Reply, refuse, broken, give, Test, first_of}
+use Rattle.meaning.specs.Reply.{give, Test, first_of}
 use Rattle.meaning.proofs.Chains.{gave-passed}
 use Rattle.meaning.proofs.Replies.{gave-answer}
 use Rattle.models.specs.Families.{list_length_of}
-use Rattle.models.specs.Unpacking.{empty_fit}
-use Rattle.fitter.specs.Attempting.{attempt_tests, candidate_of, attempt_from, attempt_answer_of}
-use Rattle.fitter.specs.Attempts.{attempt_of}
+use Rattle.fitter.specs.Attempting.{attempt_tests, candidate_of, attempt_from}
+use Rattle.fitter.specs.Attempts.{attempt_of, candidate_in}
 use Rattle.fitter.specs.Candidates.{RunFit, FromRun}
 use Rattle.fitter.specs.Judging.{judged_fit_of, valid_run, kept_best}
 use Rattle.fitter.specs.Kept.{KeptRun, is_valid, is_rejected, is_missing}
 use Rattle.fitter.specs.Runs.{has_wrong_list, has_wrong_cost, any_of, iterations_of, capped_of}
 use Rattle.fitter.specs.declared.attempts.FitAttempt.{FitAttempt}
-use Rattle.fitter.specs.declared.attempts.RejectionPart.TheVariants.{Present}
 use Rattle.fitter.specs.declared.judging.JudgedFit.{JudgedFit}
 use Rattle.fitter.specs.declared.rejections.FitRejection.TheVariants as reason
 use Rattle.fitter.specs.declared.runs.Run.{Run}
@@ -30,10 +28,11 @@ use Rattle.fitter.proofs.Cleared.{Clear, clear}
 use Rattle.fitter.proofs.Keeping.{valid-converged}
 use Rattle.fitter.proofs.KeptRuns.{kept_run}
 use Rattle.fitter.proofs.RunFits.{run-fit}
+use Rattle.std.specs.Prelude.{None, Some, is_some}
 
 -- of two attempts, the one that has a candidate and the one that has none
-which : (c b : Bool) (x y : FitAttempt) → x.has_candidate ≡ true → y.has_candidate ≡ false
-    → (cond c x y).has_candidate ≡ b → c ≡ b
+which : (c b : Bool) (x y : FitAttempt) → is_some x.candidate ≡ true → is_some y.candidate ≡ false
+    → is_some (cond c x y).candidate ≡ b → c ≡ b
 which true b x y p q e = sym p ∙ e
 which false b x y p q e = sym q ∙ e
 
@@ -77,24 +76,24 @@ module _ (bins : List ℕ) (setup : Problem) (lists : List Float) (room : ℕ) (
 
   abbrev with-run : FitAttempt
   with-run =
-      attempt_of setup.error setup.genome true (judged kept.run).fit (judged kept.run).rejection
+      attempt_of setup.error setup.genome (Some (judged kept.run).fit) (judged kept.run).rejection
       (iterations_of at n) (capped_of at n)
 
   abbrev without-run : FitAttempt
   without-run =
-      attempt_of setup.error setup.genome false empty_fit (Present reason.OptimisationFailed) (iterations_of at n)
+      attempt_of setup.error setup.genome None (Some reason.OptimisationFailed) (iterations_of at n)
       (capped_of at n)
 
-  converged-is : (b : Bool) → attempt.has_candidate ≡ b → kept.run.converged ≡ b
+  converged-is : (b : Bool) → is_some attempt.candidate ≡ b → kept.run.converged ≡ b
   converged-is b h =
       which kept.run.converged b with-run without-run refl refl
-      (ap (λ (a : FitAttempt). a.has_candidate) attempt-is ∙ h)
+      (ap (λ (a : FitAttempt). is_some a.candidate) attempt-is ∙ h)
 
   by-converged : (b : Bool) → kept.run.converged ≡ b → cond b with-run without-run ≡ attempt
   by-converged b e = ap (λ (c : Bool). cond c with-run without-run) (sym e) ∙ attempt-is
 
   -- ---- THE THEOREM
-  pub kept-fit : attempt.has_candidate ≡ true → FromRun bins setup lists at n kept attempt
+  pub kept-fit : is_some attempt.candidate ≡ true → FromRun bins setup lists at n kept attempt
   kept-fit h =
       let c = converged-is true h in
       let (below, there) = place c which-kept in
@@ -103,7 +102,7 @@ module _ (bins : List ℕ) (setup : Problem) (lists : List Float) (room : ℕ) (
         there = there;
         converged = c;
         fits =
-            subst (λ (a : FitAttempt). RunFit bins setup lists kept.run a.candidate a.rejection)
+            subst (λ (a : FitAttempt). RunFit bins setup lists kept.run (candidate_in a) a.rejection)
             (by-converged true c)
             (run-fit bins setup n _ _ room all-clear lists kept.run c
             (subst (λ (r : Run). has_wrong_list (length lists) wanted r ≡ false) (sym there)
@@ -117,8 +116,8 @@ module _ (bins : List ℕ) (setup : Problem) (lists : List Float) (room : ℕ) (
       place c (is_missing none e) = absurd (true≢false (sym c ∙ ap (λ (b : Best). b.run.converged) e))
 
   -- ---- and where there is no candidate
-  pub no-candidate : attempt.has_candidate ≡ false
-      → ((i : ℕ) → i < n → (at i).converged ≡ false) × (attempt.rejection ≡ Present reason.OptimisationFailed)
+  pub no-candidate : is_some attempt.candidate ≡ false
+      → ((i : ℕ) → i < n → (at i).converged ≡ false) × (attempt.rejection ≡ Some reason.OptimisationFailed)
   no-candidate h =
       let c = converged-is false h in
       (none c which-kept, ap (λ (a : FitAttempt). a.rejection) (sym (by-converged false c)))
@@ -129,18 +128,8 @@ module _ (bins : List ℕ) (setup : Problem) (lists : List Float) (room : ℕ) (
       none c (is_rejected other f) = absurd (true≢false (sym f.holds ∙ c))
       none c (is_missing other e) = other
 
--- ---- of the call's answer: a candidate there is one that was given
+-- ---- of the call's answer
 module _ (bins : List ℕ) (setup : Problem) (lists : List Float) (room : ℕ) (at : ℕ → Run) (n : ℕ) where
-  abbrev answer : FitAttempt
-  answer = (attempt_answer_of (attempt_from bins setup lists room at n)).attempt
-
-  pub answer-fit : answer.has_candidate ≡ true
-      → FromRun bins setup lists at n (kept_best bins setup lists room at n) answer
-  answer-fit = go (attempt_from bins setup lists room at n) refl
-    where
-      go : (r : Reply FitAttempt) → attempt_from bins setup lists room at n ≡ r
-          → (attempt_answer_of r).attempt.has_candidate ≡ true
-          → FromRun bins setup lists at n (kept_best bins setup lists room at n) (attempt_answer_of r).attempt
-      go (refuse k) e h = absurd (false≢true h)
-      go (broken k) e h = absurd (false≢true h)
-      go (give a) e h = kept-fit bins setup lists room at n a e h
+  pub answer-fit : (answer : FitAttempt) → attempt_from bins setup lists room at n ≡ give answer
+      → is_some answer.candidate ≡ true → FromRun bins setup lists at n (kept_best bins setup lists room at n) answer
+  answer-fit answer gave h = kept-fit bins setup lists room at n answer gave h

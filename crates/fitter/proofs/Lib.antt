@@ -1,6 +1,5 @@
 -- Laws of this layer.
 -- ---- the window
-pub mod Windows
 -- ---- recovery and the shelf share
 pub mod Recovered
 pub mod ShareTests
@@ -13,7 +12,6 @@ pub mod Answers
 pub mod OneTable
 pub mod NoShape
 -- ---- the validator
-pub mod Either
 pub mod Verdicts
 -- ---- the selection
 pub mod Replaced

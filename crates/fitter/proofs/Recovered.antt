@@ -1,16 +1,16 @@
--- Laws of the recovered bins: as many as the bins, each one by its place, one more written, and the answer by its tests.
--- Assumes nothing.
+-- Laws of the recovered bins: as many as the bins, each one by its place, one more written, and the answer where no
+-- test is met. Assumes nothing.
 use Prim.Native.Nat.{ℕ, ◌+◌, ◌≤◌, ◌<◌}
 use mathlib.Core.Path.{◌≡◌, refl, sym, ap, ◌∙◌, subst}
 use mathlib.Core.List.{List, [], ◌∷◌, map, map-append}
 use native.Mathlib.Nat.{le_of_lt}
 use native.Mathlib.Numerals.{add-one}
-use borrow.Author.Tests.{lt-ltb, le-ltb}
+use borrow.Author.Tests.{le-ltb}
 use lib.ListN.{length, take, get_or, set, length-map, get_or-map}
 use lib.Seq.{take-suc, length-take-le}
 use lib.Ieee.{Float}
 use Rattle.meaning.specs.Over.{over}
-use Rattle.meaning.specs.Reply.{refuse, give}
+use Rattle.meaning.specs.Reply.{give}
 use Rattle.meaning.specs.Rows.{most}
 use Rattle.meaning.proofs.Overs.{over-next, get_d_any}
 use Rattle.models.specs.Recovery.{used_scale_of, rounded_quotient_of}
@@ -48,21 +48,8 @@ module _ (used : Float) where
       ∙ ap (map f) (sym (take-suc bins i 0 h) ∙ ap (λ (j : ℕ). take j bins) (sym (add-one i))))
 
 -- ---- the answer
-module _ (bins : List ℕ) (scale : Float) (room : ℕ) where
-  pub too_few : length bins < 2 → recover_bins_of bins scale room ≡ refuse 1
-  unfolding recover_bins_of
-  too_few h = rw (lt-ltb (length bins) 2 h)
-
-  module _ (two : 2 ≤ length bins) where
-    pub too_many : most < length bins → recover_bins_of bins scale room ≡ refuse 2
-    unfolding recover_bins_of
-    too_many h = rw (le-ltb (length bins) 2 two, lt-ltb most (length bins) h)
-
-    module _ (limit : length bins ≤ most) where
-      pub too_short : room < length bins → recover_bins_of bins scale room ≡ refuse 10
-      unfolding recover_bins_of
-      too_short h = rw (le-ltb (length bins) 2 two, le-ltb most (length bins) limit, lt-ltb room (length bins) h)
-
-      pub recovers : length bins ≤ room → recover_bins_of bins scale room ≡ give (recovered (used_scale_of scale) bins)
-      unfolding recover_bins_of
-      recovers h = rw (le-ltb (length bins) 2 two, le-ltb most (length bins) limit, le-ltb room (length bins) h)
+pub recovers : (bins : List ℕ) (scale : Float) (room : ℕ) → 2 ≤ length bins → length bins ≤ most → length bins ≤ room
+    → recover_bins_of bins scale room ≡ give (recovered (used_scale_of scale) bins)
+unfolding recover_bins_of
+recovers bins scale room two limit fits =
+    rw (le-ltb (length bins) 2 two, le-ltb most (length bins) limit, le-ltb room (length bins) fits)

@@ -9,7 +9,7 @@ use borrow.Author.Tests.{ltb-false, eqb-true, eq-eqb, ne_eqb, le-ltb, not-false}
 use lib.Dec.{ltb, eqb}
 use lib.ListN.{length, length-take, length-drop}
 use lib.Ieee.{Float}
-use Rattle.meaning.specs.Reply.{Reply, give, first_of}
+use Rattle.meaning.specs.Reply.{give, first_of}
 use Rattle.meaning.specs.Rows.{most, in_order, below_two, above_most, no_window}
 use Rattle.meaning.proofs.Chains.{goes_on, chain-passed}
 use Rattle.meaning.proofs.Rows.{above-most-clear}
@@ -19,7 +19,7 @@ use Rattle.models.specs.Masses.{entries_of}
 use Rattle.models.specs.Params.{params_of}
 use Rattle.models.specs.Refusals.{table_demand, wrong_list, short_table, spectrum_tests, fit_tests}
 use Rattle.models.specs.Spectra.{window_of}
-use Rattle.models.specs.Unpacking.{fit_with, fit_of, fit_at, fit_answer_of, unpack_of}
+use Rattle.models.specs.Unpacking.{fit_with, fit_of, fit_at, fit_in, unpack_of}
 use Rattle.models.specs.declared.fit.SpectrumFit.{SpectrumFit}
 use Rattle.models.specs.declared.params.Params.{Params}
 use Rattle.models.proofs.Passed.{spectrum-passed}
@@ -143,12 +143,11 @@ module _ (bins : List ℕ) (setup : Problem) where
       unfolding fit_of_run
       fit-whole =
           ap (λ (l : List Float).
-          (fit_answer_of
+          fit_in
           (unpack_of bins setup.scale end setup.peak setup.error setup.genome l run.cost run.iterations
-          room)
-          ).fit)
+          room))
           (list-is lists wanted run converged right)
-          ∙ ap (λ (r : Reply SpectrumFit). (fit_answer_of r).fit) (unpack-run room all.roomed)
+          ∙ ap fit_in (unpack-run room all.roomed)
 
       unpack-is : (other : ℕ) → LongEnough setup other → unpack_run bins setup lists run other ≡ give fit
       unpack-is other h = unpack-run other h ∙ ap give (sym fit-whole)

@@ -15,7 +15,6 @@ use Rattle.meaning.proofs.Overs.{over-stands}
 use Rattle.routines.specs.Ops.{of_count}
 use Rattle.helpers.specs.Shelves.{shelf_trials_of, last_of}
 use Rattle.helpers.specs.declared.shelves.Shelf.{Shelf}
-use Rattle.helpers.specs.declared.shelves.ShelfPart.TheVariants.{Present}
 use Rattle.helpers.proofs.Tables.{table-length, last-few}
 use Rattle.models.specs.Masses.{entries_of}
 use Rattle.models.specs.Params.{shelf_part_of, params_of}
@@ -27,14 +26,15 @@ use Rattle.models.specs.declared.families.GenomeModel.{GenomeModel}
 use Rattle.models.specs.declared.families.GenomeModel.TheVariants.{NegativeBinomial, ShelfNegativeBinomial}
 use Rattle.models.specs.declared.fit.SpectrumFit.{SpectrumFit}
 use Rattle.models.proofs.Passed.{passed}
+use Rattle.std.specs.Prelude.{Some}
 
 -- ---- a shelf has at most window end + 1 entries
-entries-window : (s : Shelf) (mean : Float) (top : ℕ) → top ≤ most → length (entries_of (Present s) mean top) ≤ top + 1
+entries-window : (s : Shelf) (mean : Float) (top : ℕ) → top ≤ most → length (entries_of (Some s) mean top) ≤ top + 1
 unfolding entries_of
 entries-window s mean top k =
     let last = last_of (shelf_trials_of mean) top in
     let l : last_of (shelf_trials_of mean) top ≤ top = last-few (shelf_trials_of mean) top k in
-    let e : length (entries_of (Present s) mean top) ≡ suc (last_of (shelf_trials_of mean) top) =
+    let e : length (entries_of (Some s) mean top) ≡ suc (last_of (shelf_trials_of mean) top) =
     table-length (shelf_trials_of mean) s.alpha s.beta (suc last) in
     omega arith
 

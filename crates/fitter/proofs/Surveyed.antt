@@ -12,14 +12,17 @@ use Rattle.fitter.specs.Runs.{one_if, iterations_of, capped_of}
 use Rattle.fitter.specs.Surveys.{no_survey, lesser, least_step, least_of, count_of, after_point, survey_step, survey_of}
 use Rattle.fitter.specs.declared.runs.Run.{Run}
 use Rattle.fitter.specs.declared.runs.RunPoint.{RunPoint}
+use Rattle.std.specs.Prelude.{Option}
 use Rattle.fitter.specs.declared.surveys.Survey.{Survey}
 use Rattle.fitter.proofs.Totals.{stopping}
 
 -- ---- one step, by the run's answer
-pub point-step : (lent wanted i : ℕ) (run : Run) (s : Survey) (p : RunPoint) → p ≡ point_of run
-    → after_point lent wanted i run p (count_of run s) ≡ survey_step lent wanted i run s
+pub point-step : (lent wanted i : ℕ) (run : Run) (s counted : Survey) (p q : Option RunPoint) → counted ≡ count_of run s
+    → p ≡ point_of run → p ≡ q → after_point lent wanted i run q counted ≡ survey_step lent wanted i run s
 unfolding survey_step
-point-step lent wanted i run s p e = ap (λ (q : RunPoint). after_point lent wanted i run q (count_of run s)) e
+point-step lent wanted i run s counted p q e f g =
+    ap (λ (z : Survey). after_point lent wanted i run q z) e
+    ∙ ap (λ (o : Option RunPoint). after_point lent wanted i run o (count_of run s)) (sym g ∙ f)
 
 -- ---- a fold's field is the field's fold
 pub fold-field : {S A : Type 0} (g : S → A) (f : ℕ → S → S) (h : ℕ → A → A) (n : ℕ) (z : S)

@@ -1,6 +1,6 @@
 -- A total that stops at a top: each sum may stop, or the whole once. And the folds of specs/Runs.antt, one run more.
 -- Assumes nothing.
-use Prim.Native.Nat.{ℕ, ◌+◌, ◌≤◌, ◌<◌, zero-le}
+use Prim.Native.Nat.{ℕ, ◌+◌, ◌≤◌, ◌<◌, min, zero-le}
 use mathlib.Core.Path.{◌≡◌, refl, sym, ap, ◌∙◌}
 use mathlib.Core.Bool.{Bool, true, false, cond}
 use native.Mathlib.Numerals.{add-one}
@@ -22,6 +22,15 @@ module _ (top n : ℕ) where
     where
       go : (b : Bool) → ltb top n ≡ b → top ≡ cond b top n
       go true e = refl
+      go false e = let l : n ≤ top = ltb-false top n e in omega arith
+
+  -- what `saturating_add` gives
+  pub stopped : min n top ≡ at_most top n
+  unfolding at_most
+  stopped = go (ltb top n) refl
+    where
+      go : (b : Bool) → ltb top n ≡ b → min n top ≡ cond b top n
+      go true e = let l : top < n = ltb-true top n e in omega arith
       go false e = let l : n ≤ top = ltb-false top n e in omega arith
 
 -- to stop early is to stop at the end

@@ -3,37 +3,37 @@
 use Prim.Native.Nat.{ℕ, zero, suc, ◌+◌, ◌-◌, ◌≤◌, ◌<◌, zero-le}
 use mathlib.Core.Path.{◌≡◌, refl, sym, ap, ◌∙◌, subst}
 use mathlib.Core.Bool.{Bool, true, false, cond}
-use mathlib.Core.List.{List}
+use mathlib.Core.List.{List, [], ◌∷◌}
 use native.Mathlib.Omega.{arith}
 use borrow.Author.Tests.{lt-ltb, le-ltb, ltb-true, ltb-false, eq-eqb, ne_eqb}
-use lib.Dec.{ltb, eqb}
+use lib.Dec.{ltb}
 use lib.ListN.{length, drop}
 use lib.Ieee.{Float}
-use Rattle.meaning.specs.Reply.{first_of}
+use Rattle.meaning.specs.Onward.{onward, number_said}
+use Rattle.meaning.specs.Reply.{Reply, give, Test, test, chain}
 use Rattle.meaning.proofs.Folds.{fold-none, fold_more}
 use Rattle.models.specs.Families.{list_length_of}
-use Rattle.fitter.specs.Attempting.{survey_tests, attempt_answer_of, attempt_from, stands_from}
+use Rattle.fitter.specs.Attempting.{survey_tests, attempt_from, stands_from}
 use Rattle.fitter.specs.Retrying.{table_from, retry_step, retried_of}
-use Rattle.fitter.specs.Settling.{closed_by, settle_of, with_held, finish_of, surveyed, settled}
+use Rattle.fitter.specs.Settling.{unheld_by, settle_of, with_held, finish_of, surveyed, settled}
 use Rattle.fitter.specs.Surveys.{no_survey, survey_step, survey_of}
-use Rattle.fitter.specs.Turns.{empty_settled, begin_of, second_from, gone_on, settled_to, first_stands}
+use Rattle.fitter.specs.Turns.{Turned, unsettled_in, empty_settled, begin_of, second_from, gone_on, settled_to, first_stands}
 use Rattle.fitter.specs.Turns.{first_turn, second_turn, turn_of, turn_stands}
 use Rattle.fitter.specs.declared.judging.Held.{Held}
 use Rattle.fitter.specs.declared.runs.Run.{Run}
-use Rattle.fitter.specs.declared.settling.AttemptAnswer.{AttemptAnswer}
+use Rattle.fitter.specs.declared.attempts.FitAttempt.{FitAttempt}
 use Rattle.fitter.specs.declared.settling.Settled.{Settled}
 use Rattle.models.specs.declared.problems.Problem.{Problem}
 use Rattle.fitter.specs.declared.surveys.Survey.{Survey}
-use Rattle.fitter.specs.declared.turns.Turns.{Turns}
-use Rattle.fitter.proofs.Answered.{one-pass, two-passes, one-stands, two-stand}
+use Rattle.fitter.proofs.Answered.{held_in, with_in, held-with, held-same, one-pass, two-passes, one-stands, two-stand}
 use Rattle.fitter.proofs.Settlement.{unsettled-is}
 
 -- ---- a turn of the first pass, by the answers of its calls
-module _ (bins : List ℕ) (setup : Problem) (lists : List Float) (room : ℕ) (run : Run) (t : Turns) where
+module _ (bins : List ℕ) (setup : Problem) (lists : List Float) (room : ℕ) (run : Run) (t : Turned) where
   abbrev stepped : Survey
   stepped = survey_step (length lists) (list_length_of setup.error setup.genome) t.next run t.survey
 
-  abbrev made : Bool → Turns
+  abbrev made : Bool → Turned
   made b = cond b (gone_on stepped t) (settled_to stepped (settle_of bins setup t.runs stepped lists room) t.runs)
 
   module _ (wanted : ℕ) (survey : Survey) (e : wanted ≡ list_length_of setup.error setup.genome)
@@ -45,14 +45,14 @@ module _ (bins : List ℕ) (setup : Problem) (lists : List Float) (room : ℕ) (
     unfolding first_turn
     first_on l = ap (λ (s : Survey). gone_on s t) survey-so ∙ sym (ap made (lt-ltb (t.next + 1) t.runs l))
 
-    pub first-settled : (next : ℕ) (s : Settled) → t.runs ≤ t.next + 1
-        → s ≡ settle_of bins setup t.runs survey lists room → next ≡ second_from s.unsettled t.runs
+    pub first-settled : (next : ℕ) (s : Reply Settled) → t.runs ≤ t.next + 1
+        → s ≡ settle_of bins setup t.runs survey lists room → next ≡ second_from (unsettled_in s) t.runs
         → record { next = next; runs = t.runs; surveyed = true; survey = survey; settled = s }
         ≡ first_turn bins setup lists room run t
     unfolding first_turn
     first-settled next s l g h =
         ap (λ (k : ℕ). record { next = k; runs = t.runs; surveyed = true; survey = survey; settled = s }) h
-        ∙ ap (λ (x : Settled). settled_to survey x t.runs) g
+        ∙ ap (λ (x : Reply Settled). settled_to survey x t.runs) g
         ∙ ap (λ (x : Survey). settled_to x (settle_of bins setup t.runs x lists room) t.runs) survey-so
         ∙ sym (ap made (le-ltb (t.next + 1) t.runs l))
 
@@ -86,46 +86,46 @@ Same-from k after before = drop k after ≡ drop k before
 
 -- ---- what holds from turn to turn
 module _ (bins : List ℕ) (setup : Problem) (lists : List Float) (room : ℕ) (at : ℕ → Run) (n : ℕ) (old : List Float) where
-  abbrev so : Settled
+  abbrev so : Reply Settled
   so = settled bins setup lists room at n
 
   abbrev wanted : ℕ
   wanted = list_length_of setup.error setup.genome
 
   abbrev kept : List Float → Type 0
-  kept table = drop (stands_from setup so.number) table ≡ drop (stands_from setup so.number) old
+  kept table = drop (stands_from setup (number_said so)) table ≡ drop (stands_from setup (number_said so)) old
 
   abbrev retried : ℕ → Held
-  retried i = retried_of bins setup lists room at i so.held
+  retried i = retried_of bins setup lists room at i (held_in so)
 
   -- the first pass writes nothing; behind it one run settled the attempt, or a second pass goes on
-  pub data Stage (t : Turns) (table : List Float) : Type 0 where
+  pub data Stage (t : Turned) (table : List Float) : Type 0 where
     surveying : t.surveyed ≡ false → t.next < n → t.survey ≡ survey_of (length lists) wanted at t.next
         → table ≡ old → Stage t table
     through : t.surveyed ≡ true → n ≤ t.next → t.survey ≡ surveyed bins setup lists room at n
-        → so.unsettled ≡ false → t.settled ≡ so → kept table → Stage t table
-    retrying : t.surveyed ≡ true → t.survey ≡ surveyed bins setup lists room at n → so.unsettled ≡ true
-        → t.settled ≡ with_held so (retried t.next) → kept table → Stage t table
+        → unsettled_in so ≡ false → t.settled ≡ so → kept table → Stage t table
+    retrying : t.surveyed ≡ true → t.survey ≡ surveyed bins setup lists room at n → unsettled_in so ≡ true
+        → t.settled ≡ with_in so (retried t.next) → kept table → Stage t table
 
-  pub record Turning (t : Turns) (table : List Float) : Type 0 where
+  pub record Turning (t : Turned) (table : List Float) : Type 0 where
     pub runs : t.runs ≡ n
     pub within : t.next ≤ n
     pub stage : Stage t table
 
   -- how many turns are left at most
-  abbrev pub left : Turns → ℕ
+  abbrev pub left : Turned → ℕ
   left t = n - t.next + cond t.surveyed 0 (n + 1)
 
-  abbrev answer : AttemptAnswer
-  answer = attempt_answer_of (attempt_from bins setup lists room at n)
+  abbrev answer : Reply FitAttempt
+  answer = attempt_from bins setup lists room at n
 
   -- ---- behind the last turn
-  module _ (t : Turns) (table : List Float) (r : AttemptAnswer) (g : r ≡ finish_of t.survey t.settled)
+  module _ (t : Turned) (table : List Float) (r : Reply FitAttempt) (g : r ≡ onward (finish_of t.survey) t.settled)
       (le : n ≤ t.next) where
     abbrev Ended : Type 0
     Ended =
         (r ≡ answer)
-        × (drop (stands_from setup r.number) table ≡ drop (stands_from setup r.number) old)
+        × (drop (stands_from setup (number_said r)) table ≡ drop (stands_from setup (number_said r)) old)
 
     pub ends : Turning t table → Ended
     ends w = by w.stage
@@ -138,22 +138,22 @@ module _ (bins : List ℕ) (setup : Problem) (lists : List Float) (room : ℕ) (
         by (through _ _ e u f k) = (
           g
               ∙ one-pass bins setup lists room at n t.survey t.settled e f
-              (ap (λ (s : Settled). s.unsettled) f ∙ u),
+              (ap unsettled_in f ∙ u),
           one-stands bins setup lists room at n t.survey t.settled e f old table
-              (subst (λ (s : Settled). Same-from (stands_from setup s.number) table old) (sym f) k)
+              (subst (λ (s : Reply Settled). Same-from (stands_from setup (number_said s)) table old) (sym f) k)
               r g,
         )
         by (retrying _ e u f k) =
             let last : t.next ≡ n = omega (arith, w.within) in
-            let held : t.settled ≡ with_held so (retried n) = f ∙ ap (λ (i : ℕ). with_held so (retried i)) last in
-            let done : r ≡ finish_of t.survey (with_held so (retried n)) = g ∙ ap (finish_of t.survey) held in (
+            let held : t.settled ≡ with_in so (retried n) = f ∙ ap (λ (i : ℕ). with_in so (retried i)) last in
+            let done : r ≡ onward (finish_of t.survey) (with_in so (retried n)) = g ∙ ap (onward (finish_of t.survey)) held in (
               done ∙ two-passes bins setup lists room at n t.survey so e refl (retried n) u refl,
               two-stand bins setup lists room at n t.survey so e refl old table k table (retried n) r done
                   u refl,
             )
 
   -- ---- one more turn
-  module _ (t r : Turns) (table after : List Float) (w : Turning t table) (l : t.next < n)
+  module _ (t r : Turned) (table after : List Float) (w : Turning t table) (l : t.next < n)
       (g : r ≡ turn_of bins setup lists room (at t.next) t)
       (h : drop (turn_stands setup t r) after ≡ drop (turn_stands setup t r) table) where
     abbrev Further : Type 0
@@ -183,12 +183,12 @@ module _ (bins : List ℕ) (setup : Problem) (lists : List Float) (room : ℕ) (
     unfolding retried_of
     retried-more =
         sym
-        (fold_more (λ (k : ℕ) (x : Held). retry_step bins setup lists room k (at k) x) 0 i so.held zero-le)
+        (fold_more (λ (k : ℕ) (x : Held). retry_step bins setup lists room k (at k) x) 0 i (held_in so) zero-le)
 
-    retried-none : retried 0 ≡ so.held
+    retried-none : retried 0 ≡ held_in so
     unfolding retried_of
     retried-none =
-        fold-none (λ (k : ℕ) (x : Held). retry_step bins setup lists room k (at k) x) 0 0 so.held zero-le
+        fold-none (λ (k : ℕ) (x : Held). retry_step bins setup lists room k (at k) x) 0 0 (held_in so) zero-le
 
     less_by : (k : ℕ) (b c : Bool) → r.next ≡ k → r.surveyed ≡ b → t.surveyed ≡ c
         → n - k + cond b 0 (n + 1) < n - i + cond c 0 (n + 1) → left r < left t
@@ -218,18 +218,18 @@ module _ (bins : List ℕ) (setup : Problem) (lists : List Float) (room : ℕ) (
       goes-more : ltb (i + 1) t.runs ≡ true → Further
       goes-more m =
           let d : r ≡ gone_on survey t = made_so true m in
-          let next : r.next ≡ i + 1 = ap (λ (x : Turns). x.next) d in
+          let next : r.next ≡ i + 1 = ap (λ (x : Turned). x.next) d in
           let more : i + 1 < t.runs = ltb-true (i + 1) t.runs m in
           let runs : t.runs ≡ n = w.runs in (
             record {
-              runs = ap (λ (x : Turns). x.runs) d ∙ w.runs;
+              runs = ap (λ (x : Turned). x.runs) d ∙ w.runs;
               within = omega arith;
               stage =
-                  surveying (ap (λ (x : Turns). x.surveyed) d) (omega arith)
-                  (ap (λ (x : Turns). x.survey) d ∙ survey-more e ∙ ap surveyed-to (sym next))
-                  (subst (λ (x : Turns). Same-from (first_stands setup x) after old) d stood);
+                  surveying (ap (λ (x : Turned). x.surveyed) d) (omega arith)
+                  (ap (λ (x : Turned). x.survey) d ∙ survey-more e ∙ ap surveyed-to (sym next))
+                  (subst (λ (x : Turned). Same-from (first_stands setup x) after old) d stood);
             },
-            less_by (i + 1) false false next (ap (λ (x : Turns). x.surveyed) d) p (nearer n i l),
+            less_by (i + 1) false false next (ap (λ (x : Turned). x.surveyed) d) p (nearer n i l),
           )
 
       -- it was the last
@@ -241,31 +241,31 @@ module _ (bins : List ℕ) (setup : Problem) (lists : List Float) (room : ℕ) (
           ∙ (λ j. settled_to (full j) (settle_of bins setup (w.runs j) (full j) lists room) (w.runs j))
 
       goes_last : i + 1 ≡ n → r ≡ settled_to (surveyed bins setup lists room at n) so n → (u : Bool)
-          → so.unsettled ≡ u → Further
+          → unsettled_in so ≡ u → Further
       goes_last last d true u =
-          let next : r.next ≡ 0 = ap (λ (x : Turns). x.next) d ∙ ap (λ (b : Bool). second_from b n) u in (
+          let next : r.next ≡ 0 = ap (λ (x : Turned). x.next) d ∙ ap (λ (b : Bool). second_from b n) u in (
             record {
-              runs = ap (λ (x : Turns). x.runs) d;
+              runs = ap (λ (x : Turned). x.runs) d;
               within = omega arith;
               stage =
-                  retrying (ap (λ (x : Turns). x.surveyed) d) (ap (λ (x : Turns). x.survey) d) u
-                  (ap (λ (x : Turns). x.settled) d ∙ ap (with_held so) (sym retried-none)
-                  ∙ ap (λ (k : ℕ). with_held so (retried k)) (sym next))
-                  (subst (λ (x : Turns). Same-from (first_stands setup x) after old) d stood);
+                  retrying (ap (λ (x : Turned). x.surveyed) d) (ap (λ (x : Turned). x.survey) d) u
+                  (ap (λ (x : Turned). x.settled) d ∙ sym (held-same so) ∙ ap (with_in so) (sym retried-none)
+                  ∙ ap (λ (k : ℕ). with_in so (retried k)) (sym next))
+                  (subst (λ (x : Turned). Same-from (first_stands setup x) after old) d stood);
             },
-            less_by 0 true false next (ap (λ (x : Turns). x.surveyed) d) p (nearer-back n i),
+            less_by 0 true false next (ap (λ (x : Turned). x.surveyed) d) p (nearer-back n i),
           )
       goes_last last d false u =
-          let next : r.next ≡ n = ap (λ (x : Turns). x.next) d ∙ ap (λ (b : Bool). second_from b n) u in (
+          let next : r.next ≡ n = ap (λ (x : Turned). x.next) d ∙ ap (λ (b : Bool). second_from b n) u in (
             record {
-              runs = ap (λ (x : Turns). x.runs) d;
+              runs = ap (λ (x : Turned). x.runs) d;
               within = omega arith;
               stage =
-                  through (ap (λ (x : Turns). x.surveyed) d) (omega arith) (ap (λ (x : Turns). x.survey) d) u
-                  (ap (λ (x : Turns). x.settled) d)
-                  (subst (λ (x : Turns). Same-from (first_stands setup x) after old) d stood);
+                  through (ap (λ (x : Turned). x.surveyed) d) (omega arith) (ap (λ (x : Turned). x.survey) d) u
+                  (ap (λ (x : Turned). x.settled) d)
+                  (subst (λ (x : Turned). Same-from (first_stands setup x) after old) d stood);
             },
-            less_by n true false next (ap (λ (x : Turns). x.surveyed) d) p (nearer-end n i),
+            less_by n true false next (ap (λ (x : Turned). x.surveyed) d) p (nearer-end n i),
           )
 
       goes_first : (b : Bool) → ltb (i + 1) t.runs ≡ b → Further
@@ -274,30 +274,31 @@ module _ (bins : List ℕ) (setup : Problem) (lists : List Float) (room : ℕ) (
           let le : t.runs ≤ i + 1 = ltb-false (i + 1) t.runs m in
           let runs : t.runs ≡ n = w.runs in
           let last : i + 1 ≡ n = omega arith in
-          goes_last last (settled-last last m) so.unsettled refl
+          goes_last last (settled-last last m) (unsettled_in so) refl
 
     -- ---- the second
-    goes-second : t.surveyed ≡ true → t.survey ≡ surveyed bins setup lists room at n → so.unsettled ≡ true
-        → t.settled ≡ with_held so (retried i) → kept table → Further
+    goes-second : t.surveyed ≡ true → t.survey ≡ surveyed bins setup lists room at n → unsettled_in so ≡ true
+        → t.settled ≡ with_in so (retried i) → kept table → Further
     goes-second p e u f k =
         let d : r ≡ second_turn bins setup lists room (at i) t = g ∙ sym (turn-second bins setup lists room (at i) t p) in
-        let next : r.next ≡ i + 1 = ap (λ (x : Turns). x.next) d in
+        let next : r.next ≡ i + 1 = ap (λ (x : Turned). x.next) d in
         let is = unsettled-is bins setup n (surveyed bins setup lists room at n) lists room u in
         let written : drop (stands_from setup 0) after ≡ drop (stands_from setup 0) table =
         stands_by true p in (
           record {
-            runs = ap (λ (x : Turns). x.runs) d ∙ w.runs;
+            runs = ap (λ (x : Turned). x.runs) d ∙ w.runs;
             within = omega arith;
             stage =
-                retrying (ap (λ (x : Turns). x.surveyed) d) (ap (λ (x : Turns). x.survey) d ∙ e) u
-                (ap (λ (x : Turns). x.settled) d
-                ∙ ap (λ (s : Settled). with_held s (retry_step bins setup lists room i (at i) s.held)) f
-                ∙ ap (with_held so) retried-more
-                ∙ ap (λ (m : ℕ). with_held so (retried m)) (sym next))
+                retrying (ap (λ (x : Turned). x.surveyed) d) (ap (λ (x : Turned). x.survey) d ∙ e) u
+                (ap (λ (x : Turned). x.settled) d
+                ∙ ap (onward (λ (s : Settled). with_held s (retry_step bins setup lists room i (at i) s.held))) f
+                ∙ held-with so (retried i) (retry_step bins setup lists room i (at i))
+                ∙ ap (with_in so) retried-more
+                ∙ ap (λ (m : ℕ). with_in so (retried m)) (sym next))
                 (subst (λ (m : ℕ). Same-from (stands_from setup m) after old) (sym is)
                 (written ∙ subst (λ (m : ℕ). Same-from (stands_from setup m) table old) is k));
           },
-          less_by (i + 1) true true next (ap (λ (x : Turns). x.surveyed) d) p (nearer-second n i l),
+          less_by (i + 1) true true next (ap (λ (x : Turned). x.surveyed) d) p (nearer-second n i l),
         )
 
     pub goes_on : Further
@@ -322,43 +323,41 @@ module _ (bins : List ℕ) (setup : Problem) (lists : List Float) (room : ℕ) (
   unfolding empty_settled settle_of
   empty-same = refl
 
-  empty-through : (settle_of bins setup 0 no_survey lists room).unsettled ≡ false
+  empty-through : unsettled_in (settle_of bins setup 0 no_survey lists room) ≡ false
   unfolding settle_of
-  empty-through = go (eqb (first_of (survey_tests bins setup 0 no_survey room)) 0)
+  empty-through = go (survey_tests bins setup 0 no_survey room)
     where
-      go : (b : Bool)
-          → (cond b (closed_by 0 setup)
-          (closed_by (first_of (survey_tests bins setup 0 no_survey room)) setup)).unsettled
-          ≡ false
-      go true = refl
-      go false = refl
+      go : (ts : List Test) → unsettled_in (chain ts (give (unheld_by setup))) ≡ false
+      go [] = refl
+      go (test true k ∷ ts) = refl
+      go (test false k ∷ ts) = go ts
 
-  pub begins : (t : Turns) → t ≡ begin_of bins setup n room → Turning t old
+  pub begins : (t : Turned) → t ≡ begin_of bins setup n room → Turning t old
   begins t g = from n refl
     where
       from : (m : ℕ) → n ≡ m → Turning t old
       from zero e =
-          let next : t.next ≡ 0 = ap (λ (x : Turns). x.next) g in
+          let next : t.next ≡ 0 = ap (λ (x : Turned). x.next) g in
           let same : so ≡ settle_of bins setup 0 no_survey lists room =
           λ j. settle_of bins setup (e j) (sym (none-surveyed n e) j) lists room in
           record {
-            runs = ap (λ (x : Turns). x.runs) g;
+            runs = ap (λ (x : Turned). x.runs) g;
             within = omega arith;
             stage =
-                through (ap (λ (x : Turns). x.surveyed) g ∙ eq-eqb n 0 e) (omega arith)
-                (ap (λ (x : Turns). x.survey) g ∙ none-surveyed n e)
-                (ap (λ (s : Settled). s.unsettled) same ∙ empty-through)
-                (ap (λ (x : Turns). x.settled) g ∙ empty-same ∙ sym same) refl;
+                through (ap (λ (x : Turned). x.surveyed) g ∙ eq-eqb n 0 e) (omega arith)
+                (ap (λ (x : Turned). x.survey) g ∙ none-surveyed n e)
+                (ap unsettled_in same ∙ empty-through)
+                (ap (λ (x : Turned). x.settled) g ∙ empty-same ∙ sym same) refl;
           }
       from (suc m) e =
-          let next : t.next ≡ 0 = ap (λ (x : Turns). x.next) g in
+          let next : t.next ≡ 0 = ap (λ (x : Turned). x.next) g in
           let some : n ≡ 0 → ⊥ = λ (z : n ≡ 0). absurd (no m (sym e ∙ z)) in
           record {
-            runs = ap (λ (x : Turns). x.runs) g;
+            runs = ap (λ (x : Turned). x.runs) g;
             within = omega arith;
             stage =
-                surveying (ap (λ (x : Turns). x.surveyed) g ∙ ne_eqb n 0 some) (omega arith)
-                (ap (λ (x : Turns). x.survey) g ∙ none-surveyed t.next next) refl;
+                surveying (ap (λ (x : Turned). x.surveyed) g ∙ ne_eqb n 0 some) (omega arith)
+                (ap (λ (x : Turned). x.survey) g ∙ none-surveyed t.next next) refl;
           }
         where
           no : (m : ℕ) → suc m ≡ 0 → ⊥

@@ -8,16 +8,14 @@ use native.Mathlib.Omega.{arith}
 use lib.Ieee.{Float}
 use Rattle.meaning.specs.Reply.{Test, test, first_of}
 use Rattle.meaning.proofs.Chains.{numbered}
-use Rattle.meaning.proofs.Replies.{same_answer, same_number, answer-not-refused}
+use Rattle.std.specs.Prelude.{Option, None, Some}
 use Rattle.routines.specs.Exp.{exp_of}
 use Rattle.models.specs.Fits.{total_ratio_of}
 use Rattle.models.specs.declared.fit.SpectrumFit.{SpectrumFit}
 use Rattle.fitter.specs.Validation.{valid, rejected, judgement_at, rules, verdict_of, reason_number, reason_at}
-use Rattle.fitter.specs.Validation.{verdict_says, excess_of, NoRule}
+use Rattle.fitter.specs.Validation.{judgement_in, excess_of, NoRule}
 use Rattle.fitter.specs.declared.rejections.FitRejection.{FitRejection}
 use Rattle.fitter.specs.declared.rejections.FitRejection.TheVariants as reason
-use Rattle.fitter.specs.declared.validation.Verdict.{Verdict}
-use Rattle.fitter.specs.declared.validation.Verdict.TheVariants.{Valid, Rejected, Refused}
 
 -- ---- verdicts
 pub there_and_back : (why : FitRejection) → reason_at (reason_number why) ≡ why
@@ -42,16 +40,11 @@ valid-not-rejected e = let z : ◌≡◌ {A = ℕ} 0 1 = cc in omega arith
 same-reason : {m n : ℕ} → rejected m ≡ rejected n → m ≡ n
 same-reason e = cc
 
-pub verdict-same : (a b : Verdict) → verdict_says a ≡ verdict_says b → a ≡ b
-verdict-same Valid Valid e = refl
-verdict-same Valid (Rejected w) e = absurd (valid-not-rejected (same_answer e))
-verdict-same Valid (Refused n) e = absurd (answer-not-refused e)
-verdict-same (Rejected v) Valid e = absurd (valid-not-rejected (sym (same_answer e)))
-verdict-same (Rejected v) (Rejected w) e = ap Rejected (reason-same v w (same-reason (same_answer e)))
-verdict-same (Rejected v) (Refused n) e = absurd (answer-not-refused e)
-verdict-same (Refused n) Valid e = absurd (answer-not-refused (sym e))
-verdict-same (Refused n) (Rejected w) e = absurd (answer-not-refused (sym e))
-verdict-same (Refused n) (Refused m) e = ap Refused (same_number e)
+pub judgement-same : (a b : Option FitRejection) → judgement_in a ≡ judgement_in b → a ≡ b
+judgement-same None None e = refl
+judgement-same None (Some w) e = absurd (valid-not-rejected e)
+judgement-same (Some v) None e = absurd (valid-not-rejected (sym e))
+judgement-same (Some v) (Some w) e = ap Some (reason-same v w (same-reason e))
 
 -- ---- a valid fit
 judged-valid : (n : ℕ) → judgement_at n ≡ valid → 0 ≡ n

@@ -89,22 +89,29 @@ module _ {A : Type 0} (f : ℕ → List A) (n : ℕ) (b : List A) where
         let e : i ≡ n = omega arith in
         (w.behind ∙ ap (λ (k : ℕ). length (in_turn f k)) e, w.held ∙ ap (λ (k : ℕ). over (in_turn f k) b) e)
 
-    module _ (less : i < n) (le : length (in_turn f n) ≤ length b) where
-      pub asks : length (f i) ≤ length (take (length rest - at) (drop at rest))
-      asks = room f b rest at i n less w.behind le w.held
+    -- the call writes xs, the next of the lists
+    module _ (less : i < n) (le : length (in_turn f n) ≤ length b) (xs : List A) (e : xs ≡ f i) where
+      pub asks : length xs ≤ length (take (length rest - at) (drop at rest))
+      asks = rw e (room f b rest at i n less w.behind le w.held)
 
       -- the next place lies in the buffer
-      pub stays-in : (k : ℕ) → k ≡ length (f i) → at + k ≤ length b
-      stays-in k ek = let g : length (in_turn f i) + length (f i) ≤ length (in_turn f n) = fits f i n less in omega arith
+      pub stays-in : (k : ℕ) → k ≡ length xs → at + k ≤ length b
+      stays-in k ek =
+          let g : length (in_turn f i) + length (f i) ≤ length (in_turn f n) = fits f i n less in
+          let m : length xs ≡ length (f i) = ap length e in
+          omega arith
 
       pub goes_on : (ys : List A) (k : ℕ) → length ys ≡ length (take (length rest - at) (drop at rest))
-          → k ≡ length (f i) → ys ≡ over (f i) (take (length rest - at) (drop at rest))
+          → (k ≡ length xs) × (ys ≡ over xs (take (length rest - at) (drop at rest)))
           → Writing f n b (take at rest ++ (ys ++ drop (length rest - at) (drop at rest))) (at + k) (i + 1)
-      goes_on ys k el ek ey =
+      goes_on ys k el wrote =
           let s : length (take at rest ++ (ys ++ drop (length rest - at) (drop at rest))) ≡ length rest =
           simp (length-append, el, length-take, length-drop) (omega arith) in
           let m : length (in_turn f (i + 1)) ≡ length (in_turn f i) + length (f i) = more f i in
           let g : length (in_turn f i) + length (f i) ≤ length (in_turn f n) = fits f i n less in
+          let ek : k ≡ length (f i) = wrote.0 ∙ ap length e in
+          let ey : ys ≡ over (f i) (take (length rest - at) (drop at rest)) =
+          wrote.1 ∙ ap (λ (zs : List A). over zs (take (length rest - at) (drop at rest))) e in
           record {
             upto = omega arith;
             behind = omega arith;

@@ -1,6 +1,6 @@
 -- What a fit is asked with: where the window ends, what stands fixed, and the four configurations. Definitions only.
 -- Assumes nothing.
-use Rattle.std.specs.Prelude.{ℕ, ◌*◌, ◌-◌, Bool, cond, List, [], ◌∷◌, eqb, ltb, Float}
+use Rattle.std.specs.Prelude.{ℕ, ◌*◌, ◌-◌, Bool, cond, List, [], ◌∷◌, eqb, ltb, Float, unwrap_or, is_some}
 use Rattle.std.specs.Float.{binary64}
 use Rattle.std.specs.Float.Ieee.{of_bits}
 use Rattle.routines.specs.Constants.{half, two, three, four}
@@ -28,10 +28,10 @@ unfoldable pub window_rule : ℕ → ℕ → ℕ
 window_rule peak bins = cond (is_full peak bins) (6 * peak) (bins - 1)
 
 unfoldable pub window_end_of : Asked → ℕ → ℕ
-window_end_of a bins = cond a.window_given a.window_end (window_rule a.peak bins)
+window_end_of a bins = unwrap_or a.window_end (window_rule a.peak bins)
 
 unfoldable pub window_kind_of : Asked → ℕ → WindowKind
-window_kind_of a bins = cond a.window_given Given (cond (is_full a.peak bins) Full Cut)
+window_kind_of a bins = cond (is_some a.window_end) Given (cond (is_full a.peak bins) Full Cut)
 
 -- ---- the four configurations, in the original's order
 unfoldable pub configuration_of : ℕ → Families

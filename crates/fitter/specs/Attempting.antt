@@ -1,23 +1,18 @@
 -- What one configuration came to, over a run table: document 01, "Attempts and selection", with the numbers that come
 -- back instead. Definitions only. Assumes nothing.
-use Rattle.std.specs.Prelude.{ℕ, Bool, true, false, cond, List, [], ◌∷◌, eqb, length, Float}
+use Rattle.std.specs.Prelude.{ℕ, Bool, cond, List, [], ◌∷◌, eqb, length, Float, None, Some}
 use Rattle.meaning.specs.Numbers as number
-use Rattle.meaning.specs.Reply.{Reply, refuse, broken, give, Test, test, chain}
+use Rattle.meaning.specs.Reply.{Reply, give, Test, test, chain}
 use Rattle.meaning.specs.Rows.{in_order, below_two, above_most}
 use Rattle.models.specs.Families.{list_length_of}
 use Rattle.models.specs.Refusals.{spectrum_tests, table_demand, short_table}
-use Rattle.models.specs.Unpacking.{empty_fit}
-use Rattle.models.specs.declared.families.ErrorModel.TheVariants.{FreeSingletonWeibull}
-use Rattle.models.specs.declared.families.GenomeModel.TheVariants.{NegativeBinomial}
 use Rattle.fitter.specs.Attempts.{attempt_of}
 use Rattle.fitter.specs.Validation.{outside_limit}
 use Rattle.fitter.specs.declared.attempts.FitAttempt.{FitAttempt}
-use Rattle.fitter.specs.declared.attempts.RejectionPart.TheVariants.{Absent, Present}
 use Rattle.fitter.specs.declared.rejections.FitRejection.TheVariants as reason
 use Rattle.fitter.specs.Judging.{judged_fit_of, kept_best}
 use Rattle.fitter.specs.Runs.{has_wrong_list, has_wrong_cost, any_of, iterations_of, capped_of}
 use Rattle.fitter.specs.declared.runs.Run.{Run}
-use Rattle.fitter.specs.declared.settling.AttemptAnswer.{AttemptAnswer}
 use Rattle.models.specs.declared.problems.Problem.{Problem}
 use Rattle.fitter.specs.declared.surveys.Best.{Best}
 use Rattle.fitter.specs.declared.surveys.Survey.{Survey}
@@ -63,25 +58,13 @@ module _ (bins : List ℕ) (setup : Problem) (lists : List Float) (room : ℕ) (
   candidate_of best =
       let judged = judged_fit_of bins setup lists room best.run in
       cond best.run.converged
-      (attempt_of setup.error setup.genome true judged.fit judged.rejection (iterations_of at n)
+      (attempt_of setup.error setup.genome (Some judged.fit) judged.rejection (iterations_of at n)
       (capped_of at n))
-      (attempt_of setup.error setup.genome false empty_fit (Present reason.OptimisationFailed) (iterations_of at n)
+      (attempt_of setup.error setup.genome None (Some reason.OptimisationFailed) (iterations_of at n)
       (capped_of at n))
 
   unfoldable pub attempt_from : Reply FitAttempt
   attempt_from = chain attempt_tests (give (candidate_of (kept_best bins setup lists room at n)))
-
--- the attempt beside a number
-abbrev pub empty_attempt : FitAttempt
-empty_attempt = attempt_of FreeSingletonWeibull NegativeBinomial false empty_fit Absent 0 0
-
-abbrev pub refused_answer : ℕ → AttemptAnswer
-refused_answer n = record { number = n; attempt = empty_attempt }
-
-abbrev pub attempt_answer_of : Reply FitAttempt → AttemptAnswer
-attempt_answer_of (refuse n) = refused_answer n
-attempt_answer_of (broken place) = refused_answer 3
-attempt_answer_of (give a) = record { number = 0; attempt = a }
 
 -- from where on the shelf's table stands as found, by the answer's number: a refusal changes nothing, nor does a plain
 -- family

@@ -1,28 +1,31 @@
 -- What one configuration came to, as spectrum_fitter.rs has it. Definitions only. Assumes nothing.
-use Rattle.std.specs.Prelude.{ℕ, Bool, true, false, ◌&&◌}
+use Rattle.std.specs.Prelude.{is_some, unwrap_or, ℕ, Bool, true, false, ◌&&◌, Option, None, Some}
 use Rattle.models.specs.declared.families.ErrorModel.{ErrorModel}
 use Rattle.models.specs.declared.families.GenomeModel.{GenomeModel}
+use Rattle.models.specs.Unpacking.{empty_fit}
 use Rattle.models.specs.declared.fit.SpectrumFit.{SpectrumFit}
 use Rattle.fitter.specs.declared.attempts.FitAttempt.{FitAttempt}
-use Rattle.fitter.specs.declared.attempts.RejectionPart.{RejectionPart}
-use Rattle.fitter.specs.declared.attempts.RejectionPart.TheVariants.{Absent, Present}
+use Rattle.fitter.specs.declared.rejections.FitRejection.{FitRejection}
 
-abbrev pub attempt_of : ErrorModel → GenomeModel → Bool → SpectrumFit → RejectionPart → ℕ → ℕ → FitAttempt
-attempt_of error genome held candidate rejection iterations capped =
+abbrev pub attempt_of : ErrorModel → GenomeModel → Option SpectrumFit → Option FitRejection → ℕ → ℕ → FitAttempt
+attempt_of error genome candidate rejection iterations capped =
     record {
       error_model = error;
       genome_model = genome;
-      has_candidate = held;
       candidate = candidate;
       rejection = rejection;
       total_iterations = iterations;
       capped_starts = capped;
     }
 
-abbrev pub unrejected : RejectionPart → Bool
-unrejected Absent = true
-unrejected (Present reason) = false
+abbrev pub unrejected : Option FitRejection → Bool
+unrejected None = true
+unrejected (Some reason) = false
 
 -- there is a candidate, and it was not rejected
 unfoldable pub valid_of : FitAttempt → Bool
-valid_of attempt = unrejected attempt.rejection && attempt.has_candidate
+valid_of attempt = unrejected attempt.rejection && is_some attempt.candidate
+
+-- the candidate, and the empty fit where there is none
+abbrev pub candidate_in : FitAttempt → SpectrumFit
+candidate_in attempt = unwrap_or attempt.candidate empty_fit

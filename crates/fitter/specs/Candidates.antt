@@ -1,17 +1,18 @@
 -- What the theorems on an attempt's candidate speak of: a run's own list, unpacked as `unpack` does and judged as
 -- `validate_fit` does. Definitions only. Assumes nothing.
-use Rattle.std.specs.Prelude.{ℕ, ◌+◌, ◌≤◌, ◌<◌, ◌≡◌, true, List, length, take, drop, Float}
+use Rattle.std.specs.Prelude.{ℕ, ◌+◌, ◌≤◌, ◌<◌, ◌≡◌, true, List, length, take, drop, Float, Option}
 use Rattle.meaning.specs.Reply.{Reply, give}
 use Rattle.models.specs.Refusals.{table_demand}
 use Rattle.models.specs.Unpacking.{unpack_of}
 use Rattle.models.specs.declared.fit.SpectrumFit.{SpectrumFit}
+use Rattle.fitter.specs.Attempts.{candidate_in}
 use Rattle.fitter.specs.Judging.{rejection_of_judgement}
 use Rattle.fitter.specs.Validation.{Judgement, validate_of}
 use Rattle.fitter.specs.declared.attempts.FitAttempt.{FitAttempt}
-use Rattle.fitter.specs.declared.attempts.RejectionPart.{RejectionPart}
 use Rattle.fitter.specs.declared.runs.Run.{Run}
 use Rattle.models.specs.declared.problems.Problem.{Problem}
 use Rattle.fitter.specs.declared.surveys.Best.{Best}
+use Rattle.fitter.specs.declared.rejections.FitRejection.{FitRejection}
 
 -- a table of this length is not refused with 10
 abbrev pub LongEnough : Problem → ℕ → Type 0
@@ -29,7 +30,7 @@ unpack_run bins setup lists run room =
 
 -- a run's fit, and what speaks against it
 pub record RunFit (bins : List ℕ) (setup : Problem) (lists : List Float) (run : Run) (fit : SpectrumFit)
-    (rejection : RejectionPart) : Type 0 where
+    (rejection : Option FitRejection) : Type 0 where
   pub inside : run.place + run.length ≤ length lists
   -- whatever table is lent
   pub unpacked : (room : ℕ) → LongEnough setup room → unpack_run bins setup lists run room ≡ give fit
@@ -43,4 +44,4 @@ pub record FromRun (bins : List ℕ) (setup : Problem) (lists : List Float) (at 
   pub below : best.position < n
   pub there : best.run ≡ at best.position
   pub converged : best.run.converged ≡ true
-  pub fits : RunFit bins setup lists best.run attempt.candidate attempt.rejection
+  pub fits : RunFit bins setup lists best.run (candidate_in attempt) attempt.rejection

@@ -3,6 +3,7 @@ use Rattle.std.specs.Prelude.{ℕ, cond, List, ltb, length, get_or, Float}
 use Rattle.std.specs.Float.{nan}
 use Rattle.meaning.specs.Flags.{is_set}
 use Rattle.fitter.specs.Runs.{run_from}
+use Rattle.fitter.specs.declared.run_columns.Columns.{Columns}
 use Rattle.fitter.specs.declared.runs.LentRun.{LentRun}
 use Rattle.fitter.specs.declared.runs.Run.{Run}
 
@@ -28,6 +29,14 @@ module _ (converged : List ℕ) (costs : List Float) (places lengths iterations 
     iterations = get_or iterations i 0;
     hit_cap = is_set (get_or caps i 0);
   }
+
+-- ---- the same of the columns that the code holds together
+abbrev pub runs_in : Columns → ℕ
+runs_in c =
+    count_of_runs c.converged.now c.costs.now c.places.now c.lengths.now c.iterations.now c.caps.now
+
+abbrev pub run_at : Columns → ℕ → Run
+run_at c = run_of c.converged.now c.costs.now c.places.now c.lengths.now c.iterations.now c.caps.now
 
 -- ---- a run table as a list of lent runs
 -- what stands past its end

@@ -6,23 +6,12 @@ use Rattle.std.specs.Float.Ieee.{lt}
 use Rattle.meaning.specs.Fold.{fold}
 use Rattle.models.specs.Refusals.{table_demand}
 use Rattle.fitter.specs.Attempts.{unrejected}
-use Rattle.fitter.specs.declared.attempts.RejectionPart.{RejectionPart}
-use Rattle.fitter.specs.declared.attempts.RejectionPart.TheVariants.{Absent, Present}
-use Rattle.fitter.specs.declared.rejections.FitRejection.TheVariants as reason
-use Rattle.fitter.specs.declared.validation.Verdict.{Verdict}
-use Rattle.fitter.specs.declared.validation.Verdict.TheVariants.{Valid, Rejected, Refused}
 use Rattle.fitter.specs.Surveys.{best_of}
 use Rattle.fitter.specs.declared.judging.Held.{Held}
 use Rattle.fitter.specs.declared.runs.Run.{Run}
 use Rattle.models.specs.declared.problems.Problem.{Problem}
 use Rattle.fitter.specs.declared.surveys.Best.{Best}
 use Rattle.fitter.specs.Judging.{judged_fit_of}
-
--- no fit of a run is refused (`said-is`, proofs/Judgements.antt); one that were would not be valid
-abbrev pub rejection_of_verdict : Verdict → RejectionPart
-rejection_of_verdict Valid = Absent
-rejection_of_verdict (Rejected why) = Present why
-rejection_of_verdict (Refused n) = Present reason.OptimisationFailed
 
 -- from where on the shelf's table stands as found
 abbrev pub table_from : Problem → ℕ

@@ -1,7 +1,7 @@
 -- A run of the search: what document 01 asks of one, under "Attempts and selection" and in its table of numbers, and
 -- the totals over a run table. A table is its runs by their positions, `at`, and their number. Definitions only.
 -- Assumes nothing.
-use Rattle.std.specs.Prelude.{ℕ, ◌+◌, Bool, false, not, cond, ◌&&◌, ◌||◌, List, [], ltb, eqb, length, take, drop, Float}
+use Rattle.std.specs.Prelude.{Option, None, Some, ℕ, ◌+◌, Bool, false, not, cond, ◌&&◌, ◌||◌, List, [], ltb, eqb, length, take, drop, Float}
 use Rattle.std.specs.Float.Ieee.{le}
 use Rattle.std.specs.Float.Ieee.Scale.{finite}
 use Rattle.meaning.specs.Flags.{is_set}
@@ -10,7 +10,6 @@ use Rattle.routines.specs.Constants as float
 use Rattle.fitter.specs.declared.runs.LentRun.{LentRun}
 use Rattle.fitter.specs.declared.runs.Run.{Run}
 use Rattle.fitter.specs.declared.runs.RunPoint.{RunPoint}
-use Rattle.fitter.specs.declared.runs.RunPoint.TheVariants.{Converged, Missing}
 
 -- what stands for no run
 abbrev pub no_run : Run
@@ -34,8 +33,8 @@ run_from lent = record {
   hit_cap = is_set lent.hit_cap;
 }
 
-abbrev pub point_of : Run → RunPoint
-point_of run = cond run.converged (Converged run.cost run.place) Missing
+abbrev pub point_of : Run → Option RunPoint
+point_of run = cond run.converged (Some (record { cost = run.cost; place = run.place })) None
 
 -- ---- 7: the list has the wrong length for its families, or does not lie in the lent numbers
 unfoldable pub wrong_place : ℕ → ℕ → ℕ → ℕ → Bool

@@ -24,6 +24,7 @@ use Rattle.fitter.specs.InTurn.{in_turn}
 use Rattle.fitter.specs.StartTables.{table_of, wrong_tables}
 use Rattle.fitter.specs.declared.start_writers.ErrorStart.{ErrorStart}
 use Rattle.fitter.specs.declared.start_writers.ShelfShape.{ShelfShape}
+use Rattle.fitter.specs.declared.start_writers.StartPlan.{StartPlan}
 
 -- ---- one start
 unfoldable pub logit_of : Float → Float
@@ -102,6 +103,22 @@ seed_starts error genome seeds table share shapes i = one_seed error genome (get
 unfoldable pub all_starts : ErrorModel → GenomeModel → List Float → List Float → Float → List Float → List Float
 all_starts error genome seeds table share shapes =
     in_turn (seed_starts error genome seeds table share shapes) (length seeds)
+
+-- ---- the same of what the code writes from
+abbrev pub planned_shelf : StartPlan → Float → ErrorStart → ShelfShape → List Float
+planned_shelf p seed e s = plain_start p.error seed e ++ shelf_list p.share s
+
+abbrev pub planned_shapes : StartPlan → Float → ErrorStart → List Float
+planned_shapes p seed e = shape_starts p.error seed e p.share p.shapes.now
+
+abbrev pub planned_row : StartPlan → Float → ErrorStart → List Float
+planned_row p seed e = row_starts p.error p.genome seed e p.share p.shapes.now
+
+abbrev pub planned_seed : StartPlan → Float → List Float
+planned_seed p seed = one_seed p.error p.genome seed p.table.now p.share p.shapes.now
+
+abbrev pub planned : StartPlan → List Float → List Float
+planned p seeds = all_starts p.error p.genome seeds p.table.now p.share p.shapes.now
 
 -- ---- what a writer of `list` into lent memory states: r numbers, over what stood there
 abbrev pub Wrote : List Float → ℕ → List Float → List Float → Type 0

@@ -1,12 +1,11 @@
 -- What is known of a run table before anything is unpacked, and the run of least cost among those with a property: "the
 -- lowest cost, the earlier on ties". Definitions only. Assumes nothing.
-use Rattle.std.specs.Prelude.{ℕ, ◌+◌, Bool, true, false, cond, ◌||◌, Float}
+use Rattle.std.specs.Prelude.{Option, None, Some, ℕ, ◌+◌, Bool, true, false, cond, ◌||◌, Float}
 use Rattle.std.specs.Float.Ieee.{lt}
 use Rattle.meaning.specs.Fold.{fold}
 use Rattle.fitter.specs.Runs.{no_run, point_of, wrong_place, bad_cost, at_most, top64, top32, one_if}
 use Rattle.fitter.specs.declared.runs.Run.{Run}
 use Rattle.fitter.specs.declared.runs.RunPoint.{RunPoint}
-use Rattle.fitter.specs.declared.runs.RunPoint.TheVariants.{Converged, Missing}
 use Rattle.fitter.specs.declared.surveys.Best.{Best}
 use Rattle.fitter.specs.declared.surveys.Survey.{Survey}
 
@@ -54,9 +53,9 @@ weigh_of lent wanted i run cost place s = record {
 }
 
 -- a run without a converged point is passed over
-abbrev pub after_point : ℕ → ℕ → ℕ → Run → RunPoint → Survey → Survey
-after_point lent wanted i run Missing s = s
-after_point lent wanted i run (Converged cost place) s = weigh_of lent wanted i run cost place s
+abbrev pub after_point : ℕ → ℕ → ℕ → Run → Option RunPoint → Survey → Survey
+after_point lent wanted i run None s = s
+after_point lent wanted i run (Some point) s = weigh_of lent wanted i run point.cost point.place s
 
 unfoldable pub survey_step : ℕ → ℕ → ℕ → Run → Survey → Survey
 survey_step lent wanted i run s = after_point lent wanted i run (point_of run) (count_of run s)

@@ -14,7 +14,6 @@ use Rattle.routines.specs.Constants.{half, one}
 use Rattle.routines.specs.Ln.{ln_of}
 use Rattle.routines.specs.Ops.{◌⊕◌, ◌⊖◌, ◌⊗◌, of_count}
 use Rattle.helpers.specs.LogSums.{lse3_of}
-use Rattle.helpers.specs.declared.shelves.ShelfPart.{ShelfPart}
 use Rattle.models.specs.Fits.{roundtrip_error_of, primary_mode_of, repeat_mode_of}
 use Rattle.models.specs.Masses.{mass_tolerance}
 use Rattle.models.specs.Modes.{error_mode_of}
@@ -23,8 +22,8 @@ use Rattle.models.specs.Usable.{shelf_usable}
 use Rattle.models.specs.declared.fit.SpectrumFit.{SpectrumFit}
 use Rattle.fitter.specs.declared.rejections.FitRejection.{FitRejection}
 use Rattle.fitter.specs.declared.rejections.FitRejection.TheVariants as reason
-use Rattle.fitter.specs.declared.validation.Verdict.{Verdict}
-use Rattle.fitter.specs.declared.validation.Verdict.TheVariants.{Valid, Rejected, Refused}
+use Rattle.std.specs.Prelude.{Option, None, Some}
+use Rattle.helpers.specs.declared.shelves.Shelf.{Shelf}
 
 -- ---- 1: log-likelihood, BIC or deviance not finite
 unfoldable pub non_finite_likelihood : SpectrumFit → Bool
@@ -43,7 +42,7 @@ unfoldable pub bad_dispersion : Float → Bool
 bad_dispersion dispersion = not (finite dispersion) || lt dispersion one
 
 -- a fit without a shelf has no invalid one
-abbrev pub bad_shelf : ShelfPart → Bool
+abbrev pub bad_shelf : Option Shelf → Bool
 bad_shelf shelf = not (shelf_usable shelf)
 
 unfoldable pub invalid_components : SpectrumFit → Bool
@@ -201,10 +200,9 @@ reason_at n =
     ∷ [])
     n
 
-abbrev pub verdict_says : Verdict → Reply Judgement
-verdict_says Valid = give valid
-verdict_says (Rejected why) = give (rejected (reason_number why))
-verdict_says (Refused n) = refuse n
+abbrev pub judgement_in : Option FitRejection → Judgement
+judgement_in None = valid
+judgement_in (Some why) = rejected (reason_number why)
 
 -- ---- a valid fit: what the theorem of proofs/Verdicts.antt speaks of
 pub record NoRule (fit : SpectrumFit) (valley peak : ℕ) (limit : Float) : Type 0 where

@@ -19,8 +19,7 @@ pub struct Asked {
     pub hint: f64,
     pub mass_limit: f64,
     // Without one the window ends by `window_rule`.
-    pub window_given: bool,
-    pub window_end: usize,
+    pub window_end: Option<usize>,
 }
 
 // Where the window ends: before the whole of six peaks, at them, or where the caller says.
@@ -48,6 +47,7 @@ fn is_full(peak: usize, bins: usize) -> bool
 }
 
 // Six peaks, or the last bin but one.
+#[tactic(auto, unfolding(crate::specs::Asking::window_rule))]
 fn window_rule(peak: usize, bins: usize) -> usize
     ensures { result ≡ window_rule peak bins }
 {
@@ -60,19 +60,21 @@ fn window_rule(peak: usize, bins: usize) -> usize
     bins - 1
 }
 
+#[tactic(auto, unfolding(crate::specs::Asking::window_end_of))]
 pub fn window_end_of(asked: Asked, bins: usize) -> usize
     ensures { result ≡ window_end_of asked bins }
 {
-    if asked.window_given {
-        return asked.window_end;
+    match asked.window_end {
+        Some(end) => end,
+        None => window_rule(asked.peak, bins),
     }
-    window_rule(asked.peak, bins)
 }
 
+#[tactic(auto, unfolding(crate::specs::Asking::window_kind_of))]
 pub fn window_kind(asked: Asked, bins: usize) -> WindowKind
     ensures { result ≡ window_kind_of asked bins }
 {
-    if asked.window_given {
+    if asked.window_end.is_some() {
         return WindowKind::Given;
     }
     if is_full(asked.peak, bins) {
@@ -82,6 +84,7 @@ pub fn window_kind(asked: Asked, bins: usize) -> WindowKind
 }
 
 // The k-th of the four, from 1, in the original's order; the fourth for any other number.
+#[tactic(auto, unfolding(crate::specs::Asking::configuration_of))]
 pub fn configuration(k: u64) -> Families
     ensures { result ≡ configuration_of k }
 {

@@ -2,11 +2,14 @@
 // Ported from src/preprocessing/spectrum_fitter.rs of bacpop/sparrowhawk-asm, f1f8af1232, Apache-2.0; ported and
 // changed: what can't be used is refused by number.
 ghost use Rattle.std.specs.Prelude.{◌≡◌, length, drop};
+ghost use Rattle.meaning.specs.Answers.{reply_of, number_in};
 ghost use Rattle.fitter.specs.Columns.{count_of_runs, run_of};
-ghost use Rattle.fitter.specs.Attempting.{attempt_answer_of, attempt_from, stands_from};
+ghost use Rattle.fitter.specs.Attempting.{attempt_from, stands_from};
 
-use crate::run_columns::{retry_columns, run_count, survey_columns};
-use crate::settling::{AttemptAnswer, finish, settle, with_held};
+use crate::attempts::FitAttempt;
+use crate::run_columns::Columns;
+use crate::settling::{finish, settle, with_held};
+use meaning::refusals::Refusal;
 use models::families::list_length;
 use models::problems::Problem;
 
@@ -24,37 +27,29 @@ pub fn attempt_from_numbers(
     caps: &[u8],
     lists: &[f64],
     table: &mut [f64],
-) -> AttemptAnswer
-    ensures value { result
-        ≡ attempt_answer_of (attempt_from bins.now setup lists.now (length table.old)
+) -> Result<FitAttempt, Refusal>
+    ensures value { reply_of result
+        ≡ attempt_from bins.now setup lists.now (length table.old)
         (run_of converged.now costs.now places.now lengths.now
         iterations.now caps.now) (count_of_runs converged.now costs.now
-        places.now lengths.now iterations.now caps.now)) }
-    ensures table_unchanged { drop (stands_from setup result.number) table.new
-        ≡ drop (stands_from setup result.number) table.old }
+        places.now lengths.now iterations.now caps.now) }
+    ensures table_unchanged { drop (stands_from setup (number_in result)) table.new
+        ≡ drop (stands_from setup (number_in result)) table.old }
 {
-    let n = run_count(converged, costs, places, lengths, iterations, caps);
-    let error = setup.error;
-    let genome = setup.genome;
-    let wanted = list_length(error, genome);
-    let survey = survey_columns(
+    let columns = Columns {
         converged,
         costs,
         places,
         lengths,
         iterations,
         caps,
-        lists.len(),
-        wanted,
-    );
-    let first = settle(bins, setup, n, survey, lists, table);
+    };
+    let wanted = list_length(setup.error, setup.genome);
+    let survey = columns.survey(lists.len(), wanted);
+    let first = settle(bins, setup, columns.len(), survey, lists, table)?;
     if first.unsettled {
-        let held = retry_columns(
-            first.held, converged, costs, places, lengths, iterations, caps, bins, setup, lists,
-            table,
-        );
-        let second = with_held(first, held);
-        return finish(second, survey);
+        let held = columns.retry(first.held, bins, setup, lists, table);
+        return Ok(finish(with_held(first, held), survey));
     }
-    finish(first, survey)
+    Ok(finish(first, survey))
 }

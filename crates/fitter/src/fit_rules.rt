@@ -1,7 +1,7 @@
 // Document 01's ten rules that turn a fit away, each a test of its own. They are not those of the Rust
 // (docs/DIFFERENCES.md).
 ghost use Rattle.std.specs.Prelude.{◌≡◌};
-ghost use Rattle.helpers.specs.Answers.{count_says};
+ghost use Rattle.meaning.specs.Answers.{reply_of};
 ghost use Rattle.fitter.specs.Validation.{
   non_finite_likelihood,
   bad_weight,
@@ -26,9 +26,9 @@ ghost use Rattle.fitter.specs.Validation.{
   positive_log_likelihood,
 };
 
-use helpers::answers::Count;
 use helpers::log_sums::lse3;
-use helpers::shelves::ShelfPart;
+use helpers::shelves::Shelf;
+use meaning::refusals::Refusal;
 use models::fit::{SpectrumFit, mode_roundtrip_error, primary_mode, repeat_mode};
 use models::modes::error_mode;
 use models::params::{MU_LO, MU_SPAN};
@@ -43,23 +43,15 @@ use routines::pick::is_finite;
 pub(crate) fn non_finite_likelihood(fit: SpectrumFit) -> bool
     ensures { result ≡ non_finite_likelihood fit }
 {
-    if !is_finite(fit.log_likelihood) {
-        return true;
-    }
-    if !is_finite(fit.bic) {
-        return true;
-    }
-    !is_finite(fit.deviance)
+    !is_finite(fit.log_likelihood) || !is_finite(fit.bic) || !is_finite(fit.deviance)
 }
 
 // Outside 0 to 1, both allowed, or NaN.
+#[tactic(auto, unfolding(crate::specs::Validation::bad_weight))]
 fn bad_weight(weight: f64) -> bool
     ensures { result ≡ bad_weight weight }
 {
-    if 0.0 <= weight {
-        return !(weight <= 1.0);
-    }
-    true
+    !(0.0 <= weight && weight <= 1.0)
 }
 
 #[tactic(auto, unfolding(crate::specs::Validation::bad_mean))]
@@ -76,36 +68,26 @@ fn bad_dispersion(dispersion: f64) -> bool
     !is_finite(dispersion) || dispersion < 1.0
 }
 
-fn bad_shelf(shelf: ShelfPart) -> bool
+fn bad_shelf(shelf: Option<Shelf>) -> bool
     ensures { result ≡ bad_shelf shelf }
 {
     match shelf {
-        ShelfPart::Absent => false,
-        ShelfPart::Present(s) => !shelf_is_valid(s),
+        None => false,
+        Some(s) => !shelf_is_valid(s),
     }
 }
 
 // 2: a weight, the mean, the dispersion or the shelf is none.
+#[tactic(auto, unfolding(crate::specs::Validation::invalid_components))]
 pub(crate) fn invalid_components(fit: SpectrumFit) -> bool
     ensures { result ≡ invalid_components fit }
 {
-    let shelf = fit.shelf;
-    if bad_weight(fit.w_error) {
-        return true;
-    }
-    if bad_weight(fit.w_single) {
-        return true;
-    }
-    if bad_weight(fit.w_repeat) {
-        return true;
-    }
-    if bad_mean(fit.mean) {
-        return true;
-    }
-    if bad_dispersion(fit.dispersion) {
-        return true;
-    }
-    bad_shelf(shelf)
+    bad_weight(fit.w_error)
+        || bad_weight(fit.w_single)
+        || bad_weight(fit.w_repeat)
+        || bad_mean(fit.mean)
+        || bad_dispersion(fit.dispersion)
+        || bad_shelf(fit.shelf)
 }
 
 #[tactic(auto, unfolding(crate::specs::Validation::bad_mass))]
@@ -116,20 +98,16 @@ fn bad_mass(mass: f64) -> bool
 }
 
 // 3: a component's log mass inside the window is not finite, or above 0 by more than rounding.
+#[tactic(auto, unfolding(crate::specs::Validation::invalid_window_mass))]
 pub(crate) fn invalid_window_mass(fit: SpectrumFit) -> bool
     ensures { result ≡ invalid_window_mass fit }
 {
     let masses = fit.component_log_window_masses;
-    if bad_mass(masses[0]) {
-        return true;
-    }
-    if bad_mass(masses[1]) {
-        return true;
-    }
-    bad_mass(masses[2])
+    bad_mass(masses[0]) || bad_mass(masses[1]) || bad_mass(masses[2])
 }
 
 // The logarithm of models' `component_total_ratio`.
+#[tactic(auto, unfolding(crate::specs::Validation::excess_of))]
 fn excess(fit: SpectrumFit) -> f64
     ensures { result ≡ excess_of fit }
 {
@@ -138,6 +116,7 @@ fn excess(fit: SpectrumFit) -> f64
 }
 
 // NaN is above every bound.
+#[tactic(auto, unfolding(crate::specs::Validation::above_or_nan))]
 fn above_or_nan(x: f64, bound: f64) -> bool
     ensures { result ≡ above_or_nan x bound }
 {
@@ -145,6 +124,7 @@ fn above_or_nan(x: f64, bound: f64) -> bool
 }
 
 // 4: the components have more k-mers in all than the limit times the spectrum's, or a NaN.
+#[tactic(auto, unfolding(crate::specs::Validation::component_mass_exceeded))]
 pub(crate) fn component_mass_exceeded(fit: SpectrumFit, mass_limit: f64) -> bool
     ensures { result ≡ component_mass_exceeded fit mass_limit }
 {
@@ -152,12 +132,14 @@ pub(crate) fn component_mass_exceeded(fit: SpectrumFit, mass_limit: f64) -> bool
 }
 
 // 5: the mean does not give the mode back, so the mode that was fitted means nothing.
+#[tactic(auto, unfolding(crate::specs::Validation::unstable_mode))]
 pub(crate) fn unstable_mode(fit: SpectrumFit) -> bool
     ensures { result ≡ unstable_mode fit }
 {
     above_or_nan(mode_roundtrip_error(fit), 0.5)
 }
 
+#[tactic(auto, unfolding(crate::specs::Validation::outside_window))]
 fn outside_window(mode: u64, window_end: usize) -> bool
     ensures { result ≡ outside_window mode window_end }
 {
@@ -165,6 +147,7 @@ fn outside_window(mode: u64, window_end: usize) -> bool
 }
 
 // 6: the single-copy lobe has its mode at 0 or past the window.
+#[tactic(auto, unfolding(crate::specs::Validation::lobe_outside_window))]
 pub(crate) fn lobe_outside_window(fit: SpectrumFit) -> bool
     ensures { result ≡ lobe_outside_window fit }
 {
@@ -178,16 +161,17 @@ fn past_valley(mode: u64, valley: usize) -> bool
 }
 
 // A mode that is refused for a NaN is past every valley.
-fn mode_past(highest: Count, valley: usize) -> bool
-    ensures { result ≡ mode_past (count_says highest) valley }
+fn mode_past(highest: Result<u64, Refusal>, valley: usize) -> bool
+    ensures { result ≡ mode_past (reply_of highest) valley }
 {
     match highest {
-        Count::Whole(mode) => past_valley(mode, valley),
-        Count::Refused(_) => true,
+        Ok(mode) => past_valley(mode, valley),
+        Err(_) => true,
     }
 }
 
 // 7: the error component is highest above the valley, or a NaN is among its heights.
+#[tactic(auto, unfolding(crate::specs::Validation::error_mode_past_valley))]
 pub(crate) fn error_mode_past_valley(fit: SpectrumFit, valley: usize) -> bool
     ensures { result ≡ error_mode_past_valley fit valley }
 {
@@ -201,6 +185,7 @@ fn outside_band(mode: f64, peak: f64) -> bool
 }
 
 // 8: the single-copy mode has left the band around the peak, by more than a count below it.
+#[tactic(auto, unfolding(crate::specs::Validation::primary_mode_outside_band))]
 pub(crate) fn primary_mode_outside_band(fit: SpectrumFit, peak: usize) -> bool
     ensures { result ≡ primary_mode_outside_band fit peak }
 {
@@ -208,6 +193,7 @@ pub(crate) fn primary_mode_outside_band(fit: SpectrumFit, peak: usize) -> bool
 }
 
 // 9: the repeats' mode is not above the single copies'.
+#[tactic(auto, unfolding(crate::specs::Validation::repeat_mode_too_early))]
 pub(crate) fn repeat_mode_too_early(fit: SpectrumFit) -> bool
     ensures { result ≡ repeat_mode_too_early fit }
 {
@@ -215,6 +201,7 @@ pub(crate) fn repeat_mode_too_early(fit: SpectrumFit) -> bool
 }
 
 // 10: a probability above 1.
+#[tactic(auto, unfolding(crate::specs::Validation::positive_log_likelihood))]
 pub(crate) fn positive_log_likelihood(fit: SpectrumFit) -> bool
     ensures { result ≡ positive_log_likelihood fit }
 {

@@ -4,22 +4,21 @@
 ghost use Rattle.std.specs.Prelude.{◌≡◌, length, drop};
 ghost use Rattle.fitter.specs.Attempts.{unrejected};
 ghost use Rattle.fitter.specs.Judging.{judged_fit_of};
-ghost use Rattle.fitter.specs.Retrying.{rejection_of_verdict, table_from, could_win, retry_step};
+ghost use Rattle.fitter.specs.Retrying.{table_from, could_win, retry_step};
 
-use crate::attempts::RejectionPart;
 use crate::rejections::FitRejection;
-use crate::runs::{Run, RunPoint, list_at, run_point};
+use crate::runs::{Run, list_at, run_point};
 use crate::surveys::Best;
-use crate::validation::{Verdict, judge};
+use crate::validation::judge;
 use models::fit::SpectrumFit;
 use models::problems::Problem;
-use models::unpacking::unpack;
+use models::unpacking::{empty_fit, unpack};
 
 // A fit, and why it is not used; absent where it is valid.
 #[derive(Clone, Copy)]
 pub struct JudgedFit {
     pub fit: SpectrumFit,
-    pub rejection: RejectionPart,
+    pub rejection: Option<FitRejection>,
 }
 
 // The run that is kept so far.
@@ -29,24 +28,10 @@ pub struct Held {
     pub judged: JudgedFit,
 }
 
-// The validator's verdict on a fit of a run; it refuses none, and a fit that it refused would not be used.
-fn rejection_of_verdict(verdict: Verdict) -> RejectionPart
-    ensures { result ≡ rejection_of_verdict verdict }
-{
-    match verdict {
-        Verdict::Valid => RejectionPart::Absent,
-        Verdict::Rejected(reason) => RejectionPart::Present(reason),
-        Verdict::Refused(_) => RejectionPart::Present(FitRejection::OptimisationFailed),
-    }
-}
-
-pub(crate) fn is_unrejected(rejection: RejectionPart) -> bool
+pub(crate) fn is_unrejected(rejection: Option<FitRejection>) -> bool
     ensures { result ≡ unrejected rejection }
 {
-    match rejection {
-        RejectionPart::Absent => true,
-        RejectionPart::Present(_) => false,
-    }
+    rejection.is_none()
 }
 
 // A run's list as a fit, judged. The shelf's table is written where there is a shelf.
@@ -75,16 +60,16 @@ pub(crate) fn judge_run(
         run.iterations,
         table,
     );
-    let fit = answer.fit;
-    let verdict = judge(fit, setup.valley, setup.peak, setup.mass_limit);
-    let rejection = rejection_of_verdict(verdict);
+    // `unpack` refuses no run of an attempt that passed; the empty fit is turned away.
+    let fit = answer.unwrap_or(empty_fit());
     JudgedFit {
-        fit: fit,
-        rejection: rejection,
+        fit,
+        rejection: judge(fit, setup.valley, setup.peak, setup.mass_limit),
     }
 }
 
 // Whether a run of this cost is kept instead, should it be valid.
+#[tactic(auto, unfolding(crate::specs::Retrying::could_win))]
 fn could_win(held: Held, cost: f64) -> bool
     ensures { result ≡ could_win held cost }
 {
@@ -99,6 +84,7 @@ fn could_win(held: Held, cost: f64) -> bool
 }
 
 // One run more, behind the rejected one of least cost: what can't win is not unpacked.
+#[tactic(auto, unfolding(crate::specs::Retrying::retry_step))]
 pub(crate) fn retry_run(
     held: Held,
     position: usize,
@@ -112,11 +98,10 @@ pub(crate) fn retry_run(
         ≡ retry_step bins.now setup lists.now (length table.old) position run held }
     ensures table_unchanged { drop (table_from setup) table.new ≡ drop (table_from setup) table.old }
 {
-    let point = run_point(run);
-    let RunPoint::Converged(cost, _) = point else {
+    let Some(point) = run_point(run) else {
         return held;
     };
-    if !could_win(held, cost) {
+    if !could_win(held, point.cost) {
         return held;
     }
     let judged = judge_run(bins, setup, run, lists, table);
@@ -125,7 +110,7 @@ pub(crate) fn retry_run(
         return held;
     }
     Held {
-        best: Best { run: run, position },
-        judged: judged,
+        best: Best { run, position },
+        judged,
     }
 }

@@ -7,7 +7,8 @@ ghost use Rattle.fitter.specs.Runs.{run_from, point_of, wrong_place, bad_cost, l
 use meaning::flags::is_set;
 use routines::pick::is_finite;
 
-// One record for each start. Where it did not converge, cost, place and length are not looked at.
+// One record for each start. Where it did not converge, cost, place and length are not looked at. The flag stands
+// beside them as in the lent table, which is C's; `run_point` says it as an Option.
 #[derive(Clone, Copy)]
 pub struct Run {
     pub converged: bool,
@@ -46,32 +47,30 @@ pub(crate) fn run_of(lent: LentRun) -> Run
 
 // A run's answer: its cost and the place of its list.
 #[derive(Clone, Copy)]
-pub enum RunPoint {
-    Converged(f64, usize),
-    Missing,
+pub struct RunPoint {
+    pub cost: f64,
+    pub place: usize,
 }
 
-// Every answer is made here.
-pub(crate) fn run_point(run: Run) -> RunPoint
+// The answer of a run that converged.
+pub(crate) fn run_point(run: Run) -> Option<RunPoint>
     ensures { result ≡ point_of run }
 {
     if run.converged {
-        return RunPoint::Converged(run.cost, run.place);
+        return Some(RunPoint {
+            cost: run.cost,
+            place: run.place,
+        });
     }
-    RunPoint::Missing
+    None
 }
 
 // Whether a list of `length` numbers from `place` on has not the length wanted, or does not lie in the `lent` numbers.
+#[tactic(auto, unfolding(crate::specs::Runs::wrong_place))]
 pub(crate) fn wrong_place(place: usize, length: usize, lent: usize, wanted: usize) -> bool
     ensures { result ≡ wrong_place place length lent wanted }
 {
-    if length != wanted {
-        return true;
-    }
-    if lent < length {
-        return true;
-    }
-    lent - length < place
+    length != wanted || lent < length || lent - length < place
 }
 
 // What a converged run's cost may not be: not finite, or not above 0.
@@ -83,16 +82,13 @@ pub(crate) fn bad_cost(cost: f64) -> bool
 }
 
 // The list of a run; an empty one where it does not lie in the lent numbers.
+#[tactic(auto, unfolding(crate::specs::Runs::list_at))]
 pub(crate) fn list_at(lists: &[f64], place: usize, length: usize) -> &[f64]
     ensures { result.now ≡ list_at lists.now place length }
 {
     let lent = lists.len();
-    if lent < length {
+    if lent < length || lent - length < place {
         return &lists[0..0];
     }
-    if lent - length < place {
-        return &lists[0..0];
-    }
-    let end = place + length;
-    &lists[place..end]
+    &lists[place..place + length]
 }

@@ -1,50 +1,27 @@
 // The shelf share that a search starts from, read off the histogram.
 // Ported from src/preprocessing/spectrum_fitter.rs of bacpop/sparrowhawk-asm, f1f8af1232, Apache-2.0; ported and
 // changed.
-ghost use Rattle.std.specs.Prelude.{◌≡◌, ◌≤◌, min as minℕ};
+ghost use Rattle.std.specs.Prelude.{◌≡◌, ◌≤◌};
 ghost use Rattle.meaning.specs.Rows.{most};
-ghost use Rattle.helpers.specs.Answers.{number_says};
 ghost use Rattle.fitter.specs.Recovering.{recovered};
-ghost use Rattle.fitter.specs.Shares.{mass_of, clamp_of, share_of, shelf_share_of};
+ghost use Rattle.fitter.specs.Shares.{mass_of, share_of, shelf_share_of};
+ghost use Rattle.meaning.specs.Answers.{reply_of};
 
-use helpers::answers::Number;
 use meaning::limits::MOST;
-use meaning::refusals::{TOO_LARGE, TOO_SMALL};
+use meaning::refusals::Refusal;
 use models::recovery::{rounded_quotient, used_scale};
-
-// How many bins lie at counts up to `to`.
-fn reach(to: usize, bins: usize) -> usize
-    ensures { result ≡ minℕ to bins }
-{
-    if to < bins { to } else { bins }
-}
 
 // The recovered k-mers at counts `from` to `to`, as far as the bins go.
 fn mass(bins: &[u32], used: f64, from: usize, to: usize) -> f64
     requires { 1 ≤ from }
     ensures { result ≡ mass_of (recovered used bins.now) from to }
 {
-    let end = reach(to, bins.len());
+    let end = to.min(bins.len());
     let mut total = -0.0;
-    let mut i = from - 1;
-    while i < end {
-        total = total + (rounded_quotient(bins[i], used) as f64);
-        i += 1;
+    for i in from - 1..end {
+        total += f64::from(rounded_quotient(bins[i], used));
     }
     total
-}
-
-// Rust's `f64::clamp`: x held between two bounds; a NaN stays.
-fn clamp(x: f64, low: f64, high: f64) -> f64
-    ensures { result ≡ clamp_of x low high }
-{
-    if x < low {
-        return low;
-    }
-    if x > high {
-        return high;
-    }
-    x
 }
 
 // Between the valley and half the peak the lobe is thin: what lies there is the shelf's lower half. It is doubled, and
@@ -57,20 +34,26 @@ fn share(bins: &[u32], used: f64, valley: usize, peak: usize) -> f64
     if lobe <= 0.0 {
         return 0.05;
     }
-    clamp(2.0 * mass(bins, used, valley, peak / 2) / lobe, 0.01, 0.4)
+    let doubled = 2.0 * mass(bins, used, valley, peak / 2);
+    (doubled / lobe).clamp(0.01, 0.4)
 }
 
 // The starting shelf share over the recovered bins, 0.05 for an empty lobe; 1 where the valley, the peak or the number
 // of bins is below 2, and 2 where one is above 65,535.
 #[tactic(auto, unfolding(crate::specs::Shares::shelf_share_of))]
-pub fn empirical_shelf_share(bins: &[u32], scale: f64, valley: usize, peak: usize) -> Number
-    ensures { number_says result ≡ shelf_share_of bins.now scale valley peak }
+pub fn empirical_shelf_share(
+    bins: &[u32],
+    scale: f64,
+    valley: usize,
+    peak: usize,
+) -> Result<f64, Refusal>
+    ensures { reply_of result ≡ shelf_share_of bins.now scale valley peak }
 {
     if valley < 2 || peak < 2 || bins.len() < 2 {
-        return Number::Refused(TOO_SMALL);
+        return Err(Refusal::TooSmall);
     }
     if valley > MOST || peak > MOST || bins.len() > MOST {
-        return Number::Refused(TOO_LARGE);
+        return Err(Refusal::TooLarge);
     }
-    Number::Value(share(bins, used_scale(scale), valley, peak))
+    Ok(share(bins, used_scale(scale), valley, peak))
 }

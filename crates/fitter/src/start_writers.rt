@@ -1,11 +1,9 @@
 // The writers of starts: each lends the rest of what it was lent to the next.
 // Ported from src/preprocessing/spectrum_fitter.rs of bacpop/sparrowhawk-asm, f1f8af1232, Apache-2.0; ported and
 // changed.
-ghost use Rattle.std.specs.Prelude.{◌≡◌, [], ◌∷◌, ◌++◌, ◌/◌, ◌<◌, ◌≤◌, length, get_or};
-ghost use Rattle.std.specs.Float.{nan};
-ghost use Rattle.fitter.specs.Starts.{logit_of, hint_of, dispersion_start, ratio_start, pareto_list, weibull_list};
+ghost use Rattle.std.specs.Prelude.{◌≡◌, [], ◌∷◌, ◌++◌, ◌/◌, ◌<◌, ◌≤◌, length};
+ghost use Rattle.fitter.specs.Starts.{logit_of, hint_of, dispersion_start, ratio_start};
 ghost use Rattle.fitter.specs.Starts.{plain_start, shelf_list, error_start_at, shape_at, Wrote};
-ghost use Rattle.fitter.specs.Starts.{shape_starts, row_starts, one_seed, all_starts};
 
 use models::families::{ErrorModel, GenomeModel};
 use models::params::{RATIO_HIGH, RATIO_LOW};
@@ -33,6 +31,7 @@ pub(crate) struct ShelfShape {
     pub concentration: f64,
 }
 
+#[tactic(auto, unfolding(crate::specs::Starts::logit_of))]
 fn logit(p: f64) -> f64
     ensures { result ≡ logit_of p }
 {
@@ -63,40 +62,14 @@ fn ratio_start() -> f64
     logit((REPEAT_RATIO_START - RATIO_LOW) / (RATIO_HIGH - RATIO_LOW))
 }
 
-fn put_pareto(rest: &mut [f64], dispersion: f64, tail: f64, single: f64, ratio: f64) -> usize
-    requires { 7 ≤ length rest.old }
-    ensures { Wrote (pareto_list dispersion tail single ratio) result rest.old rest.new }
+// A list into the front.
+#[tactic(auto, unfolding(meaning::specs::Over::over))]
+fn put(rest: &mut [f64], list: &[f64]) -> usize
+    requires { length list.now ≤ length rest.old }
+    ensures { Wrote list.now result rest.old rest.new }
 {
-    rest[0] = 0.0;
-    rest[1] = -3.0;
-    rest[2] = 0.0;
-    rest[3] = dispersion;
-    rest[4] = tail;
-    rest[5] = single;
-    rest[6] = ratio;
-    7
-}
-
-fn put_weibull(
-    rest: &mut [f64],
-    dispersion: f64,
-    tail: f64,
-    single: f64,
-    shape: f64,
-    ratio: f64,
-) -> usize
-    requires { 8 ≤ length rest.old }
-    ensures { Wrote (weibull_list dispersion tail single shape ratio) result rest.old rest.new }
-{
-    rest[0] = 0.0;
-    rest[1] = -3.0;
-    rest[2] = 0.0;
-    rest[3] = dispersion;
-    rest[4] = tail;
-    rest[5] = single;
-    rest[6] = shape;
-    rest[7] = ratio;
-    8
+    rest[..list.len()].copy_from_slice(list);
+    list.len()
 }
 
 // A start without a shelf: 7 or 8 numbers.
@@ -111,20 +84,15 @@ fn write_plain(rest: &mut [f64], error: ErrorModel, seed: f64, start: ErrorStart
     let ratio = ratio_start();
     match error {
         ErrorModel::FreeSingletonWeibull => {
-            put_weibull(rest, dispersion, tail, single, shape, ratio)
+            put(
+                rest,
+                &[0.0, -3.0, 0.0, dispersion, tail, single, shape, ratio],
+            )
         }
-        ErrorModel::SingletonPareto => put_pareto(rest, dispersion, tail, single, ratio),
+        ErrorModel::SingletonPareto => {
+            put(rest, &[0.0, -3.0, 0.0, dispersion, tail, single, ratio])
+        }
     }
-}
-
-fn put_shelf(rest: &mut [f64], share: f64, retained: f64, concentration: f64) -> usize
-    requires { 3 ≤ length rest.old }
-    ensures { Wrote (share ∷ retained ∷ concentration ∷ []) result rest.old rest.new }
-{
-    rest[0] = share;
-    rest[1] = retained;
-    rest[2] = concentration;
-    3
 }
 
 // What a shelf adds: its share, and its shape inside the bounds.
@@ -136,23 +104,7 @@ fn write_shelf(rest: &mut [f64], share: f64, shape: ShelfShape) -> usize
     let part = logit(share / SHELF_MAX_SHARE);
     let kept = logit((shape.retained - SHELF_MIN_RETAINED) / (1.0 - SHELF_MIN_RETAINED));
     let narrow = logit((shape.concentration - bounds.low) / (bounds.high - bounds.low));
-    put_shelf(rest, part, kept, narrow)
-}
-
-// A start with a shelf: 10 or 11 numbers.
-fn write_shelf_start(
-    rest: &mut [f64],
-    error: ErrorModel,
-    seed: f64,
-    start: ErrorStart,
-    share: f64,
-    shape: ShelfShape,
-) -> usize
-    requires { length (plain_start error seed start ++ shelf_list share shape) ≤ length rest.old }
-    ensures { Wrote (plain_start error seed start ++ shelf_list share shape) result rest.old rest.new }
-{
-    let first = write_plain(rest, error, seed, start);
-    first + write_shelf(&mut rest[first..], share, shape)
+    put(rest, &[part, kept, narrow])
 }
 
 fn shape_at(shapes: &[f64], j: usize) -> ShelfShape
@@ -162,49 +114,6 @@ fn shape_at(shapes: &[f64], j: usize) -> ShelfShape
     ShelfShape {
         retained: shapes[2 * j],
         concentration: shapes[2 * j + 1],
-    }
-}
-
-// A start for each pair of the shelf's shapes.
-fn write_shapes(
-    rest: &mut [f64],
-    error: ErrorModel,
-    seed: f64,
-    start: ErrorStart,
-    share: f64,
-    shapes: &[f64],
-) -> usize
-    requires { length (shape_starts error seed start share shapes.now) ≤ length rest.old }
-    ensures { Wrote (shape_starts error seed start share shapes.now) result rest.old rest.new }
-{
-    let n = shapes.len() / 2;
-    let mut at: usize = 0;
-    let mut i: usize = 0;
-    while i < n {
-        let shape = shape_at(shapes, i);
-        at += write_shelf_start(&mut rest[at..], error, seed, start, share, shape);
-        i += 1;
-    }
-    at
-}
-
-// The starts of one error start: one, or one for each pair of a shelf's shapes.
-fn write_row(
-    rest: &mut [f64],
-    error: ErrorModel,
-    genome: GenomeModel,
-    seed: f64,
-    start: ErrorStart,
-    share: f64,
-    shapes: &[f64],
-) -> usize
-    requires { length (row_starts error genome seed start share shapes.now) ≤ length rest.old }
-    ensures { Wrote (row_starts error genome seed start share shapes.now) result rest.old
-        rest.new }
-{
-    match genome {
-        GenomeModel::NegativeBinomial => write_plain(rest, error, seed, start),
-        GenomeModel::ShelfNegativeBinomial => write_shapes(rest, error, seed, start, share, shapes),
     }
 }
 
@@ -219,62 +128,85 @@ fn error_start_at(table: &[f64], i: usize) -> ErrorStart
     }
 }
 
-// The starts of one seed: those of each error start of the table.
-fn write_table(
-    rest: &mut [f64],
-    error: ErrorModel,
-    genome: GenomeModel,
-    seed: f64,
-    table: &[f64],
-    share: f64,
-    shapes: &[f64],
-) -> usize
-    requires { length (one_seed error genome seed table.now share shapes.now) ≤ length rest.old }
-    ensures { Wrote (one_seed error genome seed table.now share shapes.now) result rest.old
-        rest.new }
-{
-    let n = table.len() / 3;
-    let mut at: usize = 0;
-    let mut i: usize = 0;
-    while i < n {
-        let start = error_start_at(table, i);
-        at += write_row(&mut rest[at..], error, genome, seed, start, share, shapes);
-        i += 1;
-    }
-    at
+// What the starts of a search are written from.
+#[derive(Clone, Copy)]
+pub(crate) struct StartPlan<'a> {
+    pub error: ErrorModel,
+    pub genome: GenomeModel,
+    // The error starts, in rows of three.
+    pub table: &'a [f64],
+    // The shelf's share, and its shapes as pairs.
+    pub share: f64,
+    pub shapes: &'a [f64],
 }
 
-// Seed i, and the hint behind the last.
-fn seed_at(seeds: &[f64], hint: f64, i: usize) -> f64
-    requires { i ≤ length seeds.now }
-    ensures { result ≡ get_or (seeds.now ++ (hint ∷ [])) i nan }
-{
-    if i < seeds.len() { seeds[i] } else { hint }
-}
+impl StartPlan<'_> {
+    ghost use Rattle.fitter.specs.Starts.{planned_shelf, planned_shapes, planned_row, planned_seed, planned};
 
-// All starts: those of each seed, and then those of the hint.
-pub(crate) fn write_starts(
-    rest: &mut [f64],
-    error: ErrorModel,
-    genome: GenomeModel,
-    seeds: &[f64],
-    hint: f64,
-    table: &[f64],
-    share: f64,
-    shapes: &[f64],
-) -> usize
-    requires { length (all_starts error genome (seeds.now ++ (hint ∷ [])) table.now share shapes.now)
-        ≤ length rest.old }
-    ensures { Wrote
-        (all_starts error genome (seeds.now ++ (hint ∷ [])) table.now share shapes.now)
-        result rest.old rest.new }
-{
-    let mut at: usize = 0;
-    let mut i: usize = 0;
-    while i <= seeds.len() {
-        let seed = seed_at(seeds, hint, i);
-        at += write_table(&mut rest[at..], error, genome, seed, table, share, shapes);
-        i += 1;
+    // A start with a shelf: 10 or 11 numbers.
+    fn write_shelf_start(
+        &self,
+        rest: &mut [f64],
+        seed: f64,
+        start: ErrorStart,
+        shape: ShelfShape,
+    ) -> usize
+        requires { length (planned_shelf self.now seed start shape) ≤ length rest.old }
+        ensures { Wrote (planned_shelf self.now seed start shape) result rest.old rest.new }
+    {
+        let first = write_plain(rest, self.error, seed, start);
+        first + write_shelf(&mut rest[first..], self.share, shape)
     }
-    at
+
+    // A start for each pair of the shelf's shapes.
+    fn write_shapes(&self, rest: &mut [f64], seed: f64, start: ErrorStart) -> usize
+        requires { length (planned_shapes self.now seed start) ≤ length rest.old }
+        ensures { Wrote (planned_shapes self.now seed start) result rest.old rest.new }
+    {
+        let n = self.shapes.len() / 2;
+        let mut at: usize = 0;
+        for i in 0..n {
+            let shape = shape_at(self.shapes, i);
+            at += self.write_shelf_start(&mut rest[at..], seed, start, shape);
+        }
+        at
+    }
+
+    // The starts of one error start: one, or one for each pair of a shelf's shapes.
+    #[tactic(auto, unfolding(crate::specs::Starts::row_starts))]
+    fn write_row(&self, rest: &mut [f64], seed: f64, start: ErrorStart) -> usize
+        requires { length (planned_row self.now seed start) ≤ length rest.old }
+        ensures { Wrote (planned_row self.now seed start) result rest.old rest.new }
+    {
+        match self.genome {
+            GenomeModel::NegativeBinomial => write_plain(rest, self.error, seed, start),
+            GenomeModel::ShelfNegativeBinomial => self.write_shapes(rest, seed, start),
+        }
+    }
+
+    // The starts of one seed: those of each error start of the table.
+    fn write_table(&self, rest: &mut [f64], seed: f64) -> usize
+        requires { length (planned_seed self.now seed) ≤ length rest.old }
+        ensures { Wrote (planned_seed self.now seed) result rest.old rest.new }
+    {
+        let n = self.table.len() / 3;
+        let mut at: usize = 0;
+        for i in 0..n {
+            let start = error_start_at(self.table, i);
+            at += self.write_row(&mut rest[at..], seed, start);
+        }
+        at
+    }
+
+    // All starts: those of each seed, and then those of the hint.
+    pub(crate) fn write_starts(&self, rest: &mut [f64], seeds: &[f64], hint: f64) -> usize
+        requires { length (planned self.now (seeds.now ++ (hint ∷ []))) ≤ length rest.old }
+        ensures { Wrote (planned self.now (seeds.now ++ (hint ∷ []))) result rest.old rest.new }
+    {
+        let mut at: usize = 0;
+        for &seed in seeds {
+            at += self.write_table(&mut rest[at..], seed);
+        }
+        at + self.write_table(&mut rest[at..], hint)
+    }
 }

@@ -2,16 +2,15 @@
 // Ported from src/preprocessing/spectrum_fitter.rs of bacpop/sparrowhawk-asm, f1f8af1232, Apache-2.0; ported and
 // changed.
 ghost use Rattle.std.specs.Prelude.{◌≡◌, [], ◌+◌, ◌*◌, ◌/◌, ◌<◌, ltb, length};
-ghost use Rattle.meaning.specs.Answers.{written_says};
 ghost use Rattle.meaning.specs.Lent.{counted, laid};
 ghost use Rattle.meaning.specs.Reply.{first_of};
 ghost use Rattle.routines.specs.Starts.{pareto_starts, weibull_starts};
 ghost use Rattle.fitter.specs.StartTables.{table_of, not_rows, wrong_tables};
 ghost use Rattle.fitter.specs.Starts.{per_row, starts_of};
+ghost use Rattle.meaning.specs.Answers.{reply_of, number_in};
 
-use crate::start_writers::{used_hint, write_starts};
-use meaning::answers::Written;
-use meaning::refusals::{TOO_SHORT, WRONG_LENGTH};
+use crate::start_writers::{StartPlan, used_hint};
+use meaning::refusals::Refusal;
 use models::families::{ErrorModel, GenomeModel, list_length};
 use routines::tables::{pareto_starts, weibull_starts};
 
@@ -21,17 +20,14 @@ fn not_rows(n: usize) -> bool
     n == 0 || n % 3 != 0
 }
 
-// 7 where either of the tables is not one or more rows of three, whichever family is asked, and 0 for none.
-pub fn start_tables_refusal(pareto: &[f64], weibull: &[f64]) -> u8
-    ensures { result ≡ first_of (wrong_tables (length pareto.now) (length weibull.now)) }
+// 7 where either of the tables is not one or more rows of three, whichever family is asked, or none.
+pub fn start_tables_refusal(pareto: &[f64], weibull: &[f64]) -> Result<(), Refusal>
+    ensures { number_in result ≡ first_of (wrong_tables (length pareto.now) (length weibull.now)) }
 {
-    if not_rows(pareto.len()) {
-        return WRONG_LENGTH;
+    if not_rows(pareto.len()) || not_rows(weibull.len()) {
+        return Err(Refusal::WrongLength);
     }
-    if not_rows(weibull.len()) {
-        return WRONG_LENGTH;
-    }
-    0
+    Ok(())
 }
 
 // The one of the two lent tables that belongs to the family, as the caller's own memory; an empty part, which no table
@@ -41,9 +37,9 @@ pub fn start_table<'a>(error: ErrorModel, pareto: &'a [f64], weibull: &'a [f64])
         error pareto.entry weibull.entry }
     ensures result_value { 7 ≡ first_of (wrong_tables (length pareto.now) (length weibull.now)) → result.now ≡ [] }
 {
-    if start_tables_refusal(pareto, weibull) != 0 {
+    let Ok(()) = start_tables_refusal(pareto, weibull) else {
         return &pareto[0..0];
-    }
+    };
     match error {
         ErrorModel::FreeSingletonWeibull => weibull,
         ErrorModel::SingletonPareto => pareto,
@@ -86,8 +82,8 @@ pub fn fit_starts_lent<'a>(
     share: f64,
     shapes: &[f64],
     out: &mut [f64],
-) -> Written
-    ensures result_value { written_says result
+) -> Result<usize, Refusal>
+    ensures result_value { reply_of result
         ≡ counted (starts_of error genome pareto.now weibull.now seeds.now hint share
         shapes.now (length out.old)) }
     ensures out_after { out.new
@@ -95,20 +91,25 @@ pub fn fit_starts_lent<'a>(
         shapes.now (length out.old)) out.old }
 {
     let table = start_table(error, pareto, weibull);
-    if table.len() == 0 {
-        return Written::Refused(WRONG_LENGTH);
+    if table.is_empty() {
+        return Err(Refusal::WrongLength);
     }
     if shapes.len() % 2 != 0 {
-        return Written::Refused(WRONG_LENGTH);
+        return Err(Refusal::WrongLength);
     }
     let width = list_length(error, genome);
     let each = per_row(genome, shapes.len());
     if too_short(out.len(), width, each, table.len() / 3, seeds.len()) {
-        return Written::Refused(TOO_SHORT);
+        return Err(Refusal::TooShort);
     }
-    let used = used_hint(hint);
-    let written = write_starts(out, error, genome, seeds, used, table, share, shapes);
-    Written::Items(written)
+    let plan = StartPlan {
+        error,
+        genome,
+        table,
+        share,
+        shapes,
+    };
+    Ok(plan.write_starts(out, seeds, used_hint(hint)))
 }
 
 // The same over the fixed tables.
@@ -120,8 +121,8 @@ pub fn fit_starts(
     share: f64,
     shapes: &[f64],
     out: &mut [f64],
-) -> Written
-    ensures result_value { written_says result
+) -> Result<usize, Refusal>
+    ensures result_value { reply_of result
         ≡ counted (starts_of error genome pareto_starts weibull_starts seeds.now hint share
         shapes.now (length out.old)) }
     ensures out_after { out.new

@@ -2,18 +2,20 @@
 // after run. Ported from src/preprocessing/spectrum_fitter.rs of bacpop/sparrowhawk-asm, f1f8af1232, Apache-2.0; ported
 // and changed: a turn takes a run by value.
 ghost use Rattle.std.specs.Prelude.{◌≡◌, ◌<◌, length, drop};
+ghost use Rattle.meaning.specs.Answers.{reply_of};
+ghost use Rattle.meaning.specs.Onward.{onward};
 ghost use Rattle.fitter.specs.Settling.{finish_of};
 ghost use Rattle.fitter.specs.Retrying.{table_from};
 ghost use Rattle.fitter.specs.Runs.{run_from};
 ghost use Rattle.fitter.specs.Turns.{empty_settled, begin_of, second_from, first_stands, first_turn, second_turn};
-ghost use Rattle.fitter.specs.Turns.{turn_of, turn_stands};
+ghost use Rattle.fitter.specs.Turns.{turn_of, turn_stands, turned_of, unsettled_in};
 
+use crate::attempts::FitAttempt;
 use crate::judging::retry_run;
 use crate::runs::{LentRun, Run, run_of};
-use crate::settling::{
-    AttemptAnswer, Settled, attempt_refusal, finish, no_held, settle, with_held,
-};
+use crate::settling::{Settled, attempt_refusal, finish, settle, unheld, with_held};
 use crate::surveys::{Survey, no_survey, survey_run};
+use meaning::refusals::Refusal;
 use models::families::list_length;
 use models::problems::Problem;
 
@@ -26,33 +28,20 @@ pub struct Turns {
     // The first pass is done, and `settled` is what it was settled to.
     pub surveyed: bool,
     pub survey: Survey,
-    pub settled: Settled,
+    pub settled: Result<Settled, Refusal>,
 }
 
 // What an attempt over no runs is settled to; `room` is the length of the shelf's table.
-pub(crate) fn settle_empty(bins: &[u32], setup: Problem, room: usize) -> Settled
-    ensures { result ≡ empty_settled bins.now setup room }
+pub(crate) fn settle_empty(bins: &[u32], setup: Problem, room: usize) -> Result<Settled, Refusal>
+    ensures { reply_of result ≡ empty_settled bins.now setup room }
 {
-    let number = attempt_refusal(bins, setup, 0, no_survey(), room);
-    if number != 0 {
-        return Settled {
-            number,
-            unsettled: false,
-            setup: setup,
-            held: no_held(),
-        };
-    }
-    Settled {
-        number: 0,
-        unsettled: false,
-        setup: setup,
-        held: no_held(),
-    }
+    attempt_refusal(bins, setup, 0, no_survey(), room)?;
+    Ok(unheld(setup))
 }
 
 // Before the first turn.
 pub(crate) fn begin_turns(bins: &[u32], setup: Problem, runs: usize, room: usize) -> Turns
-    ensures { result ≡ begin_of bins.now setup runs room }
+    ensures { turned_of result ≡ begin_of bins.now setup runs room }
 {
     Turns {
         next: 0,
@@ -64,16 +53,17 @@ pub(crate) fn begin_turns(bins: &[u32], setup: Problem, runs: usize, room: usize
 }
 
 // Where the second pass begins; behind the last run where none is needed.
-fn second_from(unsettled: bool, runs: usize) -> usize
-    ensures { result ≡ second_from unsettled runs }
+fn second_from(settled: Result<Settled, Refusal>, runs: usize) -> usize
+    ensures { result ≡ second_from (unsettled_in (reply_of settled)) runs }
 {
-    if unsettled {
-        return 0;
+    match settled {
+        Ok(s) if s.unsettled => 0,
+        _ => runs,
     }
-    runs
 }
 
-// A turn of the first pass; behind the last run the attempt is settled.
+// A turn of the first pass; behind the last run the attempt is settled. That a run is left stands in the contract of
+// each turn, and is no invariant of the state: the state behind the last run has none.
 pub(crate) fn survey_turn(
     t: Turns,
     run: Run,
@@ -83,32 +73,28 @@ pub(crate) fn survey_turn(
     table: &mut [f64],
 ) -> Turns
     requires { t.next < t.runs }
-    ensures value { result ≡ first_turn bins.now setup lists.now (length table.old) run t }
-    ensures table_unchanged { drop (first_stands setup result) table.new ≡ drop (first_stands setup result) table.old }
+    ensures value { turned_of result ≡ first_turn bins.now setup lists.now (length table.old) run (turned_of t) }
+    ensures table_unchanged { drop (first_stands setup (turned_of result)) table.new
+        ≡ drop (first_stands setup (turned_of result)) table.old }
 {
-    let error = setup.error;
-    let genome = setup.genome;
-    let earlier = t.settled;
-    let runs = t.runs;
-    let wanted = list_length(error, genome);
+    let wanted = list_length(setup.error, setup.genome);
     let survey = survey_run(t.survey, t.next, run, lists.len(), wanted);
     let next = t.next + 1;
-    if next < runs {
+    if next < t.runs {
         return Turns {
             next,
-            runs,
             surveyed: false,
-            survey: survey,
-            settled: earlier,
+            survey,
+            ..t
         };
     }
-    let settled = settle(bins, setup, runs, survey, lists, table);
+    let settled = settle(bins, setup, t.runs, survey, lists, table);
     Turns {
-        next: second_from(settled.unsettled, runs),
-        runs,
+        next: second_from(settled, t.runs),
+        runs: t.runs,
         surveyed: true,
-        survey: survey,
-        settled: settled,
+        survey,
+        settled,
     }
 }
 
@@ -122,18 +108,21 @@ pub(crate) fn retry_turn(
     table: &mut [f64],
 ) -> Turns
     requires { t.next < t.runs }
-    ensures value { result ≡ second_turn bins.now setup lists.now (length table.old) run t }
+    ensures value { turned_of result ≡ second_turn bins.now setup lists.now (length table.old) run (turned_of t) }
     ensures table_unchanged { drop (table_from setup) table.new ≡ drop (table_from setup) table.old }
 {
-    let survey = t.survey;
-    let settled = t.settled;
-    let held = retry_run(settled.held, t.next, run, bins, setup, lists, table);
+    let settled = match t.settled {
+        Ok(s) => {
+            let held = retry_run(s.held, t.next, run, bins, setup, lists, table);
+            Ok(with_held(s, held))
+        }
+        Err(refusal) => Err(refusal),
+    };
     Turns {
         next: t.next + 1,
-        runs: t.runs,
         surveyed: true,
-        survey: survey,
-        settled: with_held(settled, held),
+        settled,
+        ..t
     }
 }
 
@@ -147,9 +136,10 @@ pub(crate) fn turn(
     table: &mut [f64],
 ) -> Turns
     requires { t.next < t.runs }
-    ensures value { result ≡ turn_of bins.now setup lists.now (length table.old) (run_from lent) t }
-    ensures table_unchanged { drop (turn_stands setup t result) table.new ≡ drop (turn_stands setup t result)
-        table.old }
+    ensures value { turned_of result
+        ≡ turn_of bins.now setup lists.now (length table.old) (run_from lent) (turned_of t) }
+    ensures table_unchanged { drop (turn_stands setup (turned_of t) (turned_of result)) table.new
+        ≡ drop (turn_stands setup (turned_of t) (turned_of result)) table.old }
 {
     let run = run_of(lent);
     if t.surveyed {
@@ -159,8 +149,8 @@ pub(crate) fn turn(
 }
 
 // Behind the last turn.
-pub(crate) fn end_turns(t: Turns) -> AttemptAnswer
-    ensures { result ≡ finish_of t.survey t.settled }
+pub(crate) fn end_turns(t: Turns) -> Result<FitAttempt, Refusal>
+    ensures { reply_of result ≡ onward (finish_of t.survey) (reply_of t.settled) }
 {
-    finish(t.settled, t.survey)
+    Ok(finish(t.settled?, t.survey))
 }

@@ -10,8 +10,8 @@ use Rattle.routines.specs.Ops.{◌⊕◌, ◌⊖◌, ◌⊗◌}
 use Rattle.helpers.specs.Lobes.{size_of, log_q_of, ln_dpois_of, ln_dnbinom_of, nearly_poisson}
 use Rattle.helpers.specs.Hoists.{lobe_of, density_of, poisson_of, binomial_of, shelf_logs_of, mix_entry_of}
 use Rattle.helpers.specs.Shelves.{mix_single_copy_of}
-use Rattle.helpers.specs.declared.shelves.ShelfPart.{ShelfPart}
-use Rattle.helpers.specs.declared.shelves.ShelfPart.TheVariants.{Absent, Present}
+use Rattle.std.specs.Prelude.{Option, None, Some}
+use Rattle.helpers.specs.declared.shelves.Shelf.{Shelf}
 
 pub density-is : (x mean dispersion : Float) → density_of (lobe_of mean dispersion) x ≡ ln_dnbinom_of x mean dispersion
 unfolding lobe_of density_of ln_dnbinom_of ln_dpois_of
@@ -23,7 +23,7 @@ density-is x mean dispersion = go (le dispersion nearly_poisson)
     go false = refl
 
 -- and so is the single-copy component with its shelf's logs
-pub mix-entry-is : (lobe count : Float) (shelf : ShelfPart) (table : List Float) → mix_entry_of lobe count shelf (shelf_logs_of shelf) table ≡ mix_single_copy_of lobe count shelf table
+pub mix-entry-is : (lobe count : Float) (shelf : Option Shelf) (table : List Float) → mix_entry_of lobe count shelf (shelf_logs_of shelf) table ≡ mix_single_copy_of lobe count shelf table
 unfolding mix_single_copy_of
-mix-entry-is lobe count Absent table = refl
-mix-entry-is lobe count (Present s) table = refl
+mix-entry-is lobe count None table = refl
+mix-entry-is lobe count (Some s) table = refl

@@ -88,13 +88,6 @@ kept-none l k kept = record { first = none; second = none }
     none : {l : Lobe} {j : ℕ} → Keeps l j kept 1
     none = record { stands = λ (n : ℕ) (p : 1 ≤ n) (q : n < 1). absurd (omega arith) }
 
-pub kept-fewer : {l k : Lobe} {kept : List Float} {end : ℕ} → Kept l k kept end → (fewer : ℕ) → fewer ≤ end
-    → Kept l k kept fewer
-kept-fewer held fewer h = record {
-  first = record { stands = λ (n : ℕ) (p : 1 ≤ n) (q : n < fewer). held.first.stands n p (omega arith) };
-  second = record { stands = λ (n : ℕ) (p : 1 ≤ n) (q : n < fewer). held.second.stands n p (omega arith) };
-}
-
 pub kept_more : {l k : Lobe} {kept : List Float} {end : ℕ} → Kept l k kept end → (x y : Float)
     → x ≡ growth_of l (of_count end) → y ≡ growth_of k (of_count end)
     → Kept l k (set (set kept (2 * end) x) (2 * end + 1) y) (end + 1)

@@ -6,7 +6,6 @@ pub mod Recurrences
 pub mod Corners
 pub mod LogLaws
 pub mod Weights
-pub mod Says
 pub mod Ready
 pub mod Growths
 pub mod WindowEnds

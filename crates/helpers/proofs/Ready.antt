@@ -30,9 +30,9 @@ use Rattle.helpers.specs.Pairs.{ratio_with, lobe_ratio, lobe_mass_of}
 use Rattle.helpers.specs.Prepared.{ln_at, gamma_at, gamma_with}
 use Rattle.helpers.specs.Shelves.{entry_at_of, mix_single_copy_of}
 use Rattle.helpers.specs.declared.hoists.Lobe.{Lobe}
-use Rattle.helpers.specs.declared.shelves.ShelfPart.{ShelfPart}
-use Rattle.helpers.specs.declared.shelves.ShelfPart.TheVariants.{Absent, Present}
 use Rattle.helpers.proofs.Densities.{density-is}
+use Rattle.std.specs.Prelude.{Option, None, Some}
+use Rattle.helpers.specs.declared.shelves.Shelf.{Shelf}
 
 -- the slice holds what its entries stand for, up to n = top
 pub record Ready (ready : List Float) (top : ℕ) : Type 0 where
@@ -97,7 +97,7 @@ module _ (ready : List Float) (top : ℕ) (held : Ready ready (top + 1)) (mean d
           ap (λ (x : Float). ln_of (of_count k ⊕ size_of mean dispersion) ⊖ x ⊕ log_q_of dispersion) (next-log k h))
 
 -- ---- the single-copy component at a whole count, and its mass
-module _ (shelf : ShelfPart) (table : List Float) where
+module _ (shelf : Option Shelf) (table : List Float) where
   pub mix-at-is : (lobe : Float) (n : ℕ) → n ≤ 2 ^ 53
       → mix_at_of lobe n shelf (shelf_logs_of shelf) table ≡ mix_single_copy_of lobe (of_count n) shelf table
   mix-at-is lobe n h = go shelf
@@ -105,10 +105,10 @@ module _ (shelf : ShelfPart) (table : List Float) where
       back : get_or table n (inf true) ≡ entry_at_of (of_count n) table
       back = unfold entry_at_of in ap (λ (i : ℕ). get_or table i (inf true)) (sym (count-back 64 n h (omega arith)))
 
-      go : (shelf : ShelfPart)
+      go : (shelf : Option Shelf)
           → mix_at_of lobe n shelf (shelf_logs_of shelf) table ≡ mix_single_copy_of lobe (of_count n) shelf table
-      go Absent = unfold mix_single_copy_of in refl
-      go (Present s) =
+      go None = unfold mix_single_copy_of in refl
+      go (Some s) =
           unfold mix_single_copy_of in
           ap (λ (x : Float). lse2_of (ln_of (one ⊖ s.share) ⊕ lobe) (ln_of s.share ⊕ x)) back
 
@@ -116,7 +116,7 @@ module _ (shelf : ShelfPart) (table : List Float) where
       → mix_mass_of lobe shelf (shelf_logs_of shelf) table top ≡ single_copy_mass_to mean dispersion shelf table top
   mix-mass-is mean dispersion lobe top e = go shelf
     where
-      go : (shelf : ShelfPart)
+      go : (shelf : Option Shelf)
           → mix_mass_of lobe shelf (shelf_logs_of shelf) table top ≡ single_copy_mass_to mean dispersion shelf table top
-      go Absent = unfold single_copy_mass_to in e
-      go (Present s) = unfold single_copy_mass_to in rw e
+      go None = unfold single_copy_mass_to in e
+      go (Some s) = unfold single_copy_mass_to in rw e

@@ -12,7 +12,8 @@ use lib.Ieee.{Float, nan, inf, fin, up, down, lt, to_unsigned}
 use lib.Ieee.Exact.{HasValue}
 use lib.Ieee.Fits.{down_pos}
 use Rattle.meaning.specs.Over.{over}
-use Rattle.meaning.specs.Reply.{refuse, give}
+use Rattle.meaning.specs.Reply.{Reply, refuse, give, chain}
+use Rattle.meaning.specs.Rows.{too_short}
 use Rattle.meaning.proofs.Folds.{fold_more, fold-none}
 use Rattle.meaning.proofs.Overs.{over-next, over_none}
 use Rattle.routines.specs.Ops.{◌⊕◌, of_count}
@@ -20,7 +21,9 @@ use Rattle.routines.specs.Pick.{min_of}
 use Rattle.routines.proofs.Counts.{count-is}
 use Rattle.helpers.specs.Shelves.{table_start, table_step, table_of, entry_of, next_entry, last_of, shelf_trials_of}
 use Rattle.helpers.specs.Shelves.{shelf_log_table_of, table_after}
+use Rattle.helpers.specs.WindowEnds.{window_end_of}
 use Rattle.helpers.specs.declared.shelves.Shelf.{Shelf}
+use Rattle.helpers.proofs.WindowEnds.{window_refused, window_given, window_count}
 
 -- ---- how many entries
 pub table-length : (n a b : Float) (k : ℕ) → length (table_of n a b k) ≡ k
@@ -115,3 +118,19 @@ pub table-given : (mean : Float) (shelf : Shelf) (top : ℕ) (held : List Float)
     → over (table_of (shelf_trials_of mean) shelf.alpha shelf.beta (last_of (shelf_trials_of mean) top + 1)) held ≡ table_after mean shelf top held
 unfolding table_after
 table-given mean shelf top held k h = rw (sym h, add-one)
+
+-- ---- the answer of the call, by its window end
+pub table-unwindowed : (mean : Float) (top room n : ℕ) → refuse n ≡ window_end_of top → refuse n ≡ shelf_log_table_of mean top room
+unfolding shelf_log_table_of
+table-unwindowed mean top room n e =
+    let last = last_of (shelf_trials_of mean) top in
+    window_refused (give (suc last)) (too_short room (suc last)) top n e
+
+pub table-behind : (mean : Float) (top room end last : ℕ) (trials : Float) (reply : Reply ℕ) → give end ≡ window_end_of top
+    → trials ≡ shelf_trials_of mean → last ≡ last_of trials end
+    → reply ≡ chain (too_short room (suc last)) (give (suc last)) → reply ≡ shelf_log_table_of mean top room
+unfolding shelf_log_table_of
+table-behind mean top room end last trials reply given t l e =
+    let there : last ≡ last_of (shelf_trials_of mean) top = l ∙ (λ j. last_of (t j) (window_count top end given j)) in
+    e ∙ ap (λ (k : ℕ). chain (too_short room (suc k)) (give (suc k))) there
+    ∙ window_given (give (suc (last_of (shelf_trials_of mean) top))) (too_short room (suc (last_of (shelf_trials_of mean) top))) top end given

@@ -73,9 +73,6 @@ pub absorbs-two : (x y : Float) → T (fits binary64 x) → T (fits binary64 y) 
     → one ≡ exp_of x ⊕ exp_of y ⊕ one
 absorbs-two x y X Y h k = sym (absorbed-two x y X Y (yes h) (yes k))
 
-pub one-least : Least one
-one-least = inr (unfold le of_bits in tt)
-
 unit : round binary64 false 1 1 ≡ one
 unfolding round of_bits
 unit = refl

@@ -2,7 +2,7 @@
 -- out before.
 -- Nothing here has to be held beside the Rust: `density-is` and `mix-entry-is` in proofs/Densities.antt show it equal
 -- to Lobes.antt and Shelves.antt. Definitions only. Assumes nothing.
-use Rattle.std.specs.Prelude.{true, false, cond, List, Float}
+use Rattle.std.specs.Prelude.{true, false, cond, List, Float, Option, None, Some}
 use Rattle.std.specs.Float.{inf}
 use Rattle.std.specs.Float.Ieee.{neg, le}
 use Rattle.routines.specs.Constants.{zero, one}
@@ -14,8 +14,7 @@ use Rattle.helpers.specs.Lobes.{nearly_poisson, size_of, log_q_of}
 use Rattle.helpers.specs.Shelves.{entry_at_of}
 use Rattle.helpers.specs.declared.hoists.Lobe.{Lobe}
 use Rattle.helpers.specs.declared.shelves.ShelfLogs.{ShelfLogs}
-use Rattle.helpers.specs.declared.shelves.ShelfPart.{ShelfPart}
-use Rattle.helpers.specs.declared.shelves.ShelfPart.TheVariants.{Absent, Present}
+use Rattle.helpers.specs.declared.shelves.Shelf.{Shelf}
 
 -- ---- a lobe's density
 abbrev pub poisson_of : Float → Lobe
@@ -54,10 +53,10 @@ density_with l x gamma =
     (lgamma_of (x ⊕ l.size) ⊖ gamma ⊖ l.gamma ⊕ l.start ⊕ x ⊗ l.slope)
 
 -- ---- the mixture, from the shelf's two logs
-abbrev pub shelf_logs_of : ShelfPart → ShelfLogs
-shelf_logs_of Absent = record { rest = zero; share = inf true }
-shelf_logs_of (Present s) = record { rest = ln_of (one ⊖ s.share); share = ln_of s.share }
+abbrev pub shelf_logs_of : Option Shelf → ShelfLogs
+shelf_logs_of None = record { rest = zero; share = inf true }
+shelf_logs_of (Some s) = record { rest = ln_of (one ⊖ s.share); share = ln_of s.share }
 
-abbrev pub mix_entry_of : Float → Float → ShelfPart → ShelfLogs → List Float → Float
-mix_entry_of lobe count Absent logs table = lobe
-mix_entry_of lobe count (Present s) logs table = lse2_of (logs.rest ⊕ lobe) (logs.share ⊕ entry_at_of count table)
+abbrev pub mix_entry_of : Float → Float → Option Shelf → ShelfLogs → List Float → Float
+mix_entry_of lobe count None logs table = lobe
+mix_entry_of lobe count (Some s) logs table = lse2_of (logs.rest ⊕ lobe) (logs.share ⊕ entry_at_of count table)

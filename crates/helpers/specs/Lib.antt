@@ -1,6 +1,5 @@
 pub mod LogSums
 pub mod Lobes
-pub mod Answers
 pub mod Shelves
 pub mod Masses
 pub mod Hoists

@@ -1,6 +1,6 @@
 -- Window masses, as math_helpers.rs has them, operation by operation; sums run from the left. Definitions only.
 -- Assumes nothing.
-use Rattle.std.specs.Prelude.{ℕ, ◌+◌, min, true, cond, List, length, get_or, Float}
+use Rattle.std.specs.Prelude.{ℕ, ◌+◌, min, true, cond, List, length, get_or, Float, Option, None, Some}
 use Rattle.std.specs.Float.{inf}
 use Rattle.std.specs.Float.Ieee.{le}
 use Rattle.meaning.specs.Fold.{fold}
@@ -12,8 +12,7 @@ use Rattle.routines.specs.Ops.{◌⊕◌, ◌⊖◌, of_count}
 use Rattle.helpers.specs.LogSums.{lse2_of}
 use Rattle.helpers.specs.Lobes.{nearly_poisson, size_of, log_q_of, ln_dpois_of, ln_dnbinom_of}
 use Rattle.helpers.specs.Shelves.{mixed}
-use Rattle.helpers.specs.declared.shelves.ShelfPart.{ShelfPart}
-use Rattle.helpers.specs.declared.shelves.ShelfPart.TheVariants.{Absent, Present}
+use Rattle.helpers.specs.declared.shelves.Shelf.{Shelf}
 
 -- ---- log_recurrence_mass: the total so far and the next term, over counts 1 to `top`
 abbrev pub recurrence_step : (ℕ → Float) → ℕ → Float × Float → Float × Float
@@ -54,9 +53,9 @@ shelf_step table i total = lse2_of total (get_or table i (inf true))
 unfoldable pub shelf_mass_of : List Float → ℕ → Float
 shelf_mass_of table top = fold (shelf_step table) 1 (min (length table) (top + 1)) (inf true)
 
-unfoldable pub single_copy_mass_to : Float → Float → ShelfPart → List Float → ℕ → Float
-single_copy_mass_to mean dispersion Absent table top = log_nb_mass_to mean dispersion top
-single_copy_mass_to mean dispersion (Present s) table top = mixed (log_nb_mass_to mean dispersion top) s (shelf_mass_of table top)
+unfoldable pub single_copy_mass_to : Float → Float → Option Shelf → List Float → ℕ → Float
+single_copy_mass_to mean dispersion None table top = log_nb_mass_to mean dispersion top
+single_copy_mass_to mean dispersion (Some s) table top = mixed (log_nb_mass_to mean dispersion top) s (shelf_mass_of table top)
 
-unfoldable pub single_copy_log_mass_of : Float → Float → ShelfPart → List Float → ℕ → Reply Float
+unfoldable pub single_copy_log_mass_of : Float → Float → Option Shelf → List Float → ℕ → Reply Float
 single_copy_log_mass_of mean dispersion shelf table top = in_window top (single_copy_mass_to mean dispersion shelf table top)

@@ -1,5 +1,5 @@
 -- The shelf, as math_helpers.rs has it, operation by operation. Definitions only. Assumes nothing.
-use Rattle.std.specs.Prelude.{ℕ, zero, suc, true, cond, List, [], ◌∷◌, ◌++◌, Float}
+use Rattle.std.specs.Prelude.{ℕ, zero, suc, true, cond, List, [], ◌∷◌, ◌++◌, Float, Option, None, Some}
 use lib.ListN.{get_or}
 use Rattle.std.specs.Float.{inf}
 use Rattle.std.specs.Float.Ieee.{lt, to_unsigned}
@@ -17,8 +17,6 @@ use Rattle.routines.specs.Whole.{round_of}
 use Rattle.helpers.specs.LogSums.{lse2_of}
 use Rattle.helpers.specs.Lobes.{ln_dnbinom_of}
 use Rattle.helpers.specs.declared.shelves.Shelf.{Shelf}
-use Rattle.helpers.specs.declared.shelves.ShelfPart.{ShelfPart}
-use Rattle.helpers.specs.declared.shelves.ShelfPart.TheVariants.{Absent, Present}
 
 unfoldable pub shelf_trials_of : Float → Float
 shelf_trials_of mean = max_of (round_of mean) one
@@ -70,15 +68,15 @@ table_after mean shelf top held =
 abbrev pub mixed : Float → Shelf → Float → Float
 mixed lobe s shelf = lse2_of (ln_of (one ⊖ s.share) ⊕ lobe) (ln_of s.share ⊕ shelf)
 
-unfoldable pub ln_single_copy_of : Float → Float → Float → ShelfPart → Float
-ln_single_copy_of count mean dispersion Absent = ln_dnbinom_of count mean dispersion
-ln_single_copy_of count mean dispersion (Present s) =
+unfoldable pub ln_single_copy_of : Float → Float → Float → Option Shelf → Float
+ln_single_copy_of count mean dispersion None = ln_dnbinom_of count mean dispersion
+ln_single_copy_of count mean dispersion (Some s) =
     mixed (ln_dnbinom_of count mean dispersion) s (ln_dbetabinom_of count (shelf_trials_of mean) s.alpha s.beta)
 
 -- the entry at a count, and -inf behind the table's end
 unfoldable pub entry_at_of : Float → List Float → Float
 entry_at_of count table = get_or table (to_unsigned 64 count) (inf true)
 
-unfoldable pub mix_single_copy_of : Float → Float → ShelfPart → List Float → Float
-mix_single_copy_of lobe count Absent table = lobe
-mix_single_copy_of lobe count (Present s) table = mixed lobe s (entry_at_of count table)
+unfoldable pub mix_single_copy_of : Float → Float → Option Shelf → List Float → Float
+mix_single_copy_of lobe count None table = lobe
+mix_single_copy_of lobe count (Some s) table = mixed lobe s (entry_at_of count table)

@@ -2,7 +2,7 @@
 -- worked out before, and lgamma(x + 1), which every part has, once.
 -- Nothing here has to be held beside the Rust: `beta-density-is` and `single-density-is` in proofs/SingleCopies.antt
 -- show it equal to Shelves.antt. Definitions only. Assumes nothing.
-use Rattle.std.specs.Prelude.{true, cond, Float}
+use Rattle.std.specs.Prelude.{true, cond, Float, Option, None, Some}
 use Rattle.std.specs.Float.{inf}
 use Rattle.std.specs.Float.Ieee.{lt}
 use Rattle.routines.specs.Constants.{one}
@@ -12,12 +12,9 @@ use Rattle.helpers.specs.Hoists.{lobe_of, density_with, shelf_logs_of}
 use Rattle.helpers.specs.LogSums.{lse2_of}
 use Rattle.helpers.specs.Shelves.{shelf_trials_of}
 use Rattle.helpers.specs.declared.shelves.ShelfLogs.{ShelfLogs}
-use Rattle.helpers.specs.declared.shelves.ShelfPart.{ShelfPart}
-use Rattle.helpers.specs.declared.shelves.ShelfPart.TheVariants.{Absent, Present}
 use Rattle.helpers.specs.declared.single_copies.BetaBinomial.{BetaBinomial}
-use Rattle.helpers.specs.declared.single_copies.BetaPart.{BetaPart}
-use Rattle.helpers.specs.declared.single_copies.BetaPart.TheVariants as part
 use Rattle.helpers.specs.declared.single_copies.SingleCopy.{SingleCopy}
+use Rattle.helpers.specs.declared.shelves.Shelf.{Shelf}
 
 -- ---- a shelf's density; `gamma` stands for lgamma(x + 1)
 abbrev pub beta_binomial_of : Float → Float → Float → BetaBinomial
@@ -38,17 +35,17 @@ beta_density_of b x gamma =
     ⊖ b.spread ⊖ b.shape)
 
 -- ---- the single-copy component
-abbrev pub beta_part_of : Float → ShelfPart → BetaPart
-beta_part_of mean Absent = part.Absent
-beta_part_of mean (Present s) = part.Present (beta_binomial_of (shelf_trials_of mean) s.alpha s.beta)
+abbrev pub beta_part_of : Float → Option Shelf → Option BetaBinomial
+beta_part_of mean None = None
+beta_part_of mean (Some s) = Some (beta_binomial_of (shelf_trials_of mean) s.alpha s.beta)
 
-unfoldable pub single_copy_of : Float → Float → ShelfPart → SingleCopy
+unfoldable pub single_copy_of : Float → Float → Option Shelf → SingleCopy
 single_copy_of mean dispersion shelf =
     record { lobe = lobe_of mean dispersion; logs = shelf_logs_of shelf; beta = beta_part_of mean shelf }
 
-abbrev pub mix_beta : Float → ShelfLogs → BetaPart → Float → Float → Float
-mix_beta lobe logs part.Absent x gamma = lobe
-mix_beta lobe logs (part.Present b) x gamma = lse2_of (logs.rest ⊕ lobe) (logs.share ⊕ beta_density_of b x gamma)
+abbrev pub mix_beta : Float → ShelfLogs → Option BetaBinomial → Float → Float → Float
+mix_beta lobe logs None x gamma = lobe
+mix_beta lobe logs (Some b) x gamma = lse2_of (logs.rest ⊕ lobe) (logs.share ⊕ beta_density_of b x gamma)
 
 unfoldable pub single_density_with : SingleCopy → Float → Float → Float
 single_density_with s x gamma = mix_beta (density_with s.lobe x gamma) s.logs s.beta x gamma

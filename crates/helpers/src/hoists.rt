@@ -11,7 +11,8 @@ use routines::ln::ln;
 pub const NEARLY_POISSON: f64 = 1.0 + 1e-9;
 
 // What a negative binomial's density has in common at every count: ln(mean); r, its log-gamma, r ln(p); ln(1-p).
-// As a Poisson it reads the mean and its log alone.
+// As a Poisson it reads the mean and its log alone. It is no enum: specs/Hoists.antt and probe's C interface have all
+// of the fields in either kind.
 #[derive(Clone, Copy)]
 pub struct Lobe {
     pub poisson: bool,
@@ -55,6 +56,7 @@ pub(crate) fn binomial_lobe(mean: f64, dispersion: f64, log_p: f64, log_q: f64) 
 }
 
 // The lobe with this mean and variance `dispersion` * mean: r = mean / (dispersion - 1), p = 1 / dispersion.
+#[tactic(auto, unfolding(crate::specs::Hoists::lobe_of))]
 pub fn lobe_of(mean: f64, dispersion: f64) -> Lobe
     ensures { result ≡ lobe_of mean dispersion }
 {
@@ -70,6 +72,7 @@ pub fn lobe_of(mean: f64, dispersion: f64) -> Lobe
 }
 
 // The log density of a lobe at x, with lgamma(x + 1) at hand: it is the same for every lobe.
+#[tactic(auto, unfolding(crate::specs::Hoists::density_with))]
 pub fn density_with(lobe: Lobe, x: f64, gamma: f64) -> f64
     ensures { result ≡ density_with lobe x gamma }
 {

@@ -8,6 +8,7 @@ use routines::hoists::lgamma_with;
 use routines::ln::ln;
 
 // ln(count + r), which the step to the next term and the density have in common; a Poisson's rate.
+#[tactic(auto, unfolding(crate::specs::Kept::growth_of))]
 pub fn growth_of(lobe: Lobe, count: f64) -> f64
     ensures { result ≡ growth_of lobe count }
 {
@@ -27,6 +28,7 @@ pub(crate) fn keep(kept: &mut [f64], i: usize, growth: f64)
 }
 
 // The log density of a lobe at x, with lgamma(x + 1) and the growth at hand.
+#[tactic(auto, unfolding(crate::specs::Kept::density_from))]
 fn density_from(lobe: Lobe, x: f64, gamma: f64, growth: f64) -> f64
     ensures { result ≡ density_from lobe x gamma growth }
 {
@@ -37,6 +39,7 @@ fn density_from(lobe: Lobe, x: f64, gamma: f64, growth: f64) -> f64
 }
 
 // The same, with the growth read from its place where it stands there.
+#[tactic(auto, unfolding(crate::specs::Kept::growth_at))]
 pub fn density_at(lobe: Lobe, x: f64, gamma: f64, kept: &[f64], i: usize) -> f64
     ensures { result ≡ density_at lobe x gamma kept.now i }
 {

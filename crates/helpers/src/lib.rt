@@ -1,7 +1,6 @@
 // Ported from src/preprocessing/math_helpers.rs of bacpop/sparrowhawk-asm, f1f8af1232, Apache-2.0; ported and changed.
 #![tactic(auto)]
 
-pub mod answers;
 pub mod hoists;
 pub mod kept;
 pub mod lobes;

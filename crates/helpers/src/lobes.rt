@@ -11,6 +11,7 @@ use routines::pick::{is_finite, min};
 use routines::whole::floor;
 
 // The log of the Poisson density.
+#[tactic(auto, unfolding(crate::specs::Lobes::ln_dpois_of))]
 pub fn ln_dpois(x: f64, lambda: f64) -> f64
     ensures { result ≡ ln_dpois_of x lambda }
 {
@@ -25,6 +26,7 @@ pub fn ln_dnbinom(x: f64, mean: f64, dispersion: f64) -> f64
 }
 
 // The negative binomial's mode as a count: floor(mean - (dispersion - 1)), or 0; 2^64-1 where it is 2^64 or more.
+#[tactic(auto, unfolding(crate::specs::Lobes::discrete_nb_mode_of))]
 pub fn discrete_nb_mode(mean: f64, dispersion: f64) -> u64
     ensures { result ≡ discrete_nb_mode_of mean dispersion }
 {

@@ -59,6 +59,7 @@ fn with_log(m: f64, s: f64) -> f64
 }
 
 // ln(e^a + e^b), shifted by the larger so that no exponential overflows.
+#[tactic(auto, unfolding(crate::specs::LogSums::lse2_of))]
 pub fn lse2(a: f64, b: f64) -> f64
     ensures { result ≡ lse2_of a b }
 {
@@ -70,6 +71,7 @@ pub fn lse2(a: f64, b: f64) -> f64
 }
 
 // ln(e^a + e^b + e^c), shifted by the largest.
+#[tactic(auto, unfolding(crate::specs::LogSums::lse3_of))]
 pub fn lse3(a: f64, b: f64, c: f64) -> f64
     ensures { result ≡ lse3_of a b c }
 {
@@ -106,19 +108,20 @@ pub fn ln_softmax3(a: f64, b: f64, c: f64) -> Logs3
 pub fn ln_sub_exp(high: f64, low: f64) -> f64
     ensures { result ≡ ln_sub_exp_of high low }
 {
-    if high == -1.0 / 0.0 {
+    if high == f64::NEG_INFINITY {
         return high;
     }
     if low > high {
-        return 0.0 / 0.0;
+        return f64::NAN;
     }
     if low != low {
-        return 0.0 / 0.0;
+        return f64::NAN;
     }
     high + ln(-expm1(low - high))
 }
 
 // 1 / (1 + e^-v); below 0 as e^v / (1 + e^v), so that the exponential stays at most 1.
+#[tactic(auto, unfolding(crate::specs::LogSums::sigmoid_of))]
 pub fn sigmoid(value: f64) -> f64
     ensures { result ≡ sigmoid_of value }
 {

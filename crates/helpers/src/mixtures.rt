@@ -7,27 +7,23 @@ ghost use Rattle.helpers.specs.Mixtures.{mix_at_of, mix_mass_of};
 
 use crate::log_sums::lse2;
 use crate::masses::log_shelf_mass;
-use crate::shelves::{ShelfLogs, ShelfPart};
+use crate::shelves::{Shelf, ShelfLogs};
 use crate::window_ends::WindowEnd;
 
 // The table's entry n, and -inf behind its end.
 fn entry_of(n: usize, table: &[f64]) -> f64
     ensures { result ≡ get_or table.now n (inf true) }
 {
-    if n < table.len() {
-        table[n]
-    } else {
-        -1.0 / 0.0
-    }
+    table.get(n).copied().unwrap_or(f64::NEG_INFINITY)
 }
 
 // The single-copy log density at count n, from its lobe's.
-pub fn mix_at(lobe: f64, n: u16, shelf: ShelfPart, logs: ShelfLogs, table: &[f64]) -> f64
+pub fn mix_at(lobe: f64, n: u16, shelf: Option<Shelf>, logs: ShelfLogs, table: &[f64]) -> f64
     ensures { result ≡ mix_at_of lobe n shelf logs table.now }
 {
     match shelf {
-        ShelfPart::Absent => lobe,
-        ShelfPart::Present(_) => {
+        None => lobe,
+        Some(_) => {
             let entry = entry_of(n as usize, table);
             lse2(logs.rest + lobe, logs.share + entry)
         }
@@ -35,12 +31,18 @@ pub fn mix_at(lobe: f64, n: u16, shelf: ShelfPart, logs: ShelfLogs, table: &[f64
 }
 
 // ln of the single-copy component's mass on 1 to the window end, from its lobe's.
-pub fn mix_mass(lobe: f64, shelf: ShelfPart, logs: ShelfLogs, table: &[f64], end: WindowEnd) -> f64
+pub fn mix_mass(
+    lobe: f64,
+    shelf: Option<Shelf>,
+    logs: ShelfLogs,
+    table: &[f64],
+    end: WindowEnd,
+) -> f64
     ensures { result ≡ mix_mass_of lobe shelf logs table.now end.count }
 {
     match shelf {
-        ShelfPart::Absent => lobe,
-        ShelfPart::Present(_) => {
+        None => lobe,
+        Some(_) => {
             let mass = log_shelf_mass(table, end.count);
             lse2(logs.rest + lobe, logs.share + mass)
         }

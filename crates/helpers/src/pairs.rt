@@ -19,6 +19,7 @@ pub struct Lobes {
 }
 
 // The lobes with these means and one dispersion: its two logs are worked out once.
+#[tactic(auto, unfolding(crate::specs::Hoists::lobe_of))]
 pub fn lobes_of(mean: f64, other: f64, dispersion: f64) -> Lobes
     ensures { result ≡ lobes_of mean other dispersion }
 {
@@ -37,6 +38,7 @@ pub fn lobes_of(mean: f64, other: f64, dispersion: f64) -> Lobes
 }
 
 // From a count's term to the next one's, with the growth at the count and `log` for ln(count + 1).
+#[tactic(auto, unfolding(crate::specs::Pairs::ratio_with))]
 fn ratio_with(lobe: Lobe, growth: f64, log: f64) -> f64
     ensures { result ≡ ratio_with lobe growth log }
 {
@@ -63,12 +65,11 @@ fn lobe_masses_to(
     ensures value { result ≡ lobe_masses_of first second ready.now top }
     ensures kept_after { kept.new ≡ kept_after first second top kept.old }
 {
-    let mut total = -1.0 / 0.0;
+    let mut total = f64::NEG_INFINITY;
     let mut term = density(first, 1.0);
-    let mut other_total = -1.0 / 0.0;
+    let mut other_total = f64::NEG_INFINITY;
     let mut other_term = density(second, 1.0);
-    let mut count: u32 = 1;
-    while count <= (top as u32) {
+    for count in 1..(top as u32) + 1 {
         let log = log_at(ready, count + 1);
         let growth = growth_of(first, count as f64);
         let other_growth = growth_of(second, count as f64);
@@ -78,7 +79,6 @@ fn lobe_masses_to(
         other_total = lse2(other_total, other_term);
         term = term + ratio_with(first, growth, log);
         other_term = other_term + ratio_with(second, other_growth, log);
-        count += 1;
     }
     LobeMasses {
         first: total,

@@ -7,6 +7,7 @@ use routines::hoists::lgamma_with;
 use routines::ln::ln;
 
 // ln n.
+#[tactic(auto, unfolding(crate::specs::Prepared::ln_at))]
 pub(crate) fn log_at(ready: &[f64], n: u32) -> f64
     ensures { result ≡ ln_at ready.now n }
 {
@@ -33,6 +34,7 @@ pub fn ln_next(ready: &[f64], count: u16) -> f64
 }
 
 // lgamma(n + 1) of a count n, with `log` for ln(n + 1).
+#[tactic(auto, unfolding(crate::specs::Prepared::gamma_with))]
 pub fn gamma_at(ready: &[f64], n: u16, log: f64) -> f64
     ensures { result ≡ gamma_with ready.now n log }
 {

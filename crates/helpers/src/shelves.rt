@@ -6,13 +6,12 @@ ghost use Rattle.helpers.specs.Shelves.{shelf_trials_of, ln_dbetabinom_of, table
 ghost use Rattle.helpers.specs.Shelves.{shelf_log_table_of, table_after, entry_at_of, mixed, ln_single_copy_of};
 ghost use Rattle.helpers.specs.Shelves.{mix_single_copy_of};
 ghost use Rattle.helpers.specs.Hoists.{shelf_logs_of, mix_entry_of};
-ghost use Rattle.meaning.specs.Answers.{written_says};
+ghost use Rattle.meaning.specs.Answers.{reply_of};
 
 use crate::lobes::ln_dnbinom;
 use crate::log_sums::lse2;
-use meaning::answers::Written;
-use meaning::limits::MOST;
-use meaning::refusals::{NO_WINDOW, TOO_LARGE, TOO_SHORT};
+use crate::window_ends::window_end;
+use meaning::refusals::Refusal;
 use routines::casts::to_u64;
 use routines::lgamma::lgamma;
 use routines::ln::ln;
@@ -26,14 +25,8 @@ pub struct Shelf {
     pub beta: f64,
 }
 
-// The Rust's Option<Shelf>. It is never read off a family.
-#[derive(Clone, Copy)]
-pub enum ShelfPart {
-    Absent,
-    Present(Shelf),
-}
-
 // The shelf's trials: the single-copy mean, rounded, and 1 at least; 1 for a NaN.
+#[tactic(auto, unfolding(crate::specs::Shelves::shelf_trials_of))]
 pub fn shelf_trials(mean: f64) -> f64
     ensures { result ≡ shelf_trials_of mean }
 {
@@ -41,11 +34,12 @@ pub fn shelf_trials(mean: f64) -> f64
 }
 
 // The log of the beta-binomial density over `trials` trials; -inf above them.
+#[tactic(auto, unfolding(crate::specs::Shelves::ln_dbetabinom_of))]
 pub fn ln_dbetabinom(x: f64, trials: f64, alpha: f64, beta: f64) -> f64
     ensures { result ≡ ln_dbetabinom_of x trials alpha beta }
 {
     if x > trials {
-        return -1.0 / 0.0;
+        return f64::NEG_INFINITY;
     }
     lgamma(trials + 1.0) - lgamma(x + 1.0) - lgamma(trials - x + 1.0)
         + lgamma(x + alpha)
@@ -55,6 +49,7 @@ pub fn ln_dbetabinom(x: f64, trials: f64, alpha: f64, beta: f64) -> f64
 }
 
 // The table's entry at 0.
+#[tactic(auto, unfolding(crate::specs::Shelves::table_start))]
 fn table_start(trials: f64, alpha: f64, beta: f64) -> f64
     ensures { result ≡ table_start trials alpha beta }
 {
@@ -62,6 +57,7 @@ fn table_start(trials: f64, alpha: f64, beta: f64) -> f64
 }
 
 // From the entry at x to the one behind it.
+#[tactic(auto, unfolding(crate::specs::Shelves::table_step))]
 fn table_step(trials: f64, alpha: f64, beta: f64, x: f64) -> f64
     ensures { result ≡ table_step trials alpha beta x }
 {
@@ -69,6 +65,7 @@ fn table_step(trials: f64, alpha: f64, beta: f64, x: f64) -> f64
 }
 
 // The number of the table's last entry: min(trials, top).
+#[tactic(auto, unfolding(crate::specs::Shelves::last_of))]
 fn last_entry(trials: f64, top: u16) -> u16
     ensures { result ≡ last_of trials top }
 {
@@ -82,33 +79,31 @@ fn write_table(trials: f64, alpha: f64, beta: f64, last: u16, table: &mut [f64])
     ensures { table.new ≡ over (table_of trials alpha beta (last + 1)) table.old }
 {
     let mut entry = table_start(trials, alpha, beta);
-    let mut x: u16 = 0;
-    while x < last {
+    for x in 0..last {
         table[x as usize] = entry;
         entry = entry + table_step(trials, alpha, beta, x as f64);
-        x += 1;
     }
     table[last as usize] = entry;
 }
 
 // The shelf's log density at counts 0 to min(trials, top), each from the one before; how many entries that is.
-pub fn shelf_log_table(mean: f64, shelf: Shelf, top: usize, table: &mut [f64]) -> Written
-    ensures result_value { written_says result ≡ shelf_log_table_of mean top (length table.old) }
+pub fn shelf_log_table(
+    mean: f64,
+    shelf: Shelf,
+    top: usize,
+    table: &mut [f64],
+) -> Result<usize, Refusal>
+    ensures result_value { reply_of result ≡ shelf_log_table_of mean top (length table.old) }
     ensures table_after { table.new ≡ table_after mean shelf top table.old }
 {
-    if top > MOST {
-        return Written::Refused(TOO_LARGE);
-    }
-    if top == 0 {
-        return Written::Refused(NO_WINDOW);
-    }
+    let end = window_end(top)?;
     let trials = shelf_trials(mean);
-    let last = last_entry(trials, top as u16);
+    let last = last_entry(trials, end.count);
     if table.len() <= (last as usize) {
-        return Written::Refused(TOO_SHORT);
+        return Err(Refusal::TooShort);
     }
     write_table(trials, shelf.alpha, shelf.beta, last, table);
-    Written::Items((last as usize) + 1)
+    Ok((last as usize) + 1)
 }
 
 // ln((1 - share) e^lobe + share e^shelf).
@@ -119,13 +114,14 @@ pub fn mix_shelf(lobe: f64, s: Shelf, shelf: f64) -> f64
 }
 
 // The log density of the single-copy component: its lobe, and the shelf where there is one.
-pub fn ln_single_copy(count: f64, mean: f64, dispersion: f64, shelf: ShelfPart) -> f64
+#[tactic(auto, unfolding(crate::specs::Shelves::ln_single_copy_of))]
+pub fn ln_single_copy(count: f64, mean: f64, dispersion: f64, shelf: Option<Shelf>) -> f64
     ensures { result ≡ ln_single_copy_of count mean dispersion shelf }
 {
     let lobe = ln_dnbinom(count, mean, dispersion);
     match shelf {
-        ShelfPart::Absent => lobe,
-        ShelfPart::Present(s) => mix_shelf(
+        None => lobe,
+        Some(s) => mix_shelf(
             lobe,
             s,
             ln_dbetabinom(count, shelf_trials(mean), s.alpha, s.beta),
@@ -138,11 +134,7 @@ pub(crate) fn entry_at(count: f64, table: &[f64]) -> f64
     ensures { result ≡ entry_at_of count table.now }
 {
     let i = to_u64(count) as usize;
-    if i < table.len() {
-        table[i]
-    } else {
-        -1.0 / 0.0
-    }
+    table.get(i).copied().unwrap_or(f64::NEG_INFINITY)
 }
 
 // ln(1 - share) and ln(share), which do not change with the count; 0 and -inf where there is no shelf.
@@ -152,15 +144,15 @@ pub struct ShelfLogs {
     pub share: f64,
 }
 
-pub fn shelf_logs(shelf: ShelfPart) -> ShelfLogs
+pub fn shelf_logs(shelf: Option<Shelf>) -> ShelfLogs
     ensures { result ≡ shelf_logs_of shelf }
 {
     match shelf {
-        ShelfPart::Absent => ShelfLogs {
+        None => ShelfLogs {
             rest: 0.0,
-            share: -1.0 / 0.0,
+            share: f64::NEG_INFINITY,
         },
-        ShelfPart::Present(s) => ShelfLogs {
+        Some(s) => ShelfLogs {
             rest: ln(1.0 - s.share),
             share: ln(s.share),
         },
@@ -168,12 +160,12 @@ pub fn shelf_logs(shelf: ShelfPart) -> ShelfLogs
 }
 
 // The single-copy log density from its lobe's, with the shelf's logs at hand and the shelf read from its table.
-pub fn mix_entry(lobe: f64, count: f64, shelf: ShelfPart, logs: ShelfLogs, table: &[f64]) -> f64
+pub fn mix_entry(lobe: f64, count: f64, shelf: Option<Shelf>, logs: ShelfLogs, table: &[f64]) -> f64
     ensures { result ≡ mix_entry_of lobe count shelf logs table.now }
 {
     match shelf {
-        ShelfPart::Absent => lobe,
-        ShelfPart::Present(_) => {
+        None => lobe,
+        Some(_) => {
             let entry = entry_at(count, table);
             lse2(logs.rest + lobe, logs.share + entry)
         }
@@ -181,7 +173,7 @@ pub fn mix_entry(lobe: f64, count: f64, shelf: ShelfPart, logs: ShelfLogs, table
 }
 
 // The single-copy log density from its lobe's, with the shelf read from its table.
-pub fn mix_single_copy(lobe: f64, count: f64, shelf: ShelfPart, table: &[f64]) -> f64
+pub fn mix_single_copy(lobe: f64, count: f64, shelf: Option<Shelf>, table: &[f64]) -> f64
     ensures { result ≡ mix_single_copy_of lobe count shelf table.now }
 {
     mix_entry(lobe, count, shelf, shelf_logs(shelf), table)

@@ -8,7 +8,7 @@ ghost use Rattle.helpers.specs.SingleCopies.{single_density_with, single_density
 
 use crate::hoists::{Lobe, density_with, lobe_of};
 use crate::log_sums::lse2;
-use crate::shelves::{ShelfLogs, ShelfPart, shelf_logs, shelf_trials};
+use crate::shelves::{Shelf, ShelfLogs, shelf_logs, shelf_trials};
 use routines::lgamma::lgamma;
 
 // What a beta-binomial's density has in common at every count: lgamma(trials + 1), lgamma(trials + alpha + beta), and
@@ -37,32 +37,24 @@ pub fn beta_binomial_of(trials: f64, alpha: f64, beta: f64) -> BetaBinomial
 }
 
 // The log density of a beta-binomial at x, with lgamma(x + 1) at hand; -inf above its trials.
+#[tactic(auto, unfolding(crate::specs::SingleCopies::beta_density_of))]
 pub fn beta_density(b: BetaBinomial, x: f64, gamma: f64) -> f64
     ensures { result ≡ beta_density_of b x gamma }
 {
     if x > b.trials {
-        return -1.0 / 0.0;
+        return f64::NEG_INFINITY;
     }
     b.all - gamma - lgamma(b.trials - x + 1.0) + lgamma(x + b.alpha) + lgamma(b.trials - x + b.beta)
         - b.spread
         - b.shape
 }
 
-// The beta-binomial of a shelf, where there is one.
-#[derive(Clone, Copy)]
-pub enum BetaPart {
-    Absent,
-    Present(BetaBinomial),
-}
-
-fn beta_part(mean: f64, shelf: ShelfPart) -> BetaPart
+fn beta_part(mean: f64, shelf: Option<Shelf>) -> Option<BetaBinomial>
     ensures { result ≡ beta_part_of mean shelf }
 {
     match shelf {
-        ShelfPart::Absent => BetaPart::Absent,
-        ShelfPart::Present(s) => {
-            BetaPart::Present(beta_binomial_of(shelf_trials(mean), s.alpha, s.beta))
-        }
+        None => None,
+        Some(s) => { Some(beta_binomial_of(shelf_trials(mean), s.alpha, s.beta)) }
     }
 }
 
@@ -71,10 +63,11 @@ fn beta_part(mean: f64, shelf: ShelfPart) -> BetaPart
 pub struct SingleCopy {
     pub lobe: Lobe,
     pub logs: ShelfLogs,
-    pub beta: BetaPart,
+    pub beta: Option<BetaBinomial>,
 }
 
-pub fn single_copy_of(mean: f64, dispersion: f64, shelf: ShelfPart) -> SingleCopy
+#[tactic(auto, unfolding(crate::specs::SingleCopies::single_copy_of))]
+pub fn single_copy_of(mean: f64, dispersion: f64, shelf: Option<Shelf>) -> SingleCopy
     ensures { result ≡ single_copy_of mean dispersion shelf }
 {
     SingleCopy {
@@ -85,6 +78,7 @@ pub fn single_copy_of(mean: f64, dispersion: f64, shelf: ShelfPart) -> SingleCop
 }
 
 // The log density of the single-copy component at x, with lgamma(x + 1) at hand.
+#[tactic(auto, unfolding(crate::specs::SingleCopies::single_density_with))]
 pub fn single_density_with(single: SingleCopy, x: f64, gamma: f64) -> f64
     ensures { result ≡ single_density_with single x gamma }
 {
@@ -92,12 +86,13 @@ pub fn single_density_with(single: SingleCopy, x: f64, gamma: f64) -> f64
     let beta = single.beta;
     let lobe = density_with(single.lobe, x, gamma);
     match beta {
-        BetaPart::Absent => lobe,
-        BetaPart::Present(b) => lse2(logs.rest + lobe, logs.share + beta_density(b, x, gamma)),
+        None => lobe,
+        Some(b) => lse2(logs.rest + lobe, logs.share + beta_density(b, x, gamma)),
     }
 }
 
 // The log density of the single-copy component at x.
+#[tactic(auto, unfolding(crate::specs::SingleCopies::single_density_of))]
 pub fn single_density(single: SingleCopy, x: f64) -> f64
     ensures { result ≡ single_density_of single x }
 {

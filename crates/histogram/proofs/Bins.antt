@@ -6,7 +6,8 @@ use mathlib.Core.Path.{◌≡◌, refl, ap, ◌∙◌}
 use mathlib.Core.List.{List, [], ◌∷◌, ◌++◌}
 use native.Mathlib.Omega.{arith}
 use Rattle.meaning.specs.Reply.{broken, give}
-use Rattle.histogram.specs.Number.{Found, between, number_at_of}
+use Rattle.histogram.specs.declared.number.Found.{Found}
+use Rattle.histogram.specs.Number.{between, number_at_of}
 use Rattle.histogram.specs.File.{most_bins, form, count, bins, range_of, next_of, ends_of, read_from, read_of}
 use Rattle.histogram.proofs.Steps.{goes, breaks}
 

@@ -2,6 +2,7 @@
 use Prim.Native.Nat.{ℕ, suc, ◌+◌, ◌*◌, ◌^◌, ◌≤◌, ◌<◌}
 use mathlib.Core.Path.{◌≡◌, refl, ap, ◌∙◌}
 use mathlib.Core.List.{List, [], ◌∷◌, ◌++◌}
+use native.Mathlib.Numerals.{add-one}
 use native.Mathlib.Omega.{arith}
 use lib.ListN.{length, get_or, drop, length-append, drop_of_length-le}
 use lib.Seq.{drop-cons}
@@ -18,6 +19,14 @@ module _ (xs : List ℕ) (k : ℕ) where
   pub no-bytes-left : length xs ≤ k → numbers_bytes (drop k xs) ≡ []
   unfolding numbers_bytes
   no-bytes-left h = rw (drop_of_length-le xs h)
+
+-- the bytes of a number at its place, in front of those behind it: what a loop's turn puts, and how many they are
+module _ (xs : List ℕ) (k v : ℕ) (h : k < length xs) (e : v ≡ get_or xs k 0) where
+  pub bytes-turn : numbers_bytes (drop k xs) ≡ number_bytes v ++ numbers_bytes (drop (k + 1) xs)
+  bytes-turn = rw (bytes-from xs k h, e, add-one k)
+
+  pub size-turn : length (numbers_bytes (drop k xs)) ≡ length (number_bytes v) + length (numbers_bytes (drop (k + 1) xs))
+  size-turn = ap length bytes-turn ∙ length-append (number_bytes v) (numbers_bytes (drop (k + 1) xs))
 
 -- the form takes one byte
 pub file-bytes : (xs : List ℕ) → write_of xs ≡ 1 ∷ (number_bytes (length xs) ++ numbers_bytes xs)

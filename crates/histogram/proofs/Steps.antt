@@ -11,7 +11,8 @@ use Rattle.meaning.specs.Reply.{refuse, broken, give}
 use Rattle.meaning.proofs.Replies.{same_answer, same_place, answer-not-refused, answer-not-broken, refused-not-broken}
 use Rattle.histogram.specs.declared.number.Taken.{Taken}
 use Rattle.histogram.specs.declared.number.Taken.TheVariants.{More, Whole, Wrong}
-use Rattle.histogram.specs.Number.{Found, take_byte_of, found_by, number_from, number_at_of}
+use Rattle.histogram.specs.declared.number.Found.{Found}
+use Rattle.histogram.specs.Number.{take_byte_of, found_by, number_from, number_at_of}
 use Rattle.histogram.specs.File.{Stage, form, count, bins, range_of, next_of, State, reading, stopped, goes_on}
 use Rattle.histogram.specs.File.{step_of, steps_of, ends_of, end_of, read_from}
 use Rattle.histogram.proofs.Takes as takes

@@ -2,17 +2,20 @@
 -- the writer's calls promise; a file is a list of bytes, which is what
 -- `Below 256` says. Assumes nothing.
 use Prim.Native.Nat.{ℕ, ◌≤◌, ◌<◌}
-use mathlib.Core.Path.{◌≡◌, ap}
+use mathlib.Core.Path.{◌≡◌, refl, ap}
 use mathlib.Core.List.{List, ◌∷◌, ◌++◌}
 use mathlib.Core.Logic.{◌⊎◌}
 use lib.ListN.{length, take}
 use Rattle.meaning.specs.Reply.{refuse, broken, give}
-use Rattle.meaning.proofs.Replies.{same_answer}
+use Rattle.std.specs.Prelude.{Option, Some, None, Result, Ok, Err}
+use Rattle.meaning.proofs.Replies.{same_answer, same_number}
+use Rattle.meaning.proofs.Says.{refusal_same}
 use Rattle.meaning.proofs.Unique.{once}
-use Rattle.histogram.specs.declared.reader.FileRead.{FileRead}
-use Rattle.histogram.specs.declared.reader.FileRead.TheVariants.{Bins, Broken, Refused}
-use Rattle.histogram.specs.declared.number.Number.{Number}
-use Rattle.histogram.specs.Number.{Found, number_says, number_bytes, numbers_bytes}
+use Rattle.meaning.specs.declared.refusals.Refusal.{Refusal}
+use Rattle.histogram.specs.declared.reader.ReadError.{ReadError}
+use Rattle.histogram.specs.declared.reader.ReadError.TheVariants.{Broken, Refused}
+use Rattle.histogram.specs.declared.number.Found.{Found}
+use Rattle.histogram.specs.Number.{number_says, number_bytes, numbers_bytes}
 use Rattle.histogram.specs.File.{State, form, range_of, reading, stopped, steps_of, read_of, write_of}
 use Rattle.histogram.specs.Read.{file_says}
 use Rattle.histogram.specs.Claims.{Below, Histogram, Continued, In, Allowed, behind, Complete, FirstFault}
@@ -93,25 +96,20 @@ pub first-bytes-decide : (file : List ℕ) → Below 256 file → (n : ℕ) → 
 first-bytes-decide = longest.first-bytes-decide
 
 -- ---- the calls' answers are told apart, so two programs that keep a promise give equal answers
-pub file-says-injective : (a b : FileRead) → file_says a ≡ file_says b → a ≡ b
-file-says-injective (Bins n) (Bins m) e = cc
-file-says-injective (Bins n) (Broken p) e = cc
-file-says-injective (Bins n) (Refused k) e = cc
-file-says-injective (Broken p) (Bins m) e = cc
-file-says-injective (Broken p) (Broken q) e = cc
-file-says-injective (Broken p) (Refused k) e = cc
-file-says-injective (Refused k) (Bins m) e = cc
-file-says-injective (Refused k) (Broken q) e = cc
-file-says-injective (Refused k) (Refused l) e = cc
+pub file-says-injective : (a b : Result ℕ ReadError) → file_says a ≡ file_says b → a ≡ b
+file-says-injective (Ok n) (Ok m) e = cc
+file-says-injective (Ok n) (Err (Broken p)) e = cc
+file-says-injective (Ok n) (Err (Refused k)) e = cc
+file-says-injective (Err (Broken p)) (Ok m) e = cc
+file-says-injective (Err (Broken p)) (Err (Broken q)) e = cc
+file-says-injective (Err (Broken p)) (Err (Refused k)) e = cc
+file-says-injective (Err (Refused k)) (Ok m) e = cc
+file-says-injective (Err (Refused k)) (Err (Broken q)) e = cc
+file-says-injective (Err (Refused k)) (Err (Refused l)) e =
+    ap (λ (r : Refusal). Err (Refused r)) (refusal_same k l (same_number e))
 
-number_same : (n p m q : ℕ) → ◌≡◌ {A = Found} (record { value = n; next = p }) (record { value = m; next = q }) → Number.Is n p ≡ Number.Is m q
-number_same n p m q e =
-    let v : n ≡ m = ap (λ (f : Found). f.value) e in
-    let w : p ≡ q = ap (λ (f : Found). f.next) e in
-    cc
-
-pub number-says-injective : (a b : Number) → number_says a ≡ number_says b → a ≡ b
-number-says-injective (Number.Is n p) (Number.Is m q) e = number_same n p m q (same_answer e)
-number-says-injective (Number.Is n p) (Number.Broken q) e = cc
-number-says-injective (Number.Broken p) (Number.Is m q) e = cc
-number-says-injective (Number.Broken p) (Number.Broken q) e = cc
+pub number-says-injective : (start : ℕ) (a b : Option Found) → number_says start a ≡ number_says start b → a ≡ b
+number-says-injective start (Some f) (Some g) e = ap Some (same_answer e)
+number-says-injective start (Some f) None e = cc
+number-says-injective start None (Some g) e = cc
+number-says-injective start None None e = refl

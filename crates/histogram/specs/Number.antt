@@ -3,11 +3,11 @@
 -- Reading takes a byte at a time, and gives a number up at the first byte after which none of its range can come.
 -- Definitions only. Assumes nothing.
 use Rattle.std.specs.Prelude.{ℕ, zero, suc, ◌+◌, ◌*◌, ◌/◌, ◌%◌, ◌^◌, cond, ◌&&◌, ◌||◌, List, [], ◌∷◌, ◌++◌, ltb, eqb}
-use Rattle.std.specs.Prelude.{drop}
+use Rattle.std.specs.Prelude.{drop, Option, Some, None}
 use Rattle.meaning.specs.Reply.{Reply, broken, give}
 use Rattle.histogram.specs.declared.number.Taken.{Taken}
 use Rattle.histogram.specs.declared.number.Taken.TheVariants.{More, Whole, Wrong}
-use Rattle.histogram.specs.declared.number.Number.{Number}
+use Rattle.histogram.specs.declared.number.Found.{Found}
 
 -- ---- writing
 
@@ -54,11 +54,6 @@ take_byte_of range value groups byte =
 
 -- ---- reading a number
 
--- a number and the place behind it
-pub record Found : Type 0 where
-  pub value : ℕ
-  pub next : ℕ
-
 abbrev pub found_by : Taken → ℕ → ℕ → (ℕ → Reply Found) → Reply Found
 found_by (More value) start next on = on value
 found_by (Whole n) start next on = give (record { value = n; next = next })
@@ -74,6 +69,7 @@ number_from range start value groups (byte ∷ rest) =
 unfoldable pub number_at_of : Range → List ℕ → ℕ → Reply Found
 number_at_of range file start = number_from range start 0 0 (drop start file)
 
-abbrev pub number_says : Number → Reply Found
-number_says (Number.Is n next) = give (record { value = n; next = next })
-number_says (Number.Broken place) = broken place
+-- the place of a number at fault is where it starts
+abbrev pub number_says : ℕ → Option Found → Reply Found
+number_says start (Some found) = give found
+number_says start None = broken start

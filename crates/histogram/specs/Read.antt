@@ -1,9 +1,10 @@
 -- The reader's call: 3 with its place, then 10; otherwise the bins. Definitions only. Assumes nothing.
-use Rattle.std.specs.Prelude.{ℕ, List, length, take}
+use Rattle.std.specs.Prelude.{ℕ, List, length, take, Result, Ok, Err}
 use Rattle.meaning.specs.Reply.{Reply, refuse, broken, give, chain}
+use Rattle.meaning.specs.Answers.{number_of}
 use Rattle.meaning.specs.Rows.{too_short}
-use Rattle.histogram.specs.declared.reader.FileRead.{FileRead}
-use Rattle.histogram.specs.declared.reader.FileRead.TheVariants.{Bins, Broken, Refused}
+use Rattle.histogram.specs.declared.reader.ReadError.{ReadError}
+use Rattle.histogram.specs.declared.reader.ReadError.TheVariants.{Broken, Refused}
 use Rattle.histogram.specs.File.{read_of}
 
 -- into a slice of so many bins
@@ -15,20 +16,17 @@ fits_in room (give xs) = chain (too_short room (length xs)) (give xs)
 unfoldable pub read_histogram_of : List ℕ → ℕ → Reply (List ℕ)
 read_histogram_of file room = fits_in room (read_of file)
 
+-- the place or the number of an error
+abbrev pub error_says : {A : Type 0} → ReadError → Reply A
+error_says (Broken place) = broken place
+error_says (Refused refusal) = refuse (number_of refusal)
+
 -- the paper's number and values for each answer
-abbrev pub file_says : FileRead → Reply ℕ
-file_says (Bins n) = give n
-file_says (Broken place) = broken place
-file_says (Refused n) = refuse n
+abbrev pub file_says : Result ℕ ReadError → Reply ℕ
+file_says (Ok n) = give n
+file_says (Err error) = error_says error
 
--- the same answer before the bins, which stand at the front of held, are handed over
-abbrev pub held_says : FileRead → List ℕ → Reply (List ℕ)
-held_says (Bins n) held = give (take n held)
-held_says (Broken place) held = broken place
-held_says (Refused n) held = refuse n
-
--- how many bins an answer hands over
-abbrev pub kept_of : FileRead → ℕ
-kept_of (Bins n) = n
-kept_of (Broken place) = 0
-kept_of (Refused n) = 0
+-- the same answer before the bins, of which n stand at the front of held, are handed over
+abbrev pub held_says : ℕ → Result (Unit {0}) ReadError → List ℕ → Reply (List ℕ)
+held_says n (Ok done) held = give (take n held)
+held_says n (Err error) held = error_says error

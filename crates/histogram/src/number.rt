@@ -3,8 +3,6 @@
 ghost use Rattle.std.specs.Prelude.{◌≡◌, ◌≤◌, ◌^◌, length};
 ghost use Rattle.histogram.specs.Number.{number_bytes, between, take_byte_of, number_at_of, number_says};
 
-use meaning::bytes::wide;
-
 // What a byte makes of a number: its value so far, with another group to come; the number; or nothing that its range
 // allows.
 #[derive(Clone, Copy)]
@@ -14,11 +12,11 @@ pub enum Taken {
     Wrong,
 }
 
-// A number and the place behind it, or the place of one at fault, which is where it starts.
+// A number and the place behind it.
 #[derive(Clone, Copy)]
-pub enum Number {
-    Is(u64, usize),
-    Broken(usize),
+pub struct Found {
+    pub value: u64,
+    pub next: usize,
 }
 
 // What a tenth group counts. A range that ends below has none, and of any other only a 1 fits.
@@ -52,7 +50,7 @@ fn take_byte(least: u64, most: u64, value: u64, groups: usize, weight: u64, byte
     if groups > 8 {
         return tenth_byte(least, most, value, byte);
     }
-    let put = wide(byte % 128) * weight;
+    let put = u64::from(byte % 128) * weight;
     if most - value < put {
         return Taken::Wrong;
     }
@@ -75,26 +73,25 @@ fn take_byte(least: u64, most: u64, value: u64, groups: usize, weight: u64, byte
     Taken::More(sum)
 }
 
-// The number from `least` to `most` at a place of a file.
-pub fn number_at(file: &[u8], start: usize, least: u64, most: u64) -> Number
-    ensures { number_says result ≡ number_at_of (between least most) file.now start }
+// The number from `least` to `most` at a place of a file. None is one at fault, whose place is where it starts.
+pub fn number_at(file: &[u8], start: usize, least: u64, most: u64) -> Option<Found>
+    ensures { number_says start result ≡ number_at_of (between least most) file.now start }
 {
     let mut value: u64 = 0;
     let mut weight: u64 = 1;
-    let mut at = start;
-    while at < file.len() {
-        let taken = take_byte(least, most, value, at - start, weight, file[at]);
-        at += 1;
+    for i in start..file.len() {
+        let taken = take_byte(least, most, value, i - start, weight, file[i]);
+        let at = i + 1;
         match taken {
             Taken::More(so_far) => {
                 value = so_far;
                 weight *= 128;
             }
-            Taken::Whole(n) => return Number::Is(n, at),
-            Taken::Wrong => return Number::Broken(start),
+            Taken::Whole(n) => return Some(Found { value: n, next: at }),
+            Taken::Wrong => return None,
         }
     }
-    Number::Broken(start)
+    None
 }
 
 // How many bytes a number takes: one more for each power of 128 that it reaches.

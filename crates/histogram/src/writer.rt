@@ -5,12 +5,11 @@ ghost use Rattle.histogram.specs.File.{most_bins, write_of};
 ghost use Rattle.meaning.specs.Over.{over};
 ghost use Rattle.meaning.specs.Lent.{laid, counted};
 ghost use Rattle.histogram.specs.Write.{write_histogram_of};
-ghost use Rattle.meaning.specs.Answers.{written_says};
+ghost use Rattle.meaning.specs.Answers.{reply_of};
 
 use crate::number::number_size;
 use crate::reader::MAX_FILE_BINS;
-use meaning::answers::Written;
-use meaning::refusals::{TOO_LARGE, TOO_SHORT, TOO_SMALL};
+use meaning::refusals::Refusal;
 use meaning::wholes::wide;
 
 // A number to the front of the lent bytes, and how many that is.
@@ -20,6 +19,7 @@ fn put_number(out: &mut [u8], n: u64) -> usize
 {
     let mut left = n;
     let mut at: usize = 0;
+    // A while: what is left says how many turns there are, and no range does.
     while left >= 128 {
         out[at] = (128 + left % 128) as u8;
         left /= 128;
@@ -35,10 +35,8 @@ fn file_size(bins: &[u32]) -> usize
     ensures { result ≡ length (write_of bins.now) }
 {
     let mut size = 1 + number_size(bins.len() as u64);
-    let mut k = 0;
-    while k < bins.len() {
-        size += number_size(wide(bins[k]));
-        k += 1;
+    for bin in bins {
+        size += number_size(u64::from(*bin));
     }
     size
 }
@@ -50,10 +48,8 @@ fn put_bins(out: &mut [u8], bins: &[u32]) -> usize
         × (out.new ≡ over (numbers_bytes bins.now) out.old) }
 {
     let mut at: usize = 0;
-    let mut k = 0;
-    while k < bins.len() {
-        at += put_number(&mut out[at..], wide(bins[k]));
-        k += 1;
+    for bin in bins {
+        at += put_number(&mut out[at..], u64::from(*bin));
     }
     at
 }
@@ -72,22 +68,22 @@ fn put_file(out: &mut [u8], bins: &[u32]) -> usize
 // The file of some bins into the first of the lent bytes; 1 for fewer than 2 bins, 2 for more than a file holds, 10
 // where the bytes are too few.
 // A refusal writes nothing, and the bytes past the file stand as found.
-pub fn write_histogram(bins: &[u32], out: &mut [u8]) -> Written
-    ensures result_value { written_says result ≡ counted (write_histogram_of bins.now (length out.old)) }
+pub fn write_histogram(bins: &[u32], out: &mut [u8]) -> Result<usize, Refusal>
+    ensures result_value { reply_of result ≡ counted (write_histogram_of bins.now (length out.old)) }
     ensures out_after { out.new
         ≡ laid (write_histogram_of bins.now (length out.old)) out.old }
 {
     if bins.len() < 2 {
-        return Written::Refused(TOO_SMALL);
+        return Err(Refusal::TooSmall);
     }
     if bins.len() > MAX_FILE_BINS {
-        return Written::Refused(TOO_LARGE);
+        return Err(Refusal::TooLarge);
     }
     // no file is longer: a byte for the form, two for the bin count and five for each bin
     if out.len() < 3 + 5 * bins.len() {
         if out.len() < file_size(bins) {
-            return Written::Refused(TOO_SHORT);
+            return Err(Refusal::TooShort);
         }
     }
-    Written::Items(put_file(out, bins))
+    Ok(put_file(out, bins))
 }

@@ -11,21 +11,21 @@ use borrow.Author.Tests.{le-ltb}
 use Rattle.std.specs.Counts.{IsPrefixLen}
 use Rattle.meaning.specs.Reply.{Reply, refuse, broken, give, unless}
 use Rattle.meaning.proofs.Replies.{same_answer, same_place, answer-not-refused, answer-not-broken, refused-not-broken}
-use Rattle.meaning.specs.declared.answers.Written.{Written}
-use Rattle.meaning.specs.declared.answers.Written.TheVariants.{Items, Refused}
 use Rattle.histogram.specs.Claims.{Below, Histogram}
 use Rattle.histogram.specs.File.{most_bins, read_of}
 use Rattle.meaning.specs.Over.{over}
 use Rattle.meaning.specs.Lent.{laid, counted}
 use Rattle.histogram.specs.Read.{fits_in, read_histogram_of}
-use Rattle.meaning.specs.Answers.{written_says}
 use Rattle.meaning.proofs.Overs.{over-length}
 use Rattle.histogram.proofs.Theorems.{accepted-holds, never-refused}
 use Rattle.listing.specs.Listing.{listed_of, list_of, listing_of, refusal_of, list_histogram_of, list_refusal_of}
 use Rattle.listing.specs.Listing.{longest_listing}
 use Rattle.listing.proofs.Longest.{listing-fits, refusal-fits}
 use Rattle.listing.proofs.Refusals.{lists, line-written}
-use Rattle.list.specs.Items.{items_of}
+use Rattle.std.specs.Result.{result_unwrap_or}
+use Rattle.std.specs.Prelude.{Result, Ok, Err}
+use Rattle.meaning.specs.declared.refusals.Refusal.{Refusal}
+use Rattle.meaning.specs.Answers.{reply_of}
 
 -- ---- what the reader's answer tells of the file
 -- n bins
@@ -88,15 +88,15 @@ front file b out room n x h e =
     (omega (arith, x.many), ap (take n) o ∙ take_at x.xs (drop (length x.xs) b) n x.many)
 
 -- ---- what is written
-module _ (answer : List ℕ) (b out : List ℕ) (w : Written) (fit : length answer ≤ length b) (says : written_says w ≡ give (length answer)) (held : out ≡ over answer b) where
-  many : items_of w ≡ length answer
+module _ (answer : List ℕ) (b out : List ℕ) (w : Result ℕ Refusal) (fit : length answer ≤ length b) (says : reply_of w ≡ give (length answer)) (held : out ≡ over answer b) where
+  many : result_unwrap_or w 0 ≡ length answer
   many = told w says
     where
-      told : (v : Written) → written_says v ≡ give (length answer) → items_of v ≡ length answer
-      told (Items n) e = same_answer e
-      told (Refused n) e = absurd (answer-not-refused (sym e))
+      told : (v : Result ℕ Refusal) → reply_of v ≡ give (length answer) → result_unwrap_or v 0 ≡ length answer
+      told (Ok n) e = same_answer e
+      told (Err n) e = absurd (answer-not-refused (sym e))
 
-  pub written : (r : ℕ) → r ≡ items_of w → IsPrefixLen r out × (take r out ≡ answer)
+  pub written : (r : ℕ) → r ≡ result_unwrap_or w 0 → IsPrefixLen r out × (take r out ≡ answer)
   unfolding over
   written r e =
       let l : r ≡ length answer = e ∙ many in
@@ -105,9 +105,10 @@ module _ (answer : List ℕ) (b out : List ℕ) (w : Written) (fit : length answ
       ((h, sym (length-take-le r out h)), ap (take r) held ∙ take_at answer (drop (length answer) b) r (sym l))
 
 -- ---- from what the two calls answer to what the program writes
-module _ (file b out : List ℕ) (w : Written) (long : longest_listing ≤ length b) (r : ℕ) (e : r ≡ items_of w) where
+module _ (file b out : List ℕ) (w : Result ℕ Refusal) (long : longest_listing ≤ length b) (r : ℕ)
+    (e : r ≡ result_unwrap_or w 0) where
   pub lists-bins : (part xs : List ℕ) → part ≡ xs → read_of file ≡ give xs → Histogram xs
-      → written_says w ≡ counted (list_histogram_of part (length b)) → out ≡ laid (list_histogram_of part (length b)) b → IsPrefixLen r out × (take r out ≡ list_of file)
+      → reply_of w ≡ counted (list_histogram_of part (length b)) → out ≡ laid (list_histogram_of part (length b)) b → IsPrefixLen r out × (take r out ≡ list_of file)
   unfolding most_bins
   lists-bins part xs p q h says held =
       let f = listing-fits xs h in
@@ -117,7 +118,7 @@ module _ (file b out : List ℕ) (w : Written) (long : longest_listing ≤ lengt
       (t.0, t.1 ∙ sym (ap listed_of q))
 
   pub lists-place : (place : ℕ) → place < 2 ^ 64 → read_of file ≡ broken place
-      → written_says w ≡ counted (list_refusal_of place (length b)) → out ≡ laid (list_refusal_of place (length b)) b → IsPrefixLen r out × (take r out ≡ list_of file)
+      → reply_of w ≡ counted (list_refusal_of place (length b)) → out ≡ laid (list_refusal_of place (length b)) b → IsPrefixLen r out × (take r out ≡ list_of file)
   lists-place place h q says held =
       let f = refusal-fits place h in
       let l : length (refusal_of place) ≤ length b = omega arith in

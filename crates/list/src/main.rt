@@ -7,31 +7,21 @@ ghost use Rattle.std.specs.Prelude.{◌≡◌, ◌+◌, ◌≤◌, length, take}
 ghost use Rattle.std.specs.Counts.{IsPrefixLen};
 ghost use Rattle.histogram.specs.Claims.{longest_file};
 ghost use Rattle.listing.specs.Listing.{list_of, longest_listing};
-ghost use Rattle.list.specs.Items.{items_of};
 
-use histogram::reader::{FileRead, LONGEST_FILE, MAX_FILE_BINS, read_histogram};
+use histogram::reader::{LONGEST_FILE, MAX_FILE_BINS, ReadError, read_histogram};
 use listing::text::{LONGEST_LISTING, list_histogram, list_refusal};
-use meaning::answers::Written;
 use status::{asks_status, has_word, tell};
 use std::io;
 use std::rt::Runtime;
 use streams::failure::fail;
-use streams::input::{Input, read_input};
+use streams::input::read_input;
 use streams::output::{settle_output, write_output};
 
 // One byte more than the longest accepted file has.
 const ENOUGH: usize = LONGEST_FILE + 1;
 
-fn items(written: Written) -> usize
-    ensures { result ≡ items_of written }
-{
-    match written {
-        Written::Items(n) => n,
-        Written::Refused(_) => 0,
-    }
-}
-
 // Zeros, to be filled with the first bytes of a file. What lies behind so many changes no answer (`whole-file`).
+#[tactic(auto, unfolding(histogram::specs::File::most_bins))]
 fn first_bytes() -> [u8; ENOUGH]
     ensures { longest_file + 1 ≡ length result }
 {
@@ -44,16 +34,18 @@ fn list(file: &[u8], text: &mut [u8]) -> usize
     ensures prefix_len { IsPrefixLen result text.new }
     ensures text_after { take result text.new ≡ list_of file.now }
 {
+    // Room for the longest file, since the project has no heap.
     let mut bins = [0u32; MAX_FILE_BINS];
     let read = read_histogram(file, &mut bins);
     match read {
-        FileRead::Bins(n) => items(list_histogram(&bins[..n], text)),
-        FileRead::Broken(place) => items(list_refusal(place, text)),
-        FileRead::Refused(_) => 0,
+        Ok(n) => list_histogram(&bins[..n], text).unwrap_or(0),
+        Err(ReadError::Broken(place)) => list_refusal(place, text).unwrap_or(0),
+        Err(ReadError::Refused(_)) => 0,
     }
 }
 
 // Writes a file's listing, and waits for the disk, since some disks tell of a failed write only then.
+#[tactic(auto, unfolding(histogram::specs::File::most_bins))]
 fn show<R: Runtime>(rt: &R, file: &[u8], status: bool) {
     let mut text = [0u8; LONGEST_LISTING];
     let size = list(file, &mut text);
@@ -85,7 +77,7 @@ fn main(rt: HostRuntime) {
     let mut file = first_bytes();
     let input = read_input(&mut rt.stdin(), &mut file);
     match input {
-        Input::Bytes(n) => show(&rt, &file[..n], status),
-        Input::Failed(e) => fail(&rt, "list: reading", e),
+        Ok(n) => show(&rt, &file[..n], status),
+        Err(e) => fail(&rt, "list: reading", e),
     }
 }

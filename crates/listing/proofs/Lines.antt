@@ -1,7 +1,8 @@
 -- The lines of a listing, taken apart at a count, and how long they are. Assumes nothing.
 use Prim.Native.Nat.{ℕ, suc, ◌+◌, ◌*◌, ◌^◌, ◌≤◌, ◌<◌}
-use mathlib.Core.Path.{◌≡◌}
+use mathlib.Core.Path.{◌≡◌, ap, ◌∙◌}
 use mathlib.Core.List.{List, [], ◌∷◌, ◌++◌}
+use native.Mathlib.Numerals.{add-one}
 use native.Mathlib.Omega.{arith}
 use lib.ListN.{length, get_or, drop, length-append, drop_of_length-le}
 use lib.Seq.{drop-cons}
@@ -40,6 +41,14 @@ module _ (xs : List ℕ) (k : ℕ) where
   pub no-rows-left : length xs ≤ k → rows_of (suc k) (drop k xs) ≡ []
   unfolding rows_of
   no-rows-left h = rw (drop_of_length-le xs h)
+
+-- the row of a bin at its place, in front of those behind it: what a loop's turn puts, and how long it is
+module _ (xs : List ℕ) (k v : ℕ) (h : k < length xs) (e : v ≡ get_or xs k 0) where
+  pub rows-turn : rows_of (suc k) (drop k xs) ≡ row_of (k + 1) v ++ rows_of (suc (k + 1)) (drop (k + 1) xs)
+  rows-turn = rw (rows-from xs k h, e, add-one k)
+
+  pub size-turn : length (rows_of (suc k) (drop k xs)) ≡ length (row_of (k + 1) v) + length (rows_of (suc (k + 1)) (drop (k + 1) xs))
+  size-turn = ap length rows-turn ∙ length-append (row_of (k + 1) v) (rows_of (suc (k + 1)) (drop (k + 1) xs))
 
 -- ---- rows of counts of suc k digits and of bins
 ten-digits : (n : ℕ) → n < 2 ^ 32 → length (decimal_of n) ≤ 10

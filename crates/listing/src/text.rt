@@ -6,12 +6,11 @@ ghost use Rattle.meaning.specs.Over.{over};
 ghost use Rattle.meaning.specs.Rows.{most};
 ghost use Rattle.meaning.specs.Lent.{laid, counted};
 ghost use Rattle.listing.specs.Listing.{line_of, row_of, rows_of, list_histogram_of, list_refusal_of};
-ghost use Rattle.meaning.specs.Answers.{written_says};
+ghost use Rattle.meaning.specs.Answers.{reply_of};
 
 use histogram::reader::MAX_FILE_BINS;
-use meaning::answers::Written;
 use meaning::limits::MOST;
-use meaning::refusals::{TOO_LARGE, TOO_SHORT, TOO_SMALL};
+use meaning::refusals::Refusal;
 use meaning::wholes::wide;
 
 // No file's listing is longer: ten bytes for the first line, and for each bin four digits, ten digits, a space and the
@@ -24,6 +23,7 @@ fn decimal_size(n: u64) -> usize
 {
     let mut left = n;
     let mut size: usize = 1;
+    // A while: what is left says how many turns there are, and no range does.
     while left >= 10 {
         left /= 10;
         size += 1;
@@ -40,6 +40,7 @@ fn put_decimal(out: &mut [u8], n: u64) -> usize
     let size = decimal_size(n);
     let mut left = n;
     let mut at = size;
+    // A while, as in `decimal_size`.
     while left >= 10 {
         at -= 1;
         out[at] = (48 + left % 10) as u8;
@@ -50,19 +51,17 @@ fn put_decimal(out: &mut [u8], n: u64) -> usize
 }
 
 // A word to the front of the lent bytes, and how many bytes that is.
+#[tactic(auto, unfolding(meaning::specs::Over::over))]
 fn put_word(out: &mut [u8], word: &[u8]) -> usize
     requires { length word.now ≤ length out.old }
     ensures { (result ≡ length word.now) × (out.new ≡ over word.now out.old) }
 {
-    let mut k = 0;
-    while k < word.len() {
-        out[k] = word[k];
-        k += 1;
-    }
-    k
+    out[..word.len()].copy_from_slice(word);
+    word.len()
 }
 
 // A word, a number and the end of the line.
+#[tactic(auto, unfolding(crate::specs::Listing::line_of))]
 fn put_line(out: &mut [u8], word: &[u8], n: u64) -> usize
     requires { length (line_of word.now n) ≤ length out.old }
     ensures { (result ≡ length (line_of word.now n))
@@ -75,6 +74,7 @@ fn put_line(out: &mut [u8], word: &[u8], n: u64) -> usize
 }
 
 // A count and its bin.
+#[tactic(auto, unfolding(crate::specs::Listing::row_of))]
 fn put_row(out: &mut [u8], count: u64, n: u64) -> usize
     requires { length (row_of count n) ≤ length out.old }
     ensures { (result ≡ length (row_of count n)) × (out.new ≡ over (row_of count n) out.old) }
@@ -97,11 +97,8 @@ fn put_rows(out: &mut [u8], bins: &[u32]) -> usize
         × (out.new ≡ over (rows_of 1 bins.now) out.old) }
 {
     let mut at: usize = 0;
-    let mut k = 0;
-    while k < bins.len() {
-        let n = wide(bins[k]);
-        k += 1;
-        at += put_row(&mut out[at..], k as u64, n);
+    for (i, bin) in bins.iter().enumerate() {
+        at += put_row(&mut out[at..], (i as u64) + 1, u64::from(*bin));
     }
     at
 }
@@ -111,11 +108,8 @@ fn rows_size(bins: &[u32]) -> usize
     ensures { result ≡ length (rows_of 1 bins.now) }
 {
     let mut size: usize = 0;
-    let mut k = 0;
-    while k < bins.len() {
-        let n = wide(bins[k]);
-        k += 1;
-        size += row_size(k as u64, n);
+    for (i, bin) in bins.iter().enumerate() {
+        size += row_size((i as u64) + 1, u64::from(*bin));
     }
     size
 }
@@ -123,33 +117,33 @@ fn rows_size(bins: &[u32]) -> usize
 // The listing of some bins into the first of the lent bytes; 1 for fewer than 2 bins, 2 for more than 65,535, 10 where
 // the bytes are too few.
 // A refusal writes nothing, and the bytes past the listing stand as found.
-pub fn list_histogram(bins: &[u32], out: &mut [u8]) -> Written
-    ensures result_value { written_says result ≡ counted (list_histogram_of bins.now (length out.old)) }
+pub fn list_histogram(bins: &[u32], out: &mut [u8]) -> Result<usize, Refusal>
+    ensures result_value { reply_of result ≡ counted (list_histogram_of bins.now (length out.old)) }
     ensures out_after { out.new
         ≡ laid (list_histogram_of bins.now (length out.old)) out.old }
 {
     if bins.len() < 2 {
-        return Written::Refused(TOO_SMALL);
+        return Err(Refusal::TooSmall);
     }
     if bins.len() > MOST {
-        return Written::Refused(TOO_LARGE);
+        return Err(Refusal::TooLarge);
     }
     let count = bins.len() as u64;
     if out.len() < 6 + decimal_size(count) + rows_size(bins) {
-        return Written::Refused(TOO_SHORT);
+        return Err(Refusal::TooShort);
     }
     let first = put_line(out, b"bins ", count);
-    Written::Items(first + put_rows(&mut out[first..], bins))
+    Ok(first + put_rows(&mut out[first..], bins))
 }
 
 // The line for a file that is refused at a place, into the first of the lent bytes; 10 where they are too few.
 // A refusal writes nothing, and the bytes past the line stand as found.
-pub fn list_refusal(place: usize, out: &mut [u8]) -> Written
-    ensures result_value { written_says result ≡ counted (list_refusal_of place (length out.old)) }
+pub fn list_refusal(place: usize, out: &mut [u8]) -> Result<usize, Refusal>
+    ensures result_value { reply_of result ≡ counted (list_refusal_of place (length out.old)) }
     ensures out_after { out.new ≡ laid (list_refusal_of place (length out.old)) out.old }
 {
     if out.len() < 14 + decimal_size(place as u64) {
-        return Written::Refused(TOO_SHORT);
+        return Err(Refusal::TooShort);
     }
-    Written::Items(put_line(out, b"refused 3 at ", place as u64))
+    Ok(put_line(out, b"refused 3 at ", place as u64))
 }

@@ -1,5 +1,6 @@
 pub mod Numbers
 pub mod Reply
+pub mod Onward
 pub mod Rows
 pub mod Fold
 pub mod Table

@@ -11,8 +11,5 @@ pub fn is_set(b: u8) -> bool
 pub fn byte_of(b: bool) -> u8
     ensures { result ≡ byte_of b }
 {
-    if b {
-        return 1;
-    }
-    0
+    u8::from(b)
 }

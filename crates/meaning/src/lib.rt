@@ -2,7 +2,6 @@
 // the refusals, flags, bytes and wholes, and one limit.
 #![tactic(auto)]
 
-pub mod answers;
 pub mod bytes;
 pub mod flags;
 pub mod limits;

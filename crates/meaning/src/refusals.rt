@@ -1,21 +1,56 @@
-// The numbers that come back instead of an answer, in the order of document 01's table: the first that applies. Their
-// words stand in docs/NUMBERS.md.
-pub const TOO_SMALL: u8 = 1;
+// What comes back instead of an answer: the refusals in the order of docs/NUMBERS.md, the first that applies, each with
+// its number there and its words.
+ghost use Rattle.std.specs.Prelude.{◌≡◌};
+ghost use Rattle.meaning.specs.Answers.{number_of};
 
-pub const TOO_LARGE: u8 = 2;
+use std::error::Error;
+use std::fmt;
 
-pub const BROKEN_FILE: u8 = 3;
+#[derive(Clone, Copy, Debug, PartialEq, Eq, Hash)]
+pub enum Refusal {
+    TooSmall = 1,
+    TooLarge = 2,
+    BrokenFile = 3,
+    AllBinsZero = 4,
+    NoWindow = 5,
+    NothingRecovered = 6,
+    WrongLength = 7,
+    NanScanned = 8,
+    WrongLimitOrCost = 9,
+    TooShort = 10,
+}
 
-pub const ALL_BINS_ZERO: u8 = 4;
+impl From<Refusal> for u8 {
+    ghost from_gives = { λ refusal number. number ≡ number_of refusal };
 
-pub const NO_WINDOW: u8 = 5;
+    fn from(refusal: Refusal) -> u8 {
+        refusal as u8
+    }
+}
 
-pub const NOTHING_RECOVERED: u8 = 6;
+impl fmt::Display for Refusal {
+    fn fmt<W: fmt::Write>(&self, f: &mut fmt::Formatter<W>) -> fmt::Result {
+        f.write_str(match self {
+            Refusal::TooSmall => "the peak, the valley or the number of bins is below 2",
+            Refusal::TooLarge => {
+                "the bins, the peak, the valley, a count, the window end or the runs are above the limit"
+            }
+            Refusal::BrokenFile => "the histogram file is broken",
+            Refusal::AllBinsZero => "all bins are zero",
+            Refusal::NoWindow => "the window end is 0, or beyond the bins",
+            Refusal::NothingRecovered => "every recovered bin in the window is zero",
+            Refusal::WrongLength => {
+                "a parameter list, a start table, the shapes or the starts have the wrong length"
+            }
+            Refusal::NanScanned => "a log probability scanned for the error mode is a NaN",
+            Refusal::WrongLimitOrCost => {
+                "a converged run's cost or the mass limit is not finite or too small"
+            }
+            Refusal::TooShort => {
+                "lent memory is too short for the answer, the shelf table or the runs"
+            }
+        })
+    }
+}
 
-pub const WRONG_LENGTH: u8 = 7;
-
-pub const NAN_SCANNED: u8 = 8;
-
-pub const WRONG_LIMIT_OR_COST: u8 = 9;
-
-pub const TOO_SHORT: u8 = 10;
+impl Error for Refusal {}

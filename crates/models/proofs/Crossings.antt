@@ -4,7 +4,6 @@ use Prim.Native.Nat.{ℕ, zero, suc, ◌+◌, ◌-◌, ◌≤◌, ◌<◌, max}
 use mathlib.Core.Path.{◌≡◌, refl, sym, ap, ◌∙◌, subst}
 use mathlib.Core.Bool.{Bool, true, false, cond}
 use mathlib.Core.Logic.{inl, inr}
-use mathlib.Core.Option.{Option, none, some}
 use native.Mathlib.Nat.{eq-or-lt_of_le}
 use native.Mathlib.Omega.{arith}
 use borrow.Author.Tests.{le-ltb, ne_eqb}
@@ -16,6 +15,7 @@ use Rattle.models.specs.declared.fit.SpectrumFit.{SpectrumFit}
 use Rattle.models.specs.declared.height_terms.Heights.{Heights}
 use Rattle.models.specs.ClaimsHeights.{above, crossover_ceiling_of, Crossover}
 use Rattle.models.specs.HeightCutoffs.{heights_in, outgrows, crossover_starts, crossing_from, crossing_of, crossover_of}
+use Rattle.std.specs.Prelude.{Option, None, Some}
 
 module _ (heights : ℕ → Heights) where
   -- ---- what a search over `left` counts from c on finds
@@ -25,14 +25,14 @@ module _ (heights : ℕ → Heights) where
     pub there : outgrows heights k ≡ true
     pub earlier : (j : ℕ) → c ≤ j → j < k → outgrows heights j ≡ false
 
-  found : (left c r : ℕ) → crossing_from heights left c ≡ some r → (k : ℕ) × (r ≡ max k 2) × Found left c k
+  found : (left c r : ℕ) → crossing_from heights left c ≡ Some r → (k : ℕ) × (r ≡ max k 2) × Found left c k
   unfolding crossing_from
   found zero c r e = let z : ◌≡◌ {A = ℕ} 0 1 = cc in absurd (omega arith)
   found (suc left) c r e = go (outgrows heights c) refl (found left (suc c) r) e
     where
       go : (b : Bool) → outgrows heights c ≡ b
-          → (crossing_from heights left (suc c) ≡ some r → (k : ℕ) × (r ≡ max k 2) × Found left (suc c) k)
-          → cond b (some (max c 2)) (crossing_from heights left (suc c)) ≡ some r
+          → (crossing_from heights left (suc c) ≡ Some r → (k : ℕ) × (r ≡ max k 2) × Found left (suc c) k)
+          → cond b (Some (max c 2)) (crossing_from heights left (suc c)) ≡ Some r
           → (k : ℕ) × (r ≡ max k 2) × Found (suc left) c k
       go true t rest e =
           let same : r ≡ max c 2 = cc in (
@@ -66,16 +66,16 @@ module _ (heights : ℕ → Heights) where
           upper : (c left k : ℕ) → k < suc c + left → k < c + suc left
           upper c left k h = omega arith
 
-  none_found : (left c : ℕ) → crossing_from heights left c ≡ none → (k : ℕ) → c ≤ k → k < c + left
+  none_found : (left c : ℕ) → crossing_from heights left c ≡ None → (k : ℕ) → c ≤ k → k < c + left
       → outgrows heights k ≡ false
   unfolding crossing_from
   none_found zero c e k l m = absurd (omega arith)
   none_found (suc left) c e k l m = go (outgrows heights c) refl (none_found left (suc c)) e
     where
       go : (b : Bool) → outgrows heights c ≡ b
-          → (crossing_from heights left (suc c) ≡ none → (k : ℕ) → suc c ≤ k → k < suc c + left
+          → (crossing_from heights left (suc c) ≡ None → (k : ℕ) → suc c ≤ k → k < suc c + left
           → outgrows heights k ≡ false)
-          → cond b (some (max c 2)) (crossing_from heights left (suc c)) ≡ none → outgrows heights k ≡ false
+          → cond b (Some (max c 2)) (crossing_from heights left (suc c)) ≡ None → outgrows heights k ≡ false
       go true t rest e = let z : ◌≡◌ {A = ℕ} 0 1 = cc in absurd (omega arith)
       go false t rest e = elim (eq-or-lt_of_le l) [
         | inl same ↦ subst (λ (i : ℕ). outgrows heights i ≡ false) same t
@@ -90,15 +90,15 @@ module _ (fit : SpectrumFit) where
   abbrev search : Option ℕ
   search = crossing_of (heights_in fit) (crossover_ceiling_of fit)
 
-  answered : (r : Option ℕ) → crossover_of fit ≡ give r → cond (crossover_starts fit) search none ≡ r
+  answered : (r : Option ℕ) → crossover_of fit ≡ give r → cond (crossover_starts fit) search None ≡ r
   unfolding crossover_of
-  answered r gave = gave-answer (cond (crossover_starts fit) search none) r (window_tests fit.fit_window_end) gave
+  answered r gave = gave-answer (cond (crossover_starts fit) search None) r (window_tests fit.fit_window_end) gave
 
-  pub crossover-is : (c : ℕ) → crossover_of fit ≡ give (some c) → (k : ℕ) × Crossover fit c k
+  pub crossover-is : (c : ℕ) → crossover_of fit ≡ give (Some c) → (k : ℕ) × Crossover fit c k
   unfolding crossing_of
-  crossover-is c gave = go (crossover_starts fit) (answered (some c) gave)
+  crossover-is c gave = go (crossover_starts fit) (answered (Some c) gave)
     where
-      go : (b : Bool) → cond b search none ≡ some c → (k : ℕ) × Crossover fit c k
+      go : (b : Bool) → cond b search None ≡ Some c → (k : ℕ) × Crossover fit c k
       go true e =
           let w = found (heights_in fit) (crossover_ceiling_of fit - 1) 1 c e in (
             w.0,
@@ -116,19 +116,19 @@ module _ (fit : SpectrumFit) where
       go false e = let z : ◌≡◌ {A = ℕ} 0 1 = cc in absurd (omega arith)
 
   -- where the search starts and nothing comes back, no count below the ceiling is one
-  pub crossover-none : crossover_starts fit ≡ true → crossover_of fit ≡ give none → (k : ℕ) → 1 ≤ k
+  pub crossover-none : crossover_starts fit ≡ true → crossover_of fit ≡ give None → (k : ℕ) → 1 ≤ k
       → k < crossover_ceiling_of fit → above fit k ≡ false
   unfolding crossing_of
   crossover-none starts gave k l m =
-      let found : search ≡ none = ap (λ (b : Bool). cond b search none) (sym starts) ∙ answered none gave in
+      let found : search ≡ None = ap (λ (b : Bool). cond b search None) (sym starts) ∙ answered None gave in
       none_found (heights_in fit) (crossover_ceiling_of fit - 1) 1 found k l (inside (crossover_ceiling_of fit) k m)
     where
       inside : (n k : ℕ) → k < n → k < 1 + (n - 1)
       inside n k h = omega arith
 
-  -- none, too, where it does not start; a window of counts always has an answer
+  -- None, too, where it does not start; a window of counts always has an answer
   pub crossover-given : 1 ≤ fit.fit_window_end → fit.fit_window_end ≤ 65535
-      → crossover_of fit ≡ give (cond (crossover_starts fit) search none)
+      → crossover_of fit ≡ give (cond (crossover_starts fit) search None)
   unfolding crossover_of
   crossover-given l few =
       let end = fit.fit_window_end in

@@ -16,13 +16,8 @@ use Rattle.meaning.specs.Lent.{on_give}
 use Rattle.meaning.specs.Rows.{most, too_short, window_tests}
 use Rattle.meaning.proofs.Overs.{over_none, over-length}
 use Rattle.meaning.proofs.Replies.{gave-answer}
-use Rattle.meaning.specs.Answers.{written_says}
 use Rattle.helpers.specs.Shelves.{shelf_trials_of, last_of, shelf_log_table_of, table_after}
-use Rattle.meaning.specs.declared.answers.Written.{Written}
-use Rattle.meaning.specs.declared.answers.Written.TheVariants.{Items, Refused}
 use Rattle.helpers.specs.declared.shelves.Shelf.{Shelf}
-use Rattle.helpers.specs.declared.shelves.ShelfPart.{ShelfPart}
-use Rattle.helpers.specs.declared.shelves.ShelfPart.TheVariants.{Absent, Present}
 use Rattle.helpers.proofs.Tables.{table-length, last-few}
 use Rattle.models.specs.Masses.{entries_of}
 use Rattle.models.specs.Params.{shelf_part_of, params_of}
@@ -31,6 +26,10 @@ use Rattle.models.specs.Tables.{entries_in}
 use Rattle.models.specs.declared.families.ErrorModel.{ErrorModel}
 use Rattle.models.specs.declared.families.GenomeModel.{GenomeModel}
 use Rattle.models.specs.declared.families.GenomeModel.TheVariants.{NegativeBinomial, ShelfNegativeBinomial}
+use Rattle.meaning.specs.Answers.{reply_of}
+use Rattle.std.specs.Result.{result_unwrap_or}
+use Rattle.std.specs.Prelude.{Result, Ok, Err, Option, None, Some}
+use Rattle.meaning.specs.declared.refusals.Refusal.{Refusal}
 
 -- ---- what the writer of the table answers
 given-over : (r : Reply ℕ) (xs held : List Float) → on_give r (over xs held) held ≡ over (on_give r xs []) held
@@ -42,7 +41,7 @@ given-over (give n) xs held = refl
 abbrev items : Float → ℕ → ℕ
 items mean top = suc (last_of (shelf_trials_of mean) top)
 
-all-entries : (s : Shelf) (mean : Float) (top : ℕ) → length (entries_of (Present s) mean top) ≡ items mean top
+all-entries : (s : Shelf) (mean : Float) (top : ℕ) → length (entries_of (Some s) mean top) ≡ items mean top
 unfolding entries_of
 all-entries s mean top = table-length (shelf_trials_of mean) s.alpha s.beta (items mean top)
 
@@ -50,20 +49,15 @@ items-are : (mean : Float) (top room n : ℕ) → shelf_log_table_of mean top ro
 unfolding shelf_log_table_of
 items-are mean top room n g = gave-answer (items mean top) n (window_tests top ++ too_short room (items mean top)) g
 
-module _ (mean : Float) (top : ℕ) (held : List Float) (shelf : ShelfPart) (s : Shelf) (p : shelf ≡ Present s) where
+module _ (mean : Float) (top : ℕ) (held : List Float) (shelf : Option Shelf) (s : Shelf) (p : shelf ≡ Some s) where
   abbrev entries : List Float
   entries = entries_in shelf mean top (length held)
 
-  module _ (w : Written) (n : ℕ) (a : written_says w ≡ shelf_log_table_of mean top (length held)) where
-    pub filled-items : w ≡ Items n → n ≡ length entries
-    unfolding entries_in
-    filled-items e =
-        let given = sym a ∙ ap written_says e in
-        rw (p, given) (sym (items-are mean top (length held) n given) ∙ sym (all-entries s mean top))
-
-    pub filled_none : w ≡ Refused n → 0 ≡ length entries
-    unfolding entries_in
-    filled_none e = rw (p, sym a ∙ ap written_says e)
+  pub filled-items : (w : Result ℕ Refusal) → reply_of w ≡ shelf_log_table_of mean top (length held)
+      → result_unwrap_or w 0 ≡ length entries
+  unfolding entries_in
+  filled-items (Ok n) given = rw (p, sym given) (sym (items-are mean top (length held) n (sym given)) ∙ sym (all-entries s mean top))
+  filled-items (Err r) refused = rw (p, sym refused)
 
   pub filled-table : (now : List Float) → now ≡ table_after mean s top held → now ≡ over entries held
   unfolding entries_in entries_of table_after
@@ -82,15 +76,15 @@ module _ (entries held t : List Float) (n : ℕ) (e : n ≡ length entries) (o :
       let l : length t ≡ length held = ap (λ (x : List Float). length x) o ∙ over-length entries held f in
       omega arith
 
-pub entries-few : (shelf : ShelfPart) (mean : Float) (top room : ℕ) → length (entries_in shelf mean top room) ≤ room
+pub entries-few : (shelf : Option Shelf) (mean : Float) (top room : ℕ) → length (entries_in shelf mean top room) ≤ room
 unfolding entries_in shelf_log_table_of
-entries-few Absent mean top room = omega arith
-entries-few (Present s) mean top room = few (ltb most top) (eqb top 0) _ _ (entries_of (Present s) mean top) fits
+entries-few None mean top room = omega arith
+entries-few (Some s) mean top room = few (ltb most top) (eqb top 0) _ _ (entries_of (Some s) mean top) fits
   where
-    fits : ltb room (items mean top) ≡ false → length (entries_of (Present s) mean top) ≤ room
+    fits : ltb room (items mean top) ≡ false → length (entries_of (Some s) mean top) ≤ room
     fits h =
         let l : items mean top ≤ room = ltb-false room (items mean top) h in
-        let e : length (entries_of (Present s) mean top) ≡ items mean top = all-entries s mean top in
+        let e : length (entries_of (Some s) mean top) ≡ items mean top = all-entries s mean top in
         omega arith
 
     few : (a b c : Bool) (n : ℕ) (xs : List Float) → (c ≡ false → length xs ≤ room)

@@ -7,7 +7,6 @@ use mathlib.Core.Path.{◌≡◌, refl, sym, ap, ◌∙◌, subst}
 use mathlib.Core.Bool.{Bool, true, false, cond, true≢false}
 use mathlib.Core.List.{List}
 use mathlib.Core.Logic.{inl, inr}
-use mathlib.Core.Option.{Option, none, some}
 use native.Mathlib.Nat.{eq-or-lt_of_le, le_of_suc-le-suc}
 use native.Mathlib.Omega.{arith}
 use lib.Ieee.{Float, lt}
@@ -19,6 +18,7 @@ use Rattle.models.specs.declared.fit.SpectrumFit.{SpectrumFit}
 use Rattle.models.specs.ClaimsCutoff.{running, FirstAbove, Finds, HoleFinds}
 use Rattle.models.specs.Cutoffs.{probability_in, walk_starts, allowed_of, ceiling_of, hole_walk_of, hole_cutoff_of}
 use Rattle.models.specs.Walk.{walk_from, walk_of}
+use Rattle.std.specs.Prelude.{Option, None, Some}
 
 module _ (p : ℕ → Float) (allowed : Float) (ceiling : ℕ) where
   abbrev above : ℕ → Bool
@@ -50,7 +50,7 @@ module _ (p : ℕ → Float) (allowed : Float) (ceiling : ℕ) where
       go (above (suc k)) refl (λ (f : above (suc k) ≡ false). walks left (suc k) on (one_more k b f))
     where
       go : (s : Bool) → above (suc k) ≡ s → (above (suc k) ≡ false → Finds p allowed ceiling (onward left k))
-          → Finds p allowed ceiling (cond s (some (max (suc k) 2)) (onward left k))
+          → Finds p allowed ceiling (cond s (Some (max (suc k) 2)) (onward left k))
       go true t rest = (
         suc k,
         refl,
@@ -65,7 +65,7 @@ module _ (p : ℕ → Float) (allowed : Float) (ceiling : ℕ) where
 
 -- ---- two answers that both say what is found are one
 module _ (p : ℕ → Float) (allowed : Float) (ceiling : ℕ) where
-  no_other : (c : ℕ) → FirstAbove p allowed ceiling c → Finds p allowed ceiling none → ⊥
+  no_other : (c : ℕ) → FirstAbove p allowed ceiling c → Finds p allowed ceiling None → ⊥
   no_other c f never = true≢false (sym f.there ∙ never c f.first f.last)
 
   -- neither of two first counts comes before the other
@@ -76,11 +76,11 @@ module _ (p : ℕ → Float) (allowed : Float) (ceiling : ℕ) where
   one-first c d f g = omega (arith, not-before c d f g, not-before d c g f)
 
   finds-one : (a b : Option ℕ) → Finds p allowed ceiling a → Finds p allowed ceiling b → a ≡ b
-  finds-one none none f g = refl
-  finds-one none (some s) f g = absurd (no_other g.0 g.2 f)
-  finds-one (some r) none f g = absurd (no_other f.0 f.2 g)
-  finds-one (some r) (some s) f g =
-      ap some (f.1 ∙ ap (λ (c : ℕ). max c 2) (one-first f.0 g.0 f.2 g.2) ∙ sym g.1)
+  finds-one None None f g = refl
+  finds-one None (Some s) f g = absurd (no_other g.0 g.2 f)
+  finds-one (Some r) None f g = absurd (no_other f.0 f.2 g)
+  finds-one (Some r) (Some s) f g =
+      ap Some (f.1 ∙ ap (λ (c : ℕ). max c 2) (one-first f.0 g.0 f.2 g.2) ∙ sym g.1)
 
 -- ---- THE THEOREMS
 module _ (p : ℕ → Float) (allowed : Float) where
@@ -98,7 +98,7 @@ module _ (p : ℕ → Float) (allowed : Float) where
 
 module _ (fit : SpectrumFit) (budget : Float) where
   abbrev walked : Bool → Option ℕ
-  walked starts = cond starts (hole_walk_of fit budget) none
+  walked starts = cond starts (hole_walk_of fit budget) None
 
   abbrev tests : List Test
   tests = window_tests fit.fit_window_end
@@ -129,5 +129,5 @@ module _ (fit : SpectrumFit) (budget : Float) where
       ∙ ap give (ap walked starts ∙ hole-only answer f)
 
   pub hole-cutoff-no-walk : walk_starts fit ≡ false → (answer : Option ℕ) → hole_cutoff_of fit budget ≡ give answer
-      → answer ≡ none
+      → answer ≡ None
   hole-cutoff-no-walk stays answer gave = sym (answered answer gave) ∙ ap walked stays

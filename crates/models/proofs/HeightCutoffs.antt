@@ -3,7 +3,6 @@
 use Prim.Native.Nat.{ℕ, suc, ◌+◌, ◌-◌, ◌≤◌, ◌<◌, max}
 use mathlib.Core.Path.{◌≡◌, refl, sym, ap, ◌∙◌, fun_ext}
 use mathlib.Core.Bool.{Bool, true, false, cond}
-use mathlib.Core.Option.{none, some}
 use native.Mathlib.Numerals.{add-one}
 use native.Mathlib.Omega.{arith}
 use lib.Ieee.{Float, lt}
@@ -16,6 +15,7 @@ use Rattle.models.specs.declared.height_terms.Heights.{Heights}
 use Rattle.models.proofs.HeightTerms.{terms-error, terms-single, terms-heights}
 use Rattle.models.specs.HeightCutoffs.{heights_in, outgrows, crossing_from, crossing_of, errors_in, reference_of}
 use Rattle.models.specs.HeightCutoffs.{last_bad_of}
+use Rattle.std.specs.Prelude.{None, Some}
 
 -- ---- the crossing
 one_left : (n c : ℕ) → c < n → n - c ≡ suc (n - (c + 1))
@@ -30,19 +30,19 @@ module _ (heights : ℕ → Heights) (n : ℕ) where
   crossing-starts = refl
 
   module _ (c : ℕ) where
-    pub crossing-ends : n ≤ c → crossing_from heights (n - c) c ≡ none
+    pub crossing-ends : n ≤ c → crossing_from heights (n - c) c ≡ None
     unfolding crossing_from
     crossing-ends h = ap (λ (k : ℕ). crossing_from heights k c) (none_left n c h)
 
     stepped : c < n → (b : Bool) → outgrows heights c ≡ b
-        → crossing_from heights (n - c) c ≡ cond b (some (max c 2)) (crossing_from heights (n - (c + 1)) (c + 1))
+        → crossing_from heights (n - c) c ≡ cond b (Some (max c 2)) (crossing_from heights (n - (c + 1)) (c + 1))
     unfolding crossing_from
     stepped h b t =
         ap (λ (k : ℕ). crossing_from heights k c) (one_left n c h)
-        ∙ ap (λ (a : Bool). cond a (some (max c 2)) (crossing_from heights (n - (c + 1)) (suc c))) t
-        ∙ ap (λ (k : ℕ). cond b (some (max c 2)) (crossing_from heights (n - (c + 1)) k)) (sym (add-one c))
+        ∙ ap (λ (a : Bool). cond a (Some (max c 2)) (crossing_from heights (n - (c + 1)) (suc c))) t
+        ∙ ap (λ (k : ℕ). cond b (Some (max c 2)) (crossing_from heights (n - (c + 1)) k)) (sym (add-one c))
 
-    pub crossing-hits : c < n → outgrows heights c ≡ true → crossing_from heights (n - c) c ≡ some (max c 2)
+    pub crossing-hits : c < n → outgrows heights c ≡ true → crossing_from heights (n - c) c ≡ Some (max c 2)
     crossing-hits h t = stepped h true t
 
     pub crossing-goes : c < n → outgrows heights c ≡ false

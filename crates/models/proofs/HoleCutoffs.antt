@@ -5,7 +5,6 @@
 use Prim.Native.Nat.{ℕ, suc, ◌*◌, ◌^◌, ◌≤◌, suc-le-suc}
 use mathlib.Core.Path.{◌≡◌, refl, sym, ap, ◌∙◌, subst}
 use mathlib.Core.Bool.{Bool, true, false, ◌&&◌, cond}
-use mathlib.Core.Option.{Option, none, some}
 use native.Mathlib.Nat.{le_trans, le_of_suc-le-suc}
 use native.Mathlib.Omega.{arith}
 use lib.Dec.{ltb, eqb}
@@ -31,6 +30,7 @@ use Rattle.models.specs.Walk.{all_probable}
 use Rattle.models.proofs.Ceilings.{ceiling-two, ceiling-end}
 use Rattle.models.proofs.Removed.{SumsKept, walk-keeps}
 use Rattle.models.proofs.Walks.{answer-range, all-each, each_all}
+use Rattle.std.specs.Prelude.{Option, None, Some}
 
 module _ (fit : SpectrumFit) (budget : Float) where
   -- ---- the probabilities and the share are whole numbers of units: nothing is lost of num / den, their exact value
@@ -46,7 +46,7 @@ module _ (fit : SpectrumFit) (budget : Float) where
   unfolding hole_cutoff_of
   ceiling-most answer gave =
       let end = fit.fit_window_end in
-      let walked = cond (walk_starts fit) (hole_walk_of fit budget) none in
+      let walked = cond (walk_starts fit) (hole_walk_of fit budget) None in
       le_trans (ceiling-end fit) (window-passed end (gave-passed walked answer (window_tests end) gave)).0
 
   -- ---- THE THEOREM
@@ -58,27 +58,27 @@ module _ (fit : SpectrumFit) (budget : Float) where
       let allowed = allowed_of fit budget in
       let end = fit.fit_window_end in
       let found = hole_walk_of fit budget in
-      let walked = cond (walk_starts fit) found none in
+      let walked = cond (walk_starts fit) found None in
       let says : SumsKept p allowed (ceiling_of fit) found = walk-keeps p (λ (k : ℕ). exp-fits _) (ceiling_of fit)
       (ceiling-most answer gave) s.between allowed (div-fits binary64 _ _) (yes s.share)
       (ceiling-two fit s.starts) in
-      let same : found ≡ answer = sym (ap (λ (b : Bool). cond b found none) s.starts)
+      let same : found ≡ answer = sym (ap (λ (b : Bool). cond b found None) s.starts)
       ∙ gave-answer walked answer (window_tests end) gave in
       record {
-        removes = λ (c : ℕ) (e : answer ≡ some c). (subst (SumsKept p allowed (ceiling_of fit)) (same ∙ e) says).0;
-        reaches = λ (c : ℕ) (e : answer ≡ some c). (subst (SumsKept p allowed (ceiling_of fit)) (same ∙ e) says).1;
-        stays = λ (e : answer ≡ none). subst (SumsKept p allowed (ceiling_of fit)) (same ∙ e) says;
+        removes = λ (c : ℕ) (e : answer ≡ Some c). (subst (SumsKept p allowed (ceiling_of fit)) (same ∙ e) says).0;
+        reaches = λ (c : ℕ) (e : answer ≡ Some c). (subst (SumsKept p allowed (ceiling_of fit)) (same ∙ e) says).1;
+        stays = λ (e : answer ≡ None). subst (SumsKept p allowed (ceiling_of fit)) (same ∙ e) says;
       }
 
   -- a cutoff is 2 at least, and the ceiling at most
-  pub hole-cutoff-range : (c : ℕ) → hole_cutoff_of fit budget ≡ give (some c) → (2 ≤ c) × (c ≤ ceiling_of fit)
+  pub hole-cutoff-range : (c : ℕ) → hole_cutoff_of fit budget ≡ give (Some c) → (2 ≤ c) × (c ≤ ceiling_of fit)
   unfolding hole_cutoff_of hole_walk_of
   hole-cutoff-range c gave =
       go (walk_starts fit) refl
-      (gave-answer (cond (walk_starts fit) (hole_walk_of fit budget) none) (some c) (window_tests fit.fit_window_end)
+      (gave-answer (cond (walk_starts fit) (hole_walk_of fit budget) None) (Some c) (window_tests fit.fit_window_end)
       gave)
     where
-      go : (b : Bool) → walk_starts fit ≡ b → cond b (hole_walk_of fit budget) none ≡ some c
+      go : (b : Bool) → walk_starts fit ≡ b → cond b (hole_walk_of fit budget) None ≡ Some c
           → (2 ≤ c) × (c ≤ ceiling_of fit)
       go true e same =
           answer-range (probability_in fit) (allowed_of fit budget) (ceiling_of fit) (ceiling-two fit e) c same
@@ -89,16 +89,16 @@ module _ (fit : SpectrumFit) (budget : Float) where
   answered starts s = cond starts (sureness s (hole_walk_of fit budget)) no_walk
 
   abbrev walked : Bool → Option ℕ
-  walked starts = cond starts (hole_walk_of fit budget) none
+  walked starts = cond starts (hole_walk_of fit budget) None
 
   -- the cutoff that it tells is the hole cutoff, whether sure or not, and a refusal is the same
   pub told_same : told_of (hole_cutoff_sure_of fit budget) ≡ hole_cutoff_of fit budget
   unfolding hole_cutoff_sure_of hole_cutoff_of
   told_same = go (ltb most fit.fit_window_end) (eqb fit.fit_window_end 0) (walk_starts fit) (sure_of fit budget)
     where
-      go : (many none starts s : Bool)
-          → told_of (unless many 2 (unless none 5 (give (answered starts s))))
-          ≡ unless many 2 (unless none 5 (give (walked starts)))
+      go : (many None starts s : Bool)
+          → told_of (unless many 2 (unless None 5 (give (answered starts s))))
+          ≡ unless many 2 (unless None 5 (give (walked starts)))
       go true n b s = refl
       go false true b s = refl
       go false false true true = refl

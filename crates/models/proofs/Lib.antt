@@ -1,6 +1,6 @@
 -- Laws of this layer.
+pub mod StdFloats
 pub mod WordsBack
-pub mod Lengths
 pub mod Loops
 pub mod Points
 pub mod HeightTerms
@@ -19,7 +19,6 @@ pub mod Beyond
 pub mod Highest
 pub mod Asked
 pub mod Corners
-pub mod Says
 pub mod Outdone
 pub mod Found
 pub mod Walks

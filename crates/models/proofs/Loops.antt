@@ -1,36 +1,37 @@
--- A loop that looks for a bin that fails a test: its laws, on the invariant of the loops over counts. Assumes nothing.
-use Prim.Native.Nat.{ℕ, ◌+◌, ◌≤◌, ◌<◌}
+-- A test of each of the first n counts, as a test of each element of a list. Assumes nothing.
+use Prim.Native.Nat.{ℕ, ◌≤◌, ◌<◌}
 use mathlib.Core.Path.{◌≡◌, refl, sym, ap, ◌∙◌}
-use mathlib.Core.Bool.{Bool, true, false, ◌&&◌}
+use mathlib.Core.Bool.{Bool, true, ◌&&◌}
+use mathlib.Core.List.{List}
+use native.Mathlib.Numerals.{add-one}
 use native.Mathlib.Omega.{arith}
-use Rattle.meaning.specs.Fold.{fold}
-use Rattle.meaning.proofs.Folds.{fold_more, fold-split, fold-keeps}
-use Rattle.meaning.proofs.Loops.{Folded, goes_on, ends}
+use lib.ListN.{length, get_or, take}
+use lib.Seq.{take-length}
+use Rattle.std.specs.List.{list_all, range_with_len}
+use Rattle.std.proofs.lemmas.List.Folds.{list_all_more}
+use Rattle.std.proofs.lemmas.List.FromFn.{length-range_with_len, get_or-range_with_len}
+use Rattle.meaning.proofs.Folds.{fold-keeps}
 use Rattle.models.specs.Spectra.{all_step, all_of}
 
--- ---- a test of each of the first n
-module _ (p : ℕ → Bool) (n : ℕ) where
-  pub all-holds : {i : ℕ} → Folded (all_step p) true 0 n true i → n ≤ i → true ≡ all_of p n
-  unfolding all_of
-  all-holds s h = ends (all_step p) true 0 n s h
+all-same : (p q : ℕ → Bool) (xs : List ℕ) (n : ℕ) → length xs ≡ n → ((k : ℕ) → k < n → p (get_or xs k 0) ≡ q k)
+    → list_all p xs ≡ all_of q n
+unfolding all_of
+all-same p q xs n l e =
+    sym
+    (fold-keeps (all_step q) (λ (k : ℕ) (so : Bool). so ≡ list_all p (take k xs)) 0 n true (omega arith)
+    (λ (k : ℕ) (so : Bool) (a : 0 ≤ k) (h : k < n) (w : so ≡ list_all p (take k xs)).
+    ap (λ (b : Bool). b && q k) w
+    ∙ ap (λ (b : Bool). list_all p (take k xs) && b) (sym (e k h))
+    ∙ sym (list_all_more p xs k 0 (omega arith))
+    ∙ ap (λ (j : ℕ). list_all p (take j xs)) (add-one k))
+    refl
+    ∙ ap (λ (j : ℕ). list_all p (take j xs)) (sym l)
+    ∙ ap (list_all p) (take-length xs))
 
-  pub all_more : {i : ℕ} → Folded (all_step p) true 0 n true i → i < n → p i ≡ true
-      → Folded (all_step p) true 0 n true (i + 1)
-  all_more s h e = goes_on (all_step p) true 0 n s true h (sym e)
+pub all-elements : (p : ℕ → Bool) (xs : List ℕ) → list_all p xs ≡ all_of (λ (i : ℕ). p (get_or xs i 0)) (length xs)
+all-elements p xs = all-same p (λ (i : ℕ). p (get_or xs i 0)) xs (length xs) refl (λ k h. refl)
 
-  -- one that fails is enough
-  pub all-fails : (i : ℕ) → i < n → p i ≡ false → false ≡ all_of p n
-  unfolding all_of
-  all-fails i h e =
-      sym
-      (fold-split (all_step p) 0 (i + 1) n true (omega arith) (omega arith)
-      ∙ ap (fold (all_step p) (i + 1) n)
-      (fold_more (all_step p) 0 i true (omega arith)
-      ∙ ap (λ (b : Bool). fold (all_step p) 0 i true && b) e
-      ∙ never (fold (all_step p) 0 i true))
-      ∙ fold-keeps (all_step p) (λ (k : ℕ) (x : Bool). x ≡ false) (i + 1) n false (omega arith)
-      (λ (k : ℕ) (x : Bool) (l : i + 1 ≤ k) (m : k < n) (w : x ≡ false). ap (λ (b : Bool). b && p k) w) refl)
-    where
-      never : (b : Bool) → b && false ≡ false
-      never true = refl
-      never false = refl
+pub all-counts : (p : ℕ → Bool) (n : ℕ) → list_all p (range_with_len 0 n) ≡ all_of p n
+all-counts p n =
+    all-same p p (range_with_len 0 n) n (length-range_with_len 0 n)
+    (λ (k : ℕ) (h : k < n). ap p (get_or-range_with_len 0 n k 0 h ∙ omega arith))

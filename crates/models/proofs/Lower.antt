@@ -5,7 +5,6 @@ use Prim.Native.Nat.{ℕ, zero, suc, ◌+◌, ◌*◌, ◌^◌, ◌≤◌}
 use mathlib.Core.Path.{◌≡◌, refl, sym, ap}
 use mathlib.Core.Bool.{true, not}
 use mathlib.Core.Logic.{inl, inr}
-use mathlib.Core.Option.{Option, some}
 use native.Mathlib.Nat.{le_trans, le_of_eq, le-suc, le_of_suc-le-suc, eq-or-lt_of_le, mul-le-mul_right}
 use native.Mathlib.Omega.{arith}
 use lib.IntN.{ℤ, pos, negsuc, ◌*ℤ◌}
@@ -25,6 +24,7 @@ use Rattle.models.proofs.Ceilings.{ceiling-two}
 use Rattle.models.proofs.ExactSums.{pos-le, units_below, below_suc, signed}
 use Rattle.models.proofs.HoleCutoffs.{ceiling-most, hole-cutoff-keeps, hole-cutoff-range}
 use Rattle.models.proofs.Removed.{above-exceeds, within-keeps}
+use Rattle.std.specs.Prelude.{Option, Some}
 
 -- ---- sums of fewer terms
 grows : (x y : ℕ) → x ≤ x + y
@@ -56,12 +56,12 @@ lower-sum p held ceiling between share m n h top kept =
 
 module _ (fit : SpectrumFit) (budget : Float) (s : Supposed fit budget) where
   -- THE THEOREM: what is at most a hole cutoff of 3 or more keeps the budget
-  pub lower-keeps : (h : ℕ) → hole_cutoff_of fit budget ≡ give (some h) → 3 ≤ h → (c : ℕ) → c ≤ h
+  pub lower-keeps : (h : ℕ) → hole_cutoff_of fit budget ≡ give (Some h) → 3 ≤ h → (c : ℕ) → c ≤ h
       → AtMost (removed_by fit c) (allowed_share fit budget)
   lower-keeps h gave three c below =
       lower-sum (probability_in fit) (λ (k : ℕ). exp-fits _) (ceiling_of fit) s.between (allowed_share fit budget) c h below
       (le_trans (hole-cutoff-range fit budget h gave).1 (le-suc (ceiling_of fit)))
-      ((hole-cutoff-keeps fit budget s (some h) gave).removes h refl three)
+      ((hole-cutoff-keeps fit budget s (Some h) gave).removes h refl three)
 
   -- ---- at 2
   module _ (answer : Option ℕ) (gave : hole_cutoff_of fit budget ≡ give answer) where

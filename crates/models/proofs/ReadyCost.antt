@@ -8,7 +8,7 @@ use mathlib.Core.Logic.{◌⊎◌, inl, inr}
 use native.Mathlib.Nat.{eq-or-lt_of_le}
 use native.Mathlib.Numerals.{add-one}
 use native.Mathlib.Omega.{arith}
-use borrow.Author.Tests.{lt-ltb, le-ltb, eq-eqb, ne_eqb}
+use borrow.Author.Tests.{lt-ltb, le-ltb}
 use lib.Dec.{ltb}
 use lib.ListN.{length, get_or, drop, set, length-append, get_or-append}
 use lib.Seq.{get_or-append-add, append_snoc}
@@ -134,25 +134,6 @@ rows_more held now n x y e h p q =
     ∙ ap (λ (z : Float). over (ready_rows n ++ (z ∷ y ∷ [])) held) p
     ∙ ap (λ (z : Float). over (ready_rows n ++ (ln_of (of_count n) ∷ z ∷ [])) held) q
     ∙ ap (λ (z : ℕ). over (ready_rows z) held) (sym (add-one n))
-
--- ---- what is written, by the tests
-module _ (end room : ℕ) where
-  pub prepare-many : most < end → prepare_of end room ≡ refuse 2
-  unfolding prepare_of
-  prepare-many h = rw (lt-ltb most end h)
-
-  module _ (few : end ≤ most) where
-    pub prepare-none : end ≡ 0 → prepare_of end room ≡ refuse 5
-    unfolding prepare_of
-    prepare-none h = rw (le-ltb most end few, eq-eqb end 0 h)
-
-    pub prepare-short : (end ≡ 0 → ⊥) → room < ready_demand end → prepare_of end room ≡ refuse 10
-    unfolding prepare_of
-    prepare-short h k = rw (le-ltb most end few, ne_eqb end 0 h, lt-ltb room (ready_demand end) k)
-
-    pub prepare-given : (end ≡ 0 → ⊥) → ready_demand end ≤ room → prepare_of end room ≡ give (ready_rows (end + 2))
-    unfolding prepare_of
-    prepare-given h k = rw (le-ltb most end few, ne_eqb end 0 h, le-ltb room (ready_demand end) k)
 
 -- ---- a slice that was filled
 pub record Filled (end : ℕ) (ready : List Float) : Type 0 where

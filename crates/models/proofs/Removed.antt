@@ -3,7 +3,6 @@
 use Prim.Native.Nat.{ℕ, zero, suc, ◌+◌, ◌-◌, ◌*◌, ◌^◌, ◌≤◌, ◌<◌, max, suc-le-suc}
 use mathlib.Core.Path.{◌≡◌, sym, subst}
 use mathlib.Core.Bool.{Bool, true, false, not, cond}
-use mathlib.Core.Option.{Option, none, some}
 use native.Mathlib.Nat.{le_trans, le_of_eq, le_of_lt, le-suc, lt_of_lt_of_le, mul-le-mul_right}
 use native.Mathlib.Omega.{arith}
 use lib.Dec.{T, lit≤}
@@ -20,6 +19,7 @@ use Rattle.models.specs.ClaimsCutoff.{in_units, sum_below, running, Sharp, AtMos
 use Rattle.models.specs.Walk.{walk_from, walk_of, probable}
 use Rattle.models.proofs.ExactSums.{probable-held, probable-bounded, in-units, pos-le, units_below, below_suc}
 use Rattle.models.proofs.ExactSums.{below_one, up-to-answer, below-bounded, signed, at-most, exceeds}
+use Rattle.std.specs.Prelude.{Option, None, Some}
 
 roomy : 2 ^ 20 * 2 ^ low binary64 ≤ overflow binary64
 roomy = lit≤ tt
@@ -29,8 +29,8 @@ at_least c h = (omega arith, omega arith)
 
 -- what a walk's answer says of the exact sums: `Keeps` of specs/ClaimsCutoff.antt, over any probabilities
 abbrev pub SumsKept : (ℕ → Float) → Float → ℕ → Option ℕ → Type 0
-SumsKept p allowed ceiling none = AtMost (sum_below p ceiling) (in_units allowed)
-SumsKept p allowed ceiling (some c) =
+SumsKept p allowed ceiling None = AtMost (sum_below p ceiling) (in_units allowed)
+SumsKept p allowed ceiling (Some c) =
     (3 ≤ c → AtMost (sum_below p c) (in_units allowed)) × Exceeds (sum_below p (suc c)) (in_units allowed)
 
 module _ (p : ℕ → Float) (held : (k : ℕ) → T (fits binary64 (p k))) (ceiling : ℕ) (top : ceiling ≤ 65535)
@@ -106,7 +106,7 @@ module _ (p : ℕ → Float) (held : (k : ℕ) → T (fits binary64 (p k))) (cei
       summed = sum_step k cdf (le_of_lt h) r.sum
 
       -- the sum through k + 1 is above what is allowed
-      hit : T (lt allowed (cdf ⊕ p (suc k))) → SumsKept p allowed ceiling (some (max (suc k) 2))
+      hit : T (lt allowed (cdf ⊕ p (suc k))) → SumsKept p allowed ceiling (Some (max (suc k) 2))
       hit t = (
         (λ (three : 3 ≤ max (suc k) 2). let e = at_least (suc k) three in
             subst (λ (n : ℕ). AtMost (sum_below p n) (in_units allowed)) e.0
@@ -150,10 +150,10 @@ module _ (p : ℕ → Float) (held : (k : ℕ) → T (fits binary64 (p k))) (cei
         go (lt allowed (cdf ⊕ p (suc k))) (hit k cdf h r)
         (λ (t : T (not (lt allowed (cdf ⊕ p (suc k))))). walks left (suc k) (cdf ⊕ p (suc k)) two on (miss k cdf h r t))
       where
-        go : (b : Bool) → (T b → SumsKept p allowed ceiling (some (max (suc k) 2)))
+        go : (b : Bool) → (T b → SumsKept p allowed ceiling (Some (max (suc k) 2)))
             → (T (not b) → SumsKept p allowed ceiling (walk_from p allowed left (suc (suc k)) (cdf ⊕ p (suc k))))
             → SumsKept p allowed ceiling
-            (cond b (some (max (suc k) 2)) (walk_from p allowed left (suc (suc k)) (cdf ⊕ p (suc k))))
+            (cond b (Some (max (suc k) 2)) (walk_from p allowed left (suc (suc k)) (cdf ⊕ p (suc k))))
         go true u v = u tt
         go false u v = v tt
 

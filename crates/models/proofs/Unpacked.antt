@@ -12,14 +12,13 @@ use Rattle.models.specs.Params.{params_of}
 use Rattle.models.specs.Refusals.{fit_tests}
 use Rattle.models.specs.Spectra.{window_of}
 use Rattle.models.specs.Tables.{entries_in}
-use Rattle.models.specs.Unpacking.{fit_of, fit_at, empty_fit, fit_answer_of, unpack_of, unpack_table, unpack_entries}
+use Rattle.models.specs.Unpacking.{fit_of, fit_at, unpack_of, unpack_table, unpack_entries}
 use Rattle.models.specs.Unpacking.{unpack_at}
 use Rattle.models.specs.declared.families.ErrorModel.{ErrorModel}
 use Rattle.models.specs.declared.families.GenomeModel.{GenomeModel}
 use Rattle.models.specs.declared.fit.SpectrumFit.{SpectrumFit}
 use Rattle.models.specs.declared.params.Params.{Params}
 use Rattle.models.specs.declared.spectra.Window.{Window}
-use Rattle.models.specs.declared.unpacking.FitAnswer.{FitAnswer}
 use Rattle.models.specs.declared.window_masses.WindowMasses.{WindowMasses}
 use Rattle.models.proofs.Passed.{tests-refused, tests-passed, entries-all}
 
@@ -33,26 +32,23 @@ fit_is bins window error genome p cost iterations table entries m fit t e f = f 
 -- ---- what unpack answers
 module _ (bins : List ℕ) (scale : Float) (end peak : ℕ) (error : ErrorModel) (genome : GenomeModel) (list : List Float)
     (held : List Float) (n : ℕ) (e : n ≡ first_of (fit_tests bins scale end peak error genome (length list) (length held)))
-    (cost : Float) (iterations : ℕ) (fit : SpectrumFit) where
+    (cost : Float) (iterations : ℕ) where
   abbrev unpacked : Reply SpectrumFit
   unpacked = unpack_of bins scale end peak error genome list cost iterations (length held)
 
   abbrev after : List Float
   after = unpack_table bins scale end peak error genome list cost iterations held
 
-  module _ (h : 0 < n) (f : fit ≡ empty_fit) where
-    unpack-refused : refuse n ≡ unpacked
+  module _ (h : 0 < n) where
+    pub unpack-refused : refuse n ≡ unpacked
     unfolding unpack_of
     unpack-refused = tests-refused bins scale end peak error genome list (length held) n e _ h
-
-    pub refused-answer : ◌≡◌ {A = FitAnswer} record { number = n; fit = fit } (fit_answer_of unpacked)
-    refused-answer = ap (λ (x : SpectrumFit). record { number = n; fit = x }) f ∙ ap fit_answer_of unpack-refused
 
     pub refused-table : held ≡ after
     unfolding unpack_table
     refused-table = rw (sym unpack-refused)
 
-  module _ (z : n ≡ 0) (window : Window) (w : window ≡ window_of bins scale end)
+  module _ (fit : SpectrumFit) (z : n ≡ 0) (window : Window) (w : window ≡ window_of bins scale end)
       (f : fit ≡ unpack_at bins window peak error genome list cost iterations (length held)) where
     abbrev p : Params
     p = params_of error genome (of_count peak) list
@@ -61,15 +57,12 @@ module _ (bins : List ℕ) (scale : Float) (end peak : ℕ) (error : ErrorModel)
     all = entries-all bins scale end peak error genome list (length held) n e z
 
     -- over a window that was worked out before it is the same fit
-    unpack-given : give fit ≡ unpacked
+    pub unpack-given : give fit ≡ unpacked
     unfolding unpack_of unpack_at
     unpack-given =
         ap give
         (f ∙ rw w (ap (λ (x : List Float). fit_at bins (window_of bins scale end) error genome p x cost iterations) all))
         ∙ tests-passed bins scale end peak error genome list (length held) n e _ z
-
-    pub given-answer : ◌≡◌ {A = FitAnswer} record { number = 0; fit = fit } (fit_answer_of unpacked)
-    given-answer = ap fit_answer_of unpack-given
 
     pub given-table : (t : List Float) → t ≡ over (unpack_entries window peak error genome list (length held)) held
         → t ≡ after

@@ -3,7 +3,6 @@ use Prim.Native.Nat.{ℕ, zero, suc, ◌+◌, ◌-◌, ◌*◌, ◌≤◌, ◌<�
 use mathlib.Core.Path.{◌≡◌, refl, sym, ap, ◌∙◌, fun_ext}
 use mathlib.Core.Bool.{Bool, true, false, ◌&&◌, cond, true≢false, false≢true}
 use mathlib.Core.Logic.{inl, inr}
-use mathlib.Core.Option.{none, some}
 use native.Mathlib.Nat.{eq-or-lt_of_le, le_of_suc-le-suc, not-suc-le-zero, zero-lt-suc}
 use native.Mathlib.Numerals.{add-one}
 use native.Mathlib.Omega.{arith}
@@ -22,6 +21,7 @@ use Rattle.models.specs.declared.fit.SpectrumFit.{SpectrumFit}
 use Rattle.models.specs.Cutoffs.{probability_in}
 use Rattle.models.specs.WalkHoists.{probability_of}
 use Rattle.models.specs.Walk.{walk_from, walk_of, probable, all_probable}
+use Rattle.std.specs.Prelude.{None, Some}
 
 -- ---- the walk
 one_left : (n c : ℕ) → c < n → n - c ≡ suc (n - (c + 1))
@@ -36,21 +36,21 @@ module _ (p : ℕ → Float) (allowed : Float) (n : ℕ) where
   walk-starts = refl
 
   module _ (c : ℕ) (cdf : Float) where
-    pub walk_ends : n ≤ c → walk_from p allowed (n - c) c cdf ≡ none
+    pub walk_ends : n ≤ c → walk_from p allowed (n - c) c cdf ≡ None
     unfolding walk_from
     walk_ends h = ap (λ (k : ℕ). walk_from p allowed k c cdf) (none_left n c h)
 
     -- one step, by the test of the sum through c
     stepped : c < n → (b : Bool) → lt allowed (cdf ⊕ p c) ≡ b
         → walk_from p allowed (n - c) c cdf
-        ≡ cond b (some (max c 2)) (walk_from p allowed (n - (c + 1)) (c + 1) (cdf ⊕ p c))
+        ≡ cond b (Some (max c 2)) (walk_from p allowed (n - (c + 1)) (c + 1) (cdf ⊕ p c))
     unfolding walk_from
     stepped h b t =
         ap (λ (k : ℕ). walk_from p allowed k c cdf) (one_left n c h)
-        ∙ ap (λ (a : Bool). cond a (some (max c 2)) (walk_from p allowed (n - (c + 1)) (suc c) (cdf ⊕ p c))) t
-        ∙ ap (λ (k : ℕ). cond b (some (max c 2)) (walk_from p allowed (n - (c + 1)) k (cdf ⊕ p c))) (sym (add-one c))
+        ∙ ap (λ (a : Bool). cond a (Some (max c 2)) (walk_from p allowed (n - (c + 1)) (suc c) (cdf ⊕ p c))) t
+        ∙ ap (λ (k : ℕ). cond b (Some (max c 2)) (walk_from p allowed (n - (c + 1)) k (cdf ⊕ p c))) (sym (add-one c))
 
-    pub walk-hits : c < n → lt allowed (cdf ⊕ p c) ≡ true → walk_from p allowed (n - c) c cdf ≡ some (max c 2)
+    pub walk-hits : c < n → lt allowed (cdf ⊕ p c) ≡ true → walk_from p allowed (n - c) c cdf ≡ Some (max c 2)
     walk-hits h t = stepped h true t
 
     pub walk-goes : c < n → lt allowed (cdf ⊕ p c) ≡ false
@@ -58,15 +58,15 @@ module _ (p : ℕ → Float) (allowed : Float) (n : ℕ) where
     walk-goes h t = stepped h false t
 
   -- ---- every cutoff is 2 at least, and the ceiling at most where that is 2 or more
-  walk-range : (left c : ℕ) (cdf : Float) (r : ℕ) → walk_from p allowed left c cdf ≡ some r
+  walk-range : (left c : ℕ) (cdf : Float) (r : ℕ) → walk_from p allowed left c cdf ≡ Some r
       → (2 ≤ r) × (r ≤ max (c + left) 2)
   unfolding walk_from
   walk-range zero c cdf r e = let z : ◌≡◌ {A = ℕ} 0 1 = cc in absurd (omega arith)
   walk-range (suc left) c cdf r e =
       go (lt allowed (cdf ⊕ p c)) (walk-range left (suc c) (cdf ⊕ p c) r) e
     where
-      go : (b : Bool) → (walk_from p allowed left (suc c) (cdf ⊕ p c) ≡ some r → (2 ≤ r) × (r ≤ max (suc c + left) 2))
-          → cond b (some (max c 2)) (walk_from p allowed left (suc c) (cdf ⊕ p c)) ≡ some r
+      go : (b : Bool) → (walk_from p allowed left (suc c) (cdf ⊕ p c) ≡ Some r → (2 ≤ r) × (r ≤ max (suc c + left) 2))
+          → cond b (Some (max c 2)) (walk_from p allowed left (suc c) (cdf ⊕ p c)) ≡ Some r
           → (2 ≤ r) × (r ≤ max (c + suc left) 2)
       go true w e = let same : max c 2 ≡ r = cc in (omega arith, omega arith)
       go false w e = ((w e).0, further (w e).1)
@@ -74,7 +74,7 @@ module _ (p : ℕ → Float) (allowed : Float) (n : ℕ) where
           further : r ≤ max (suc c + left) 2 → r ≤ max (c + suc left) 2
           further h = omega arith
 
-  pub answer-range : 2 ≤ n → (r : ℕ) → walk_of p allowed n ≡ some r → (2 ≤ r) × (r ≤ n)
+  pub answer-range : 2 ≤ n → (r : ℕ) → walk_of p allowed n ≡ Some r → (2 ≤ r) × (r ≤ n)
   answer-range h r e =
       let w = walk-range (n - 1) 1 (p 0) r (sym walk-starts ∙ e) in
       let l : r ≤ max (1 + (n - 1)) 2 = w.1 in

@@ -9,19 +9,16 @@ use lib.ListN.{length, get_or}
 use lib.Seq.{ext_get_or}
 use Rattle.routines.specs.Constants as constants
 use Rattle.helpers.specs.declared.shelves.Shelf.{Shelf}
-use Rattle.helpers.specs.declared.shelves.ShelfPart.{ShelfPart}
-use Rattle.helpers.specs.declared.shelves.ShelfPart.TheVariants as part
 use Rattle.models.specs.FitWords.{floats_of, bit_of, fit_words_of, fit_with, fit_of_words}
 use Rattle.models.specs.Parts.{error_number, genome_number, error_of, genome_of}
 use Rattle.models.specs.Parts.{shape_there, shape_number, shape_of, shelf_there, shelf_held, shelf_from}
-use Rattle.models.specs.declared.errors.ShapePart.{ShapePart}
-use Rattle.models.specs.declared.errors.ShapePart.TheVariants as shape
 use Rattle.models.specs.declared.families.ErrorModel.{ErrorModel}
 use Rattle.models.specs.declared.families.ErrorModel.TheVariants.{FreeSingletonWeibull, SingletonPareto}
 use Rattle.models.specs.declared.families.GenomeModel.{GenomeModel}
 use Rattle.models.specs.declared.families.GenomeModel.TheVariants.{NegativeBinomial, ShelfNegativeBinomial}
 use Rattle.models.specs.declared.fit.SpectrumFit.{SpectrumFit}
 use Rattle.models.specs.declared.fit_words.FitWords.{FitWords}
+use Rattle.std.specs.Prelude.{Option, None, Some}
 
 -- ---- what is no number
 error-back : (e : ErrorModel) → error_of (bit_of (error_number e)) ≡ e
@@ -32,13 +29,13 @@ genome-back : (g : GenomeModel) → genome_of (bit_of (genome_number g)) ≡ g
 genome-back NegativeBinomial = refl
 genome-back ShelfNegativeBinomial = refl
 
-shape-back : (s : ShapePart) → shape_of (bit_of (shape_there s)) (shape_number s) ≡ s
-shape-back shape.Absent = refl
-shape-back (shape.Present x) = refl
+shape-back : (s : Option Float) → shape_of (bit_of (shape_there s)) (shape_number s) ≡ s
+shape-back None = refl
+shape-back (Some x) = refl
 
-shelf-back : (p : ShelfPart) → shelf_from (bit_of (shelf_there p)) (shelf_held p) ≡ p
-shelf-back part.Absent = refl
-shelf-back (part.Present s) = refl
+shelf-back : (p : Option Shelf) → shelf_from (bit_of (shelf_there p)) (shelf_held p) ≡ p
+shelf-back None = refl
+shelf-back (Some s) = refl
 
 three_back : (xs : List Float) → length xs ≡ 3 → get_or xs 0 nan ∷ get_or xs 1 nan ∷ get_or xs 2 nan ∷ [] ≡ xs
 three_back [] e = absurd (omega (arith, e))
@@ -48,7 +45,7 @@ three_back (x ∷ y ∷ z ∷ []) e = refl
 three_back (x ∷ y ∷ z ∷ u ∷ us) e = absurd (omega (arith, e))
 
 -- the same words with the same parts make the same fit
-pub same_parts : (w : FitWords) (e e' : ErrorModel) (g g' : GenomeModel) (s s' : ShapePart) (p p' : ShelfPart) → e ≡ e' → g ≡ g'
+pub same_parts : (w : FitWords) (e e' : ErrorModel) (g g' : GenomeModel) (s s' : Option Float) (p p' : Option Shelf) → e ≡ e' → g ≡ g'
     → s ≡ s' → p ≡ p' → fit_with w e g s p ≡ fit_with w e' g' s' p'
 same_parts w e e' g g' s s' p p' a b c d = rw (a, b, c, d)
 
@@ -103,7 +100,7 @@ shape-again (suc zero) x l h = refl
 shape-again (suc (suc n)) x l h = absurd (omega (arith, l))
 
 -- each number of a shelf that is there, or of zeros
-shelf-again : (n : ℕ) (s : Shelf) (field : Shelf → Float) → field (shelf_held part.Absent) ≡ constants.zero
+shelf-again : (n : ℕ) (s : Shelf) (field : Shelf → Float) → field (shelf_held None) ≡ constants.zero
     → n < 2 → (n ≡ 0 → field s ≡ constants.zero) → field (shelf_held (shelf_from (bit_of n) s)) ≡ field s
 shelf-again zero s field z l h = z ∙ sym (h refl)
 shelf-again (suc zero) s field z l h = refl

@@ -5,7 +5,6 @@
 -- Definitions only. Assumes nothing.
 use Rattle.std.specs.Prelude.{ℕ, zero, suc, ◌+◌, ◌*◌, ◌^◌, ◌≤◌, ◌<◌, max, ◌≡◌, true, false, ℤ, pos, neg_ℤ, ◌+ℤ◌, ◌*ℤ◌}
 use Rattle.std.specs.Prelude.{◌≤ℤ◌, ◌<ℤ◌, Float}
-use Rattle.std.proofs.Math.Option.{Option, none, some}
 use Rattle.std.specs.Float.{nan, inf, fin}
 use Rattle.std.specs.Float.Ieee.{lt}
 use Rattle.std.specs.Float.Ieee.Positive.{num, den}
@@ -17,6 +16,7 @@ use Rattle.models.specs.declared.fit.SpectrumFit.{SpectrumFit}
 use Rattle.models.specs.Cutoffs.{probability_in, walk_starts, allowed_of, ceiling_of, hole_cutoff_of}
 use Rattle.models.specs.Cutoffs.{Sureness, sure, not_sure, no_walk}
 use Rattle.models.specs.Walk.{probable}
+use Rattle.std.specs.Prelude.{Option, None, Some}
 
 -- a finite value in units of 2 ^ -1074; either zero is 0, and so are a NaN and an infinity, which no sum below has
 unfoldable pub in_units : Float → ℤ
@@ -57,9 +57,9 @@ pub record Supposed (fit : SpectrumFit) (budget : Float) : Type 0 where
 -- the sum up to and including it, enlarged by one part in 2 ^ 36, exceeds the allowed share; with none, the sum below
 -- the ceiling is at most that share and one part in 2 ^ 36 of it.
 pub record Keeps (fit : SpectrumFit) (budget : Float) (answer : Option ℕ) : Type 0 where
-  pub removes : (c : ℕ) → answer ≡ some c → 3 ≤ c → AtMost (removed_by fit c) (allowed_share fit budget)
-  pub reaches : (c : ℕ) → answer ≡ some c → Exceeds (removed_by fit (suc c)) (allowed_share fit budget)
-  pub stays : answer ≡ none → AtMost (removed_by fit (ceiling_of fit)) (allowed_share fit budget)
+  pub removes : (c : ℕ) → answer ≡ Some c → 3 ≤ c → AtMost (removed_by fit c) (allowed_share fit budget)
+  pub reaches : (c : ℕ) → answer ≡ Some c → Exceeds (removed_by fit (suc c)) (allowed_share fit budget)
+  pub stays : answer ≡ None → AtMost (removed_by fit (ceiling_of fit)) (allowed_share fit budget)
 
 -- of a reply to `hole_cutoff`
 abbrev pub Demanded : SpectrumFit → Float → Reply (Option ℕ) → Type 0
@@ -93,8 +93,8 @@ pub record FirstAbove (p : ℕ → Float) (allowed : Float) (ceiling c : ℕ) : 
 
 -- with none there is no such count; a cutoff is that count, or 2 for 1
 abbrev pub Finds : (ℕ → Float) → Float → ℕ → Option ℕ → Type 0
-Finds p allowed ceiling none = (j : ℕ) → 1 ≤ j → j < ceiling → lt allowed (running p j) ≡ false
-Finds p allowed ceiling (some r) = (c : ℕ) × (r ≡ max c 2) × FirstAbove p allowed ceiling c
+Finds p allowed ceiling None = (j : ℕ) → 1 ≤ j → j < ceiling → lt allowed (running p j) ≡ false
+Finds p allowed ceiling (Some r) = (c : ℕ) × (r ≡ max c 2) × FirstAbove p allowed ceiling c
 
 -- of a fit and a budget
 abbrev pub HoleFinds : SpectrumFit → Float → Option ℕ → Type 0
@@ -111,7 +111,7 @@ pub record Ceiling (fit : SpectrumFit) (n : ℕ) : Type 0 where
 abbrev pub told : Sureness → Option ℕ
 told (sure c) = c
 told (not_sure c) = c
-told no_walk = none
+told no_walk = None
 
 abbrev pub told_of : Reply Sureness → Reply (Option ℕ)
 told_of (refuse n) = refuse n

@@ -1,10 +1,9 @@
 -- The hole cutoff of a fit, as models.rs has it, and whether demand 3's premise holds of it. Definitions only. Assumes
 -- nothing.
-use Rattle.std.specs.Prelude.{ℕ, suc, min, Bool, not, ◌&&◌, ◌||◌, cond, ltb, Float}
-use Rattle.std.proofs.Math.Option.{Option, none, some}
+use Rattle.std.specs.Prelude.{ℕ, suc, min, Bool, not, ◌&&◌, ◌||◌, cond, ltb, Float, Option, None}
 use Rattle.std.specs.Float.Ieee.{lt, le, to_unsigned}
 use Rattle.std.specs.Float.Ieee.Scale.{finite}
-use Rattle.meaning.specs.Reply.{Reply, refuse, give, chain}
+use Rattle.meaning.specs.Reply.{Reply, give, chain}
 use Rattle.meaning.specs.Rows.{window_tests}
 use Rattle.routines.specs.Constants.{two, zero as nought}
 use Rattle.routines.specs.Exp.{exp_of}
@@ -12,16 +11,9 @@ use Rattle.routines.specs.Ops.{◌⊘◌, of_count}
 use Rattle.routines.specs.Whole.{round_of}
 use Rattle.helpers.specs.Shelves.{ln_single_copy_of}
 use Rattle.models.specs.declared.fit.SpectrumFit.{SpectrumFit}
-use Rattle.models.specs.Walk.{walk_of, all_probable, part_says}
-use Rattle.models.specs.declared.cutoffs.Cutoff.{Cutoff}
-use Rattle.models.specs.declared.cutoffs.Cutoff.TheVariants.{At, Nothing, Refused}
+use Rattle.models.specs.Walk.{walk_of, all_probable}
 use Rattle.models.specs.declared.cutoffs.SureCutoff.{SureCutoff}
 use Rattle.models.specs.declared.cutoffs.SureCutoff.TheVariants as surely
-
-abbrev pub cutoff_says : Cutoff → Reply (Option ℕ)
-cutoff_says (At c) = give (some c)
-cutoff_says Nothing = give none
-cutoff_says (Refused n) = refuse n
 
 -- ---- what the walk is made of
 -- the probability of a count in the single-copy component
@@ -48,7 +40,7 @@ hole_walk_of fit budget = walk_of (probability_in fit) (allowed_of fit budget) (
 -- ---- 2, 5, then none or the walk
 unfoldable pub hole_cutoff_of : SpectrumFit → Float → Reply (Option ℕ)
 hole_cutoff_of fit budget =
-    chain (window_tests fit.fit_window_end) (give (cond (walk_starts fit) (hole_walk_of fit budget) none))
+    chain (window_tests fit.fit_window_end) (give (cond (walk_starts fit) (hole_walk_of fit budget) None))
 
 -- ---- the premise of demand 3, tested: 2, 5, then no walk, or the same cutoff, sure or not
 -- the allowed share is finite, and each probability from count 0 to the ceiling lies between 0 and 2
@@ -60,11 +52,10 @@ pub data Sureness : Type 0 where
   not_sure : Option ℕ → Sureness
   no_walk : Sureness
 
-abbrev pub sure_says : SureCutoff → Reply Sureness
-sure_says (surely.Sure c) = give (sure (part_says c))
-sure_says (surely.NotSure c) = give (not_sure (part_says c))
-sure_says surely.NoWalk = give no_walk
-sure_says (surely.Refused n) = refuse n
+abbrev pub sure_says : SureCutoff → Sureness
+sure_says (surely.Sure c) = sure c
+sure_says (surely.NotSure c) = not_sure c
+sure_says surely.NoWalk = no_walk
 
 abbrev pub sureness : Bool → Option ℕ → Sureness
 sureness s found = cond s (sure found) (not_sure found)

@@ -1,5 +1,5 @@
 -- The error component, as models.rs has it, operation by operation. Definitions only. Assumes nothing.
-use Rattle.std.specs.Prelude.{ℕ, cond, Float}
+use Rattle.std.specs.Prelude.{ℕ, cond, Float, Option, None, Some}
 use Rattle.std.specs.Float.Ieee.{neg, eq}
 use Rattle.meaning.specs.Reply.{Reply}
 use Rattle.routines.specs.Constants.{zero, one}
@@ -8,13 +8,11 @@ use Rattle.routines.specs.Ln.{ln_of}
 use Rattle.routines.specs.Ops.{◌⊕◌, ◌⊖◌, ◌⊗◌, ◌⊘◌, of_count}
 use Rattle.helpers.specs.LogSums.{ln_sub_exp_of}
 use Rattle.helpers.specs.Masses.{in_window}
-use Rattle.models.specs.declared.errors.ShapePart.{ShapePart}
-use Rattle.models.specs.declared.errors.ShapePart.TheVariants.{Absent, Present}
 use Rattle.models.specs.declared.errors.ErrorParams.{ErrorParams}
 
-unfoldable pub factor_of : ShapePart → Float → Float
-factor_of Absent offset = one
-factor_of (Present beta) offset = let value = beta ⊗ offset in cond (eq value zero) one (expm1_of value ⊘ value)
+unfoldable pub factor_of : Option Float → Float → Float
+factor_of None offset = one
+factor_of (Some beta) offset = let value = beta ⊗ offset in cond (eq value zero) one (expm1_of value ⊘ value)
 
 unfoldable pub survival_of : ErrorParams → Float → Float
 survival_of p count =

@@ -1,15 +1,14 @@
 -- A fit as wholes and floats, and back: both families, both presences, the window end and the iterations; the floats in the
 -- Rust's order. What is absent has zeros. Definitions only. Assumes nothing.
-use Rattle.std.specs.Prelude.{ℕ, cond, List, [], ◌∷◌, eqb, Float, get_or}
+use Rattle.std.specs.Prelude.{ℕ, cond, List, [], ◌∷◌, eqb, Float, get_or, Option}
 use Rattle.std.specs.Float.{nan}
-use Rattle.helpers.specs.declared.shelves.ShelfPart.{ShelfPart}
 use Rattle.models.specs.Parts.{error_number, genome_number, error_of, genome_of}
 use Rattle.models.specs.Parts.{shape_there, shape_number, shape_of, shelf_there, shelf_held, shelf_from}
-use Rattle.models.specs.declared.errors.ShapePart.{ShapePart}
 use Rattle.models.specs.declared.families.ErrorModel.{ErrorModel}
 use Rattle.models.specs.declared.families.GenomeModel.{GenomeModel}
 use Rattle.models.specs.declared.fit.SpectrumFit.{SpectrumFit}
 use Rattle.models.specs.declared.fit_words.FitWords.{FitWords}
+use Rattle.helpers.specs.declared.shelves.Shelf.{Shelf}
 
 abbrev pub wholes_of : SpectrumFit → List ℕ
 wholes_of f =
@@ -40,7 +39,7 @@ abbrev pub bit_of : ℕ → ℕ
 bit_of n = cond (eqb n 0) 0 1
 
 -- with the families and parts at hand
-unfoldable pub fit_with : FitWords → ErrorModel → GenomeModel → ShapePart → ShelfPart → SpectrumFit
+unfoldable pub fit_with : FitWords → ErrorModel → GenomeModel → Option Float → Option Shelf → SpectrumFit
 fit_with w error genome shape shelf =
     let n : ℕ → ℕ = λ i. get_or w.wholes i 0 in
     let x : ℕ → Float = λ i. get_or w.floats i nan in

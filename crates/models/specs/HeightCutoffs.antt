@@ -1,10 +1,9 @@
 -- The crossover and the error floor of a fit, as models.rs has them. Definitions only. Assumes nothing.
 use Rattle.std.specs.Prelude.{ℕ, zero, suc, ◌+◌, ◌-◌, min, max, Bool, not, ◌||◌, cond, ltb, Float}
-use Rattle.std.proofs.Math.Option.{Option, none, some}
 use Rattle.std.specs.Float.Ieee.{lt, le, to_unsigned}
 use Rattle.std.specs.Float.Ieee.Scale.{finite}
 use Rattle.meaning.specs.Fold.{fold}
-use Rattle.meaning.specs.Reply.{Reply, refuse, give, chain}
+use Rattle.meaning.specs.Reply.{Reply, give, chain}
 use Rattle.meaning.specs.Rows.{window_tests}
 use Rattle.routines.specs.Constants.{two}
 use Rattle.routines.specs.Ops.{of_count}
@@ -14,8 +13,7 @@ use Rattle.models.specs.Fits.{primary_mode_of}
 use Rattle.models.specs.Heights.{heights_at}
 use Rattle.models.specs.declared.fit.SpectrumFit.{SpectrumFit}
 use Rattle.models.specs.declared.height_terms.Heights.{Heights}
-use Rattle.models.specs.declared.height_cutoffs.FloorAnswer.{FloorAnswer}
-use Rattle.models.specs.declared.height_cutoffs.FloorAnswer.TheVariants.{At, Refused}
+use Rattle.std.specs.Prelude.{Option, None, Some}
 
 abbrev pub heights_in : SpectrumFit → ℕ → Heights
 heights_in fit k = heights_at fit (of_count k)
@@ -32,10 +30,10 @@ outgrows heights c = lt (heights c).error (heights c).single
 
 -- `left` counts are left, from c on
 unfoldable pub crossing_from : (ℕ → Heights) → ℕ → ℕ → Option ℕ
-crossing_from heights zero c = none
+crossing_from heights zero c = None
 crossing_from heights (suc left) c =
     let rest = crossing_from heights left (suc c) in
-    cond (outgrows heights c) (some (max c 2)) rest
+    cond (outgrows heights c) (Some (max c 2)) rest
 
 -- c goes from 1 to ceiling - 1. The Rust cuts its answer off at 65,535; no ceiling is higher.
 unfoldable pub crossing_of : (ℕ → Heights) → ℕ → Option ℕ
@@ -45,7 +43,7 @@ unfoldable pub crossover_of : SpectrumFit → Reply (Option ℕ)
 crossover_of fit =
     let end = fit.fit_window_end in
     chain (window_tests end)
-    (give (cond (crossover_starts fit) (crossing_of (heights_in fit) (crossover_ceiling fit.mean end)) none))
+    (give (cond (crossover_starts fit) (crossing_of (heights_in fit) (crossover_ceiling fit.mean end)) None))
 
 -- ---- the error floor
 abbrev pub errors_in : SpectrumFit → ℕ → Float
@@ -64,10 +62,6 @@ last_bad_of errors reference top = fold (λ (k : ℕ). later_bad reference (erro
 
 abbrev pub floor_behind_of : ℕ → ℕ
 floor_behind_of last = max (min (last + 1) 65535) 2
-
-abbrev pub floor_says : FloorAnswer → Reply ℕ
-floor_says (At c) = give c
-floor_says (Refused n) = refuse n
 
 unfoldable pub error_floor_of : SpectrumFit → Reply ℕ
 error_floor_of fit =

@@ -2,7 +2,7 @@
 -- Definitions only. Assumes nothing.
 use Rattle.std.specs.Prelude.{ℕ, zero, suc, ◌*◌, List, [], ◌∷◌, ◌++◌, get_or, Float}
 use Rattle.std.specs.Float.{nan}
-use Rattle.meaning.specs.Reply.{Reply, refuse, give, chain}
+use Rattle.meaning.specs.Reply.{Reply, give, chain}
 use Rattle.meaning.specs.Rows.{above_most, too_short}
 use Rattle.routines.specs.Exp.{exp_of}
 use Rattle.routines.specs.Ops.{◌⊖◌, ◌⊗◌, of_count}
@@ -11,8 +11,6 @@ use Rattle.helpers.specs.Shelves.{ln_single_copy_of}
 use Rattle.models.specs.Errors.{log_probability_of}
 use Rattle.models.specs.declared.fit.SpectrumFit.{SpectrumFit}
 use Rattle.models.specs.declared.height_terms.Heights.{Heights}
-use Rattle.models.specs.declared.heights.HeightsAnswer.{HeightsAnswer}
-use Rattle.models.specs.declared.heights.HeightsAnswer.TheVariants.{At, Refused}
 
 abbrev pub height_of : Float → Float → Float → Float → Float
 height_of observed weight log mass = observed ⊗ weight ⊗ exp_of (log ⊖ mass)
@@ -30,10 +28,6 @@ heights_at fit count =
           height_of observed fit.w_repeat (ln_dnbinom_of count (fit.repeat_ratio ⊗ fit.mean) fit.dispersion)
           (get_or masses 2 nan);
     }
-
-abbrev pub heights_says : HeightsAnswer → Reply Heights
-heights_says (At h) = give h
-heights_says (Refused n) = refuse n
 
 unfoldable pub component_heights_of : SpectrumFit → ℕ → Reply Heights
 component_heights_of fit count = chain (above_most (count ∷ [])) (give (heights_at fit (of_count count)))

@@ -1,9 +1,9 @@
 -- From a parameter list to the model's parameters, as models.rs has it, operation by operation.
 -- Definitions only. Assumes nothing.
-use Rattle.std.specs.Prelude.{ℕ, ◌+◌, List, [], ◌∷◌, length, get_or, Float}
+use Rattle.std.specs.Prelude.{ℕ, ◌+◌, List, [], ◌∷◌, length, get_or, Float, Option, None, Some}
 use Rattle.std.specs.Float.{nan}
 use Rattle.std.specs.Float.Ieee.{neg}
-use Rattle.meaning.specs.Reply.{Reply, refuse, give, chain}
+use Rattle.meaning.specs.Reply.{Reply, give, chain}
 use Rattle.meaning.specs.Rows.{in_order, below_two, above_most}
 use Rattle.routines.specs.Constants.{zero, half, one}
 use Rattle.routines.specs.Exp.{exp_of}
@@ -11,8 +11,6 @@ use Rattle.routines.specs.Ops.{◌⊕◌, ◌⊖◌, ◌⊗◌, ◌⊘◌, of_co
 use Rattle.routines.specs.Starts.{dec}
 use Rattle.helpers.specs.LogSums.{sigmoid_of, softmax3_of}
 use Rattle.helpers.specs.declared.shelves.Shelf.{Shelf}
-use Rattle.helpers.specs.declared.shelves.ShelfPart.{ShelfPart}
-use Rattle.helpers.specs.declared.shelves.ShelfPart.TheVariants as shelf
 use Rattle.models.specs.Families.{parameter_count_of}
 use Rattle.models.specs.Refusals.{wrong_list}
 use Rattle.models.specs.ShelfRules.{min_retained, bounds_of, shelf_of}
@@ -21,10 +19,7 @@ use Rattle.models.specs.declared.families.ErrorModel.TheVariants.{FreeSingletonW
 use Rattle.models.specs.declared.families.GenomeModel.{GenomeModel}
 use Rattle.models.specs.declared.families.GenomeModel.TheVariants.{NegativeBinomial, ShelfNegativeBinomial}
 use Rattle.models.specs.declared.errors.ErrorParams.{ErrorParams}
-use Rattle.models.specs.declared.errors.ShapePart.TheVariants as shape
 use Rattle.models.specs.declared.params.Params.{Params}
-use Rattle.models.specs.declared.params.ParamsAnswer.{ParamsAnswer}
-use Rattle.models.specs.declared.params.ParamsAnswer.TheVariants.{At, Refused}
 
 abbrev pub mu_low : Float
 mu_low = dec 75 100
@@ -46,13 +41,13 @@ error_params_of FreeSingletonWeibull tail single s =
     record {
       singleton_probability = sigmoid_of single;
       tail_exponent = exp_of tail;
-      weibull_shape = shape.Present (exp_of s);
+      weibull_shape = Some (exp_of s);
     }
 error_params_of SingletonPareto tail single s =
     record {
       singleton_probability = sigmoid_of single;
       tail_exponent = exp_of tail;
-      weibull_shape = shape.Absent;
+      weibull_shape = None;
     }
 
 unfoldable pub ratio_of : Float → Float
@@ -67,9 +62,9 @@ shelf_at share kept narrow =
     let bounds = bounds_of retained in
     shelf_of (half ⊗ sigmoid_of share) retained (bounds.low ⊕ (bounds.high ⊖ bounds.low) ⊗ sigmoid_of narrow)
 
-abbrev pub shelf_part_of : GenomeModel → Float → Float → Float → ShelfPart
-shelf_part_of NegativeBinomial share kept narrow = shelf.Absent
-shelf_part_of ShelfNegativeBinomial share kept narrow = shelf.Present (shelf_at share kept narrow)
+abbrev pub shelf_part_of : GenomeModel → Float → Float → Float → Option Shelf
+shelf_part_of NegativeBinomial share kept narrow = None
+shelf_part_of ShelfNegativeBinomial share kept narrow = Some (shelf_at share kept narrow)
 
 -- entry i, and a NaN past the end, which no list of the right length meets
 abbrev pub theta : List Float → ℕ → Float
@@ -92,10 +87,6 @@ params_of error genome peak list =
       shelf = shelf_part_of genome (theta list (base + 1)) (theta list (base + 2)) (theta list (base + 3));
       repeat_ratio = ratio_of (theta list base);
     }
-
-abbrev pub params_says : ParamsAnswer → Reply Params
-params_says (At p) = give p
-params_says (Refused n) = refuse n
 
 unfoldable pub params_answer_of : ErrorModel → GenomeModel → ℕ → List Float → Reply Params
 params_answer_of error genome peak list =

@@ -1,11 +1,7 @@
 -- What a fit holds that is no number, as numbers, and back. Definitions only. Assumes nothing.
-use Rattle.std.specs.Prelude.{ℕ, cond, eqb, Float}
+use Rattle.std.specs.Prelude.{ℕ, cond, eqb, Float, Option, None, Some}
 use Rattle.routines.specs.Constants.{zero}
 use Rattle.helpers.specs.declared.shelves.Shelf.{Shelf}
-use Rattle.helpers.specs.declared.shelves.ShelfPart.{ShelfPart}
-use Rattle.helpers.specs.declared.shelves.ShelfPart.TheVariants as part
-use Rattle.models.specs.declared.errors.ShapePart.{ShapePart}
-use Rattle.models.specs.declared.errors.ShapePart.TheVariants as shape
 use Rattle.models.specs.declared.families.ErrorModel.{ErrorModel}
 use Rattle.models.specs.declared.families.ErrorModel.TheVariants.{FreeSingletonWeibull, SingletonPareto}
 use Rattle.models.specs.declared.families.GenomeModel.{GenomeModel}
@@ -27,24 +23,24 @@ abbrev pub genome_of : ℕ → GenomeModel
 genome_of n = cond (eqb n 0) NegativeBinomial ShelfNegativeBinomial
 
 -- ---- the parts: a presence of 0 says that the numbers beside it are not there; they are 0 then
-abbrev pub shape_there : ShapePart → ℕ
-shape_there shape.Absent = 0
-shape_there (shape.Present x) = 1
+abbrev pub shape_there : Option Float → ℕ
+shape_there None = 0
+shape_there (Some x) = 1
 
-abbrev pub shape_number : ShapePart → Float
-shape_number shape.Absent = zero
-shape_number (shape.Present x) = x
+abbrev pub shape_number : Option Float → Float
+shape_number None = zero
+shape_number (Some x) = x
 
-abbrev pub shape_of : ℕ → Float → ShapePart
-shape_of present x = cond (eqb present 0) shape.Absent (shape.Present x)
+abbrev pub shape_of : ℕ → Float → Option Float
+shape_of present x = cond (eqb present 0) None (Some x)
 
-abbrev pub shelf_there : ShelfPart → ℕ
-shelf_there part.Absent = 0
-shelf_there (part.Present s) = 1
+abbrev pub shelf_there : Option Shelf → ℕ
+shelf_there None = 0
+shelf_there (Some s) = 1
 
-abbrev pub shelf_held : ShelfPart → Shelf
-shelf_held part.Absent = record { share = zero; alpha = zero; beta = zero }
-shelf_held (part.Present s) = s
+abbrev pub shelf_held : Option Shelf → Shelf
+shelf_held None = record { share = zero; alpha = zero; beta = zero }
+shelf_held (Some s) = s
 
-abbrev pub shelf_from : ℕ → Shelf → ShelfPart
-shelf_from present s = cond (eqb present 0) part.Absent (part.Present s)
+abbrev pub shelf_from : ℕ → Shelf → Option Shelf
+shelf_from present s = cond (eqb present 0) None (Some s)

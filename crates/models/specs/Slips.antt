@@ -1,7 +1,6 @@
 -- Two walks that document 01 calls slips: over the same probabilities, the same allowed share and ceiling, but added in
 -- another order. Nothing else uses them. Definitions only. Assumes nothing.
-use Rattle.std.specs.Prelude.{ℕ, zero, suc, ◌-◌, max, cond, Float}
-use Rattle.std.proofs.Math.Option.{Option, none, some}
+use Rattle.std.specs.Prelude.{ℕ, zero, suc, ◌-◌, max, cond, Float, Option, None, Some}
 use Rattle.std.specs.Float.Ieee.{lt}
 use Rattle.routines.specs.Ops.{◌⊕◌}
 
@@ -22,10 +21,10 @@ in_pairs p (suc (suc c)) = in_pairs p c ⊕ (p (suc c) ⊕ p (suc (suc c)))
 
 -- the walk over such sums
 unfoldable pub walk_by : (ℕ → Float) → Float → ℕ → ℕ → Option ℕ
-walk_by sum allowed zero c = none
+walk_by sum allowed zero c = None
 walk_by sum allowed (suc left) c =
     let rest = walk_by sum allowed left (suc c) in
-    cond (lt allowed (sum c)) (some (max c 2)) rest
+    cond (lt allowed (sum c)) (Some (max c 2)) rest
 
 abbrev pub slip_of : (ℕ → Float) → Float → ℕ → Option ℕ
 slip_of sum allowed ceiling = walk_by sum allowed (ceiling - 1) 1

@@ -1,7 +1,6 @@
 -- From a converged list to a fit, as models.rs has it, operation by operation. Definitions only. Assumes nothing.
-use Rattle.std.specs.Prelude.{ℕ, List, [], ◌∷◌, length, Float}
+use Rattle.std.specs.Prelude.{ℕ, List, [], ◌∷◌, length, Float, None}
 use Rattle.std.specs.Float.Ieee.{neg}
-use Rattle.meaning.specs.Numbers as number
 use Rattle.meaning.specs.Over.{over}
 use Rattle.meaning.specs.Reply.{Reply, refuse, broken, give, chain}
 use Rattle.meaning.specs.Lent.{on_give}
@@ -9,7 +8,6 @@ use Rattle.routines.specs.Constants.{zero}
 use Rattle.routines.specs.Exp.{exp_of}
 use Rattle.routines.specs.Ln.{ln_of}
 use Rattle.routines.specs.Ops.{◌⊕◌, ◌⊖◌, ◌⊗◌, of_count}
-use Rattle.helpers.specs.declared.shelves.ShelfPart.TheVariants as shelf
 use Rattle.models.specs.Deviances.{two, deviance_of}
 use Rattle.models.specs.Families.{list_length_of}
 use Rattle.models.specs.Masses.{entries_of, window_masses_of}
@@ -17,7 +15,6 @@ use Rattle.models.specs.Params.{params_of}
 use Rattle.models.specs.Refusals.{fit_tests}
 use Rattle.models.specs.Spectra.{window_of}
 use Rattle.models.specs.Tables.{entries_in}
-use Rattle.models.specs.declared.errors.ShapePart.TheVariants as shape
 use Rattle.models.specs.declared.families.ErrorModel.{ErrorModel}
 use Rattle.models.specs.declared.families.ErrorModel.TheVariants.{FreeSingletonWeibull}
 use Rattle.models.specs.declared.families.GenomeModel.{GenomeModel}
@@ -25,7 +22,6 @@ use Rattle.models.specs.declared.families.GenomeModel.TheVariants.{NegativeBinom
 use Rattle.models.specs.declared.fit.SpectrumFit.{SpectrumFit}
 use Rattle.models.specs.declared.params.Params.{Params}
 use Rattle.models.specs.declared.spectra.Window.{Window}
-use Rattle.models.specs.declared.unpacking.FitAnswer.{FitAnswer}
 use Rattle.models.specs.declared.window_masses.WindowMasses.{WindowMasses}
 
 abbrev pub log_total : Float → Float → Float → Float
@@ -85,8 +81,8 @@ empty_fit =
       mean = zero;
       dispersion = zero;
       target_mode = zero;
-      error_params = record { singleton_probability = zero; tail_exponent = zero; weibull_shape = shape.Absent };
-      shelf = shelf.Absent;
+      error_params = record { singleton_probability = zero; tail_exponent = zero; weibull_shape = None };
+      shelf = None;
       repeat_ratio = zero;
       genome_kmers = zero;
       error_kmers = zero;
@@ -102,10 +98,10 @@ empty_fit =
       full_distinct_total = zero;
     }
 
-abbrev pub fit_answer_of : Reply SpectrumFit → FitAnswer
-fit_answer_of (refuse n) = record { number = n; fit = empty_fit }
-fit_answer_of (broken place) = record { number = number.broken_file; fit = empty_fit }
-fit_answer_of (give f) = record { number = 0; fit = f }
+abbrev pub fit_in : Reply SpectrumFit → SpectrumFit
+fit_in (refuse n) = empty_fit
+fit_in (broken place) = empty_fit
+fit_in (give f) = f
 
 -- `room` is the lent table's length: nothing else of it is read
 unfoldable pub unpack_of : List ℕ → Float → ℕ → ℕ → ErrorModel → GenomeModel → List Float → Float → ℕ → ℕ

@@ -1,25 +1,18 @@
 -- The walk of the hole cutoff, as models.rs has it: over probabilities by their count, added one after another in f64
 -- from count 0. And which probabilities demand 3 speaks of. Definitions only. Assumes nothing.
-use Rattle.std.specs.Prelude.{ℕ, zero, suc, ◌-◌, max, Bool, true, ◌&&◌, cond, Float}
-use Rattle.std.proofs.Math.Option.{Option, none, some}
+use Rattle.std.specs.Prelude.{ℕ, zero, suc, ◌-◌, max, Bool, true, ◌&&◌, cond, Float, Option, None, Some}
 use Rattle.std.specs.Float.Ieee.{lt, le}
 use Rattle.routines.specs.Constants.{two, zero as nought}
 use Rattle.routines.specs.Ops.{◌⊕◌}
-use Rattle.models.specs.declared.walk.CutoffPart.{CutoffPart}
-use Rattle.models.specs.declared.walk.CutoffPart.TheVariants.{Absent, Present}
-
-abbrev pub part_says : CutoffPart → Option ℕ
-part_says Absent = none
-part_says (Present c) = some c
 
 -- ---- the walk
 -- `left` counts are left, from c on; `cdf` is the f64 sum of the probabilities below c. The sum through c is compared.
 unfoldable pub walk_from : (ℕ → Float) → Float → ℕ → ℕ → Float → Option ℕ
-walk_from p allowed zero c cdf = none
+walk_from p allowed zero c cdf = None
 walk_from p allowed (suc left) c cdf =
     let next = cdf ⊕ p c in
     let rest = walk_from p allowed left (suc c) next in
-    cond (lt allowed next) (some (max c 2)) rest
+    cond (lt allowed next) (Some (max c 2)) rest
 
 -- c goes from 1 to ceiling - 1. The Rust cuts its answer off at 65,535; no ceiling is higher.
 unfoldable pub walk_of : (ℕ → Float) → Float → ℕ → Option ℕ

@@ -1,20 +1,17 @@
 -- Fits whose hole cutoff can be worked out by hand, and what it is: a single-copy lobe, or a lobe and a shelf, over a
 -- thousand k-mers. Definitions only. Assumes nothing.
-use Rattle.std.specs.Prelude.{ℕ, ◌≡◌, List, [], ◌∷◌, Float}
-use Rattle.std.proofs.Math.Option.{Option, none, some}
+use Rattle.std.specs.Prelude.{ℕ, ◌≡◌, List, [], ◌∷◌, Float, Option, None, Some}
 use Rattle.meaning.specs.Reply.{give}
 use Rattle.routines.specs.Constants.{one, zero as nought}
 use Rattle.routines.specs.Starts.{dec}
-use Rattle.helpers.specs.declared.shelves.ShelfPart.{ShelfPart}
-use Rattle.helpers.specs.declared.shelves.ShelfPart.TheVariants as shelf
-use Rattle.models.specs.declared.errors.ShapePart.TheVariants as shape
 use Rattle.models.specs.declared.families.ErrorModel.TheVariants.{SingletonPareto}
 use Rattle.models.specs.declared.families.GenomeModel.TheVariants.{NegativeBinomial}
 use Rattle.models.specs.declared.fit.SpectrumFit.{SpectrumFit}
 use Rattle.models.specs.Cutoffs.{sure, hole_cutoff_sure_of}
+use Rattle.helpers.specs.declared.shelves.Shelf.{Shelf}
 
 -- what the walk does not read is 0
-abbrev pub walked_fit : Float → Float → ShelfPart → ℕ → SpectrumFit
+abbrev pub walked_fit : Float → Float → Option Shelf → ℕ → SpectrumFit
 walked_fit mean dispersion part end =
     record {
       error_model = SingletonPareto;
@@ -28,7 +25,7 @@ walked_fit mean dispersion part end =
       error_params = record {
         singleton_probability = nought;
         tail_exponent = nought;
-        weibull_shape = shape.Absent;
+        weibull_shape = None;
       };
       shelf = part;
       repeat_ratio = nought;
@@ -49,20 +46,20 @@ walked_fit mean dispersion part end =
 -- ---- three components with mean 4, and the sums through 1, 2 and 3 that each walk compares
 -- Poisson: 0.092, 0.238, 0.433
 abbrev pub mean_four : SpectrumFit
-mean_four = walked_fit (dec 4 1) one shelf.Absent 10
+mean_four = walked_fit (dec 4 1) one None 10
 
 -- negative binomial, with dispersion 2: 3/16, 11/32, 1/2
 abbrev pub spread : SpectrumFit
-spread = walked_fit (dec 4 1) (dec 2 1) shelf.Absent 10
+spread = walked_fit (dec 4 1) (dec 2 1) None 10
 
 -- a quarter of it a shelf that is even over 0 to 4: 0.241, 0.408, 0.575
 abbrev pub shelved : SpectrumFit
-shelved = walked_fit (dec 4 1) (dec 2 1) (shelf.Present (record { share = dec 1 4; alpha = one; beta = one })) 10
+shelved = walked_fit (dec 4 1) (dec 2 1) (Some (record { share = dec 1 4; alpha = one; beta = one })) 10
 
 -- ---- Poisson with mean 3.5: the sums through 1 to 4 are 0.136, 0.321, 0.537 and 0.725. The ceiling is 4, or a window
 -- end below it.
 abbrev pub mean_and_half : ℕ → SpectrumFit
-mean_and_half end = walked_fit (dec 7 2) one shelf.Absent end
+mean_and_half end = walked_fit (dec 7 2) one None end
 
 -- ---- a fit, a budget, and the cutoff, of which `hole_cutoff_sure` is sure
 abbrev pub SureRow : Type 0
@@ -75,22 +72,22 @@ AllSure (row ∷ rows) = (hole_cutoff_sure_of row.0 row.1 ≡ give (sure row.2))
 -- each of the three answers, by each component; at 450 and 550 the one before answers none
 abbrev pub answer_rows : List SureRow
 answer_rows =
-    (mean_four, dec 100 1, some 2)
-    ∷ (mean_four, dec 300 1, some 3)
-    ∷ (mean_four, dec 1000 1, none)
-    ∷ (spread, dec 150 1, some 2)
-    ∷ (spread, dec 450 1, some 3)
-    ∷ (spread, dec 1000 1, none)
-    ∷ (shelved, dec 200 1, some 2)
-    ∷ (shelved, dec 550 1, some 3)
-    ∷ (shelved, dec 1000 1, none)
+    (mean_four, dec 100 1, Some 2)
+    ∷ (mean_four, dec 300 1, Some 3)
+    ∷ (mean_four, dec 1000 1, None)
+    ∷ (spread, dec 150 1, Some 2)
+    ∷ (spread, dec 450 1, Some 3)
+    ∷ (spread, dec 1000 1, None)
+    ∷ (shelved, dec 200 1, Some 2)
+    ∷ (shelved, dec 550 1, Some 3)
+    ∷ (shelved, dec 1000 1, None)
     ∷ []
 
 -- where the ceiling decides: none by a floored mean; 4 by a walk through the ceiling, or up to the window end; 3 by the
 -- rounded mean alone
 abbrev pub ceiling_rows : List SureRow
 ceiling_rows =
-    (mean_and_half 10, dec 400 1, some 3)
-    ∷ (mean_and_half 10, dec 600 1, none)
-    ∷ (mean_and_half 3, dec 400 1, none)
+    (mean_and_half 10, dec 400 1, Some 3)
+    ∷ (mean_and_half 10, dec 600 1, None)
+    ∷ (mean_and_half 3, dec 400 1, None)
     ∷ []

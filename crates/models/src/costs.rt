@@ -1,10 +1,10 @@
 // The cost of a parameter list. The shelf's table lies in a lent slice, and what can't be used is refused by number.
 // Ported from src/preprocessing/models.rs of bacpop/sparrowhawk-asm, f1f8af1232, Apache-2.0; ported and changed.
 ghost use Rattle.std.specs.Prelude.{◌≡◌, ◌≤◌, length};
-ghost use Rattle.helpers.specs.Answers.{number_says};
 ghost use Rattle.models.specs.Costs.{mode_held, table_with, cost_of, cost_table};
 ghost use Rattle.models.specs.Prepared.{evaluated_at, cost_ready, prepared_cost_of, prepared_cost_table};
 ghost use Rattle.models.specs.Tables.{entries_in};
+ghost use Rattle.meaning.specs.Answers.{reply_of};
 
 use crate::families::{ErrorModel, GenomeModel};
 use crate::fit::roundtrip;
@@ -16,13 +16,13 @@ use crate::steady::steady_of;
 use crate::tables::fill_table;
 use crate::usable::params_usable;
 use crate::window_masses::{masses_at, masses_usable};
-use helpers::answers::Number;
-use meaning::refusals::TOO_SHORT;
+use meaning::refusals::Refusal;
 use routines::pick::is_finite;
 
 // The mode that the mean gives back may lie this far from the mode it was made of.
 pub const NB_MODE_ROUNDTRIP_TOLERANCE: f64 = 0.5;
 
+#[tactic(auto, unfolding(crate::specs::Costs::mode_held))]
 fn mode_held(p: Params) -> bool
     ensures { result ≡ mode_held p }
 {
@@ -51,13 +51,13 @@ fn evaluate_in(
     let steady = steady_of(p);
     let m = masses_at(p, steady, ready, table, kept, top);
     if !masses_usable(m) {
-        return 1.0 / 0.0;
+        return f64::INFINITY;
     }
     let total = likelihood(bins, scale, top, p, m, steady, ready, kept, table);
     if is_finite(total) && total <= 0.0 {
         return -total;
     }
-    1.0 / 0.0
+    f64::INFINITY
 }
 
 // The same, with places of its own: few for a short window, since many take long to clear.
@@ -83,10 +83,10 @@ fn cost_at(bins: &[u32], scale: f64, top: u16, p: Params, ready: &[f64], table: 
         ≡ table_with p (entries_in p.shelf p.mean top (length table.old)) table.old }
 {
     if !params_usable(p) {
-        return 1.0 / 0.0;
+        return f64::INFINITY;
     }
     if !mode_held(p) {
-        return 1.0 / 0.0;
+        return f64::INFINITY;
     }
     let shelf = p.shelf;
     let items = fill_table(p.mean, shelf, top, table);
@@ -104,14 +104,14 @@ pub fn cost(
     genome: GenomeModel,
     theta: &[f64],
     table: &mut [f64],
-) -> Number
-    ensures result_value { number_says result
+) -> Result<f64, Refusal>
+    ensures result_value { reply_of result
         ≡ cost_of bins.now scale window_end peak error genome theta.now
         (length table.old) }
     ensures table_after { table.new
         ≡ cost_table bins.now scale window_end peak error genome theta.now table.old }
 {
-    let refused = fit_refusal(
+    fit_refusal(
         bins,
         scale,
         window_end,
@@ -120,17 +120,14 @@ pub fn cost(
         genome,
         theta.len(),
         table.len(),
-    );
-    if refused != 0 {
-        return Number::Refused(refused);
-    }
+    )?;
     let p = decode(error, genome, (peak as u16) as f64, theta);
     let used = used_scale(scale);
-    Number::Value(cost_at(bins, used, window_end as u16, p, &theta[0..0], table))
+    Ok(cost_at(bins, used, window_end as u16, p, &theta[0..0], table))
 }
 
 // The cost, with ln n and lgamma(n + 1) read from a slice as `prepare_window` fills it; 10 also where that slice is too
-// short for the window.
+// short for the window. It stands beside `cost`: a function for what both do would take these nine parameters too.
 pub fn cost_prepared(
     bins: &[u32],
     scale: f64,
@@ -141,15 +138,15 @@ pub fn cost_prepared(
     theta: &[f64],
     ready: &[f64],
     table: &mut [f64],
-) -> Number
-    ensures result_value { number_says result
+) -> Result<f64, Refusal>
+    ensures result_value { reply_of result
         ≡ prepared_cost_of bins.now scale window_end peak error genome theta.now
         ready.now (length table.old) }
     ensures table_after { table.new
         ≡ prepared_cost_table bins.now scale window_end peak error genome theta.now
         ready.now table.old }
 {
-    let refused = fit_refusal(
+    fit_refusal(
         bins,
         scale,
         window_end,
@@ -158,14 +155,11 @@ pub fn cost_prepared(
         genome,
         theta.len(),
         table.len(),
-    );
-    if refused != 0 {
-        return Number::Refused(refused);
-    }
+    )?;
     if ready.len() < 2 * (window_end + 2) {
-        return Number::Refused(TOO_SHORT);
+        return Err(Refusal::TooShort);
     }
     let p = decode(error, genome, (peak as u16) as f64, theta);
     let used = used_scale(scale);
-    Number::Value(cost_at(bins, used, window_end as u16, p, ready, table))
+    Ok(cost_at(bins, used, window_end as u16, p, ready, table))
 }

@@ -13,7 +13,8 @@ use crate::spectra::recovered_at;
 use routines::hoists::lgamma_with;
 use routines::ln::ln;
 
-// What a count leaves ready for the next one: that count, its logarithm and its log survival.
+// What a count leaves ready for the next one: that count, its logarithm and its log survival. The likelihood's comes
+// from prepared slices, so that it is another.
 #[derive(Clone, Copy)]
 struct Ready {
     count: u32,
@@ -50,6 +51,7 @@ fn ready_at(ready: Ready, p: ErrorParams, count: u32) -> Ready
 }
 
 // What the fit expects of the sample at a count: the heights are the library's.
+#[tactic(auto, unfolding(crate::specs::Deviances::expected_of))]
 fn expected_of(h: Heights, scale: f64) -> f64
     ensures { result ≡ expected_of h scale }
 {
@@ -62,7 +64,7 @@ fn deviance_term(observed: f64, expected: f64) -> f64
     if expected > 0.0 {
         return 2.0 * observed * ln(observed / expected);
     }
-    1.0 / 0.0
+    f64::INFINITY
 }
 
 // Nothing is worked out for an empty bin.
@@ -87,7 +89,7 @@ fn add_deviance(reached: Reached, n: u32, t: HeightTerms, i: u16, scale: f64) ->
         total: reached.total + deviance_term(n as f64, expected_of(h, scale)),
         ready: Ready {
             count: count + 1,
-            log: log,
+            log,
             survival: next,
         },
     }
@@ -102,11 +104,9 @@ pub(crate) fn conditional_deviance(bins: &[u32], scale: f64, top: u16, fit: Spec
         total: -0.0,
         ready: ready_of(t.error_params, 1),
     };
-    let mut i: u16 = 0;
-    while i < top {
+    for i in 0..top {
         let n = recovered_at(bins, scale, i as usize);
         reached = add_deviance(reached, n, t, i, scale);
-        i += 1;
     }
     reached.total
 }

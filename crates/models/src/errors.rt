@@ -1,24 +1,16 @@
 // The error component.
 // Ported from src/preprocessing/models.rs of bacpop/sparrowhawk-asm, f1f8af1232, Apache-2.0; ported and changed.
 ghost use Rattle.std.specs.Prelude.{◌≡◌};
-ghost use Rattle.helpers.specs.Answers.{number_says};
 ghost use Rattle.models.specs.Errors.{factor_of, survival_of, ln_tail_of, log_probability_of, log_window_mass_to};
 ghost use Rattle.models.specs.Errors.{log_window_mass_of};
 ghost use Rattle.models.specs.Hoists.{survival_with, log_probability_between, window_mass_with};
+ghost use Rattle.meaning.specs.Answers.{reply_of};
 
-use helpers::answers::Number;
 use helpers::log_sums::ln_sub_exp;
-use meaning::limits::MOST;
-use meaning::refusals::{NO_WINDOW, TOO_LARGE};
+use helpers::window_ends::window_end;
+use meaning::refusals::Refusal;
 use routines::expm1::expm1;
 use routines::ln::ln;
-
-// The Rust's Option<f64>: a Weibull shape, or none for the Pareto tail. It is never read off a family.
-#[derive(Clone, Copy)]
-pub enum ShapePart {
-    Absent,
-    Present(f64),
-}
 
 // Count 1 has the probability `singleton_probability`; from 2 on the tail has survival exp(-l ((x-1)^b - 1)/b), with l
 // the tail exponent and b the shape, and (x-1)^-l without a shape.
@@ -26,14 +18,14 @@ pub enum ShapePart {
 pub struct ErrorParams {
     pub singleton_probability: f64,
     pub tail_exponent: f64,
-    pub weibull_shape: ShapePart,
+    pub weibull_shape: Option<f64>,
 }
 
 // (e^v - 1) / v for v = shape * offset; 1 at v = 0 and without a shape.
-fn factor(shape: ShapePart, offset: f64) -> f64
+fn factor(shape: Option<f64>, offset: f64) -> f64
     ensures { result ≡ factor_of shape offset }
 {
-    let ShapePart::Present(beta) = shape else {
+    let Some(beta) = shape else {
         return 1.0;
     };
     let value = beta * offset;
@@ -45,6 +37,7 @@ fn factor(shape: ShapePart, offset: f64) -> f64
 
 impl ErrorParams {
     // ln of the probability that an error k-mer of count 2 or more reaches a count, from ln(count - 1).
+    #[tactic(auto, unfolding(crate::specs::Hoists::survival_with))]
     pub fn survival_with(self, log_offset: f64) -> f64
         ensures { result ≡ survival_with self log_offset }
     {
@@ -53,6 +46,7 @@ impl ErrorParams {
     }
 
     // ln of the probability that an error k-mer of count 2 or more reaches `count`.
+    #[tactic(auto, unfolding(crate::specs::Errors::survival_of, crate::specs::Hoists::survival_with))]
     pub fn log_survival_from_two(self, count: f64) -> f64
         ensures { result ≡ survival_of self count }
     {
@@ -66,22 +60,8 @@ impl ErrorParams {
         ln(1.0 - self.singleton_probability)
     }
 
-    // ln of the probability of `count`, with the tail's log at hand: it does not change with the count.
-    pub(crate) fn log_probability_with(self, ln_tail: f64, count: f64) -> f64
-        requires { ln_tail ≡ ln_tail_of self }
-        ensures { result ≡ log_probability_of self count }
-    {
-        if count == 1.0 {
-            return ln(self.singleton_probability);
-        }
-        ln_tail
-            + ln_sub_exp(
-                self.log_survival_from_two(count),
-                self.log_survival_from_two(count + 1.0),
-            )
-    }
-
     // ln of the probability of `count`, with the tail's log and the log survivals of `count` and of the next at hand.
+    #[tactic(auto, unfolding(crate::specs::Hoists::log_probability_between))]
     pub(crate) fn log_probability_between(
         self,
         ln_tail: f64,
@@ -98,13 +78,22 @@ impl ErrorParams {
     }
 
     // ln of the probability of `count`.
+    #[tactic(auto, unfolding(crate::specs::Errors::log_probability_of))]
     pub fn log_probability(self, count: f64) -> f64
         ensures { result ≡ log_probability_of self count }
     {
-        self.log_probability_with(self.ln_tail(), count)
+        if count == 1.0 {
+            return ln(self.singleton_probability);
+        }
+        self.ln_tail()
+            + ln_sub_exp(
+                self.log_survival_from_two(count),
+                self.log_survival_from_two(count + 1.0),
+            )
     }
 
     // ln of the mass on 1 to a window end, with the tail's log and the window end's log at hand.
+    #[tactic(auto, unfolding(crate::specs::Hoists::window_mass_with))]
     pub(crate) fn window_mass_with(self, ln_tail: f64, log: f64) -> f64
         ensures { result ≡ window_mass_with self ln_tail log }
     {
@@ -112,7 +101,8 @@ impl ErrorParams {
         ln(-expm1(log_beyond))
     }
 
-    // ln of the mass on 1 to `top`, for any top that a u16 holds.
+    // ln of the mass on 1 to `top`, for any top that a u16 holds: with the 1 added and taken off, as the Rust has it.
+    #[tactic(auto, unfolding(crate::specs::Errors::log_window_mass_to))]
     pub(crate) fn log_window_mass_to(self, top: u16) -> f64
         ensures { result ≡ log_window_mass_to self top }
     {
@@ -121,15 +111,10 @@ impl ErrorParams {
     }
 
     // ln of the mass on 1 to `top`; 2 for a top above 65,535 and 5 for 0.
-    pub fn log_window_mass(self, top: usize) -> Number
-        ensures { number_says result ≡ log_window_mass_of self top }
+    pub fn log_window_mass(self, top: usize) -> Result<f64, Refusal>
+        ensures { reply_of result ≡ log_window_mass_of self top }
     {
-        if top > MOST {
-            return Number::Refused(TOO_LARGE);
-        }
-        if top == 0 {
-            return Number::Refused(NO_WINDOW);
-        }
-        Number::Value(self.log_window_mass_to(top as u16))
+        let end = window_end(top)?;
+        Ok(self.log_window_mass_to(end.count()))
     }
 }

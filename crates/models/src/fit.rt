@@ -8,7 +8,7 @@ use crate::errors::ErrorParams;
 use crate::families::{ErrorModel, GenomeModel};
 use helpers::lobes::discrete_nb_mode;
 use helpers::log_sums::lse3;
-use helpers::shelves::ShelfPart;
+use helpers::shelves::Shelf;
 use routines::exp::exp;
 use routines::ln::ln;
 
@@ -28,7 +28,7 @@ pub struct SpectrumFit {
     pub target_mode: f64,
     pub error_params: ErrorParams,
     // It lies under the single-copy lobe, where the model has one.
-    pub shelf: ShelfPart,
+    pub shelf: Option<Shelf>,
     // The repeat lobe's mean over the single-copy lobe's.
     pub repeat_ratio: f64,
     // Distinct k-mers of each component over every count, in the library.
@@ -59,13 +59,7 @@ pub struct SpectrumFit {
 pub fn abs(x: f64) -> f64
     ensures { result ≡ abs_of x }
 {
-    if x < 0.0 {
-        return -x;
-    }
-    if x == 0.0 {
-        return 0.0;
-    }
-    x
+    x.abs()
 }
 
 // How far the mode that the mean gives back lies from the mode the fit was at.
@@ -76,6 +70,7 @@ pub(crate) fn roundtrip(mean: f64, dispersion: f64, mode: f64) -> f64
 }
 
 // The components' totals over the spectrum's distinct k-mers. The validator tests the same in logs.
+#[tactic(auto, unfolding(crate::specs::Fits::total_ratio_of))]
 pub fn component_total_ratio(fit: SpectrumFit) -> f64
     ensures { result ≡ total_ratio_of fit }
 {

@@ -4,11 +4,9 @@ ghost use Rattle.std.specs.Prelude.{◌≡◌};
 ghost use Rattle.models.specs.FitWords.{wholes_of, floats_of, bit_of, fit_words_of, fit_of_words};
 
 use crate::errors::ErrorParams;
+use crate::families::{ErrorModel, GenomeModel};
 use crate::fit::SpectrumFit;
-use crate::parts::{
-    error_number, error_of, genome_number, genome_of, shape_number, shape_of, shape_there,
-    shelf_from, shelf_held, shelf_there,
-};
+use crate::parts::{shape_number, shape_of, shape_there, shelf_from, shelf_held, shelf_there};
 use helpers::shelves::Shelf;
 
 #[derive(Clone, Copy)]
@@ -26,15 +24,16 @@ fn wholes_of(fit: SpectrumFit) -> [u64; 6]
     let error = fit.error_model;
     let genome = fit.genome_model;
     [
-        error_number(error) as u64,
-        genome_number(genome) as u64,
-        shape_there(shape) as u64,
-        shelf_there(shelf) as u64,
+        u64::from(u8::from(error)),
+        u64::from(u8::from(genome)),
+        u64::from(shape_there(shape)),
+        u64::from(shelf_there(shelf)),
         fit.fit_window_end as u64,
         fit.best_iterations,
     ]
 }
 
+#[tactic(auto, unfolding(crate::specs::FitWords::floats_of))]
 fn floats_of(fit: SpectrumFit) -> [f64; 27]
     ensures { result ≡ floats_of fit }
 {
@@ -96,8 +95,8 @@ pub fn fit_of_words(words: FitWords) -> SpectrumFit
 {
     let n = words.wholes;
     let x = words.floats;
-    let error = error_of(bit_of(n[0]));
-    let genome = genome_of(bit_of(n[1]));
+    let error = ErrorModel::from(bit_of(n[0]));
+    let genome = GenomeModel::from(bit_of(n[1]));
     let shape = shape_of(bit_of(n[2]), x[8]);
     let held = Shelf {
         share: x[9],

@@ -10,7 +10,8 @@ use crate::height_terms::{HeightTerms, heights_from};
 use routines::hoists::lgamma_with;
 use routines::ln::ln;
 
-// Those at the counts 1 to `last`; what lies behind stays as it is.
+// Those at the counts 1 to `last`; what lies behind stays as it is. Written by index: a proof knows nothing of what was
+// written through an iterator of chunks.
 pub(crate) fn write_heights(t: HeightTerms, last: u16, out: &mut [f64])
     requires { 3 * last ≤ length out.old }
     ensures { out.new ≡ over (height_rows (λ (k : ℕ). heights_of t (of_count k)) last) out.old }
@@ -18,8 +19,7 @@ pub(crate) fn write_heights(t: HeightTerms, last: u16, out: &mut [f64])
     let p = t.error_params;
     let mut log = ln(1.0);
     let mut here = p.log_survival_from_two(1.0);
-    let mut i: u16 = 0;
-    while i < last {
+    for i in 0..last {
         let at = 3 * (i as usize);
         let count = (i as u32) + 1;
         let after = ln((count + 1) as f64);
@@ -31,6 +31,5 @@ pub(crate) fn write_heights(t: HeightTerms, last: u16, out: &mut [f64])
         out[at + 2] = h.repeat;
         log = after;
         here = next;
-        i += 1;
     }
 }

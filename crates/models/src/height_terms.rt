@@ -37,6 +37,7 @@ pub struct HeightTerms {
     pub repeat_mass: f64,
 }
 
+#[tactic(auto, unfolding(crate::specs::HeightTerms::height_terms_of))]
 pub fn height_terms(fit: SpectrumFit) -> HeightTerms
     ensures { result ≡ height_terms_of fit }
 {
@@ -44,7 +45,7 @@ pub fn height_terms(fit: SpectrumFit) -> HeightTerms
     let shelf = fit.shelf;
     let masses = fit.component_log_window_masses;
     HeightTerms {
-        error_params: error_params,
+        error_params,
         ln_tail: error_params.ln_tail(),
         single: single_copy_of(fit.mean, fit.dispersion, shelf),
         repeat: lobe_of(fit.repeat_ratio * fit.mean, fit.dispersion),
@@ -65,6 +66,7 @@ fn scaled(inside: f64, log: f64, mass: f64) -> f64
 }
 
 // The error component's height at a count, from the log survivals of that count and of the next.
+#[tactic(auto, unfolding(crate::specs::HeightTerms::error_height_from))]
 pub fn error_height_from(t: HeightTerms, count: f64, here: f64, next: f64) -> f64
     ensures { result ≡ error_height_from t count here next }
 {
@@ -74,6 +76,7 @@ pub fn error_height_from(t: HeightTerms, count: f64, here: f64, next: f64) -> f6
     scaled(t.error_inside, log, t.error_mass)
 }
 
+#[tactic(auto, unfolding(crate::specs::HeightTerms::error_height_of))]
 pub fn error_height(t: HeightTerms, count: f64) -> f64
     ensures { result ≡ error_height_of t count }
 {
@@ -83,6 +86,7 @@ pub fn error_height(t: HeightTerms, count: f64) -> f64
 }
 
 // The single-copy component's height at a count, with lgamma(count + 1) at hand.
+#[tactic(auto, unfolding(crate::specs::HeightTerms::single_height_with))]
 pub(crate) fn single_height_with(t: HeightTerms, count: f64, gamma: f64) -> f64
     ensures { result ≡ single_height_with t count gamma }
 {
@@ -93,13 +97,16 @@ pub(crate) fn single_height_with(t: HeightTerms, count: f64, gamma: f64) -> f64
     )
 }
 
+#[tactic(auto, unfolding(crate::specs::HeightTerms::single_height_of))]
 pub fn single_height(t: HeightTerms, count: f64) -> f64
     ensures { result ≡ single_height_of t count }
 {
     single_height_with(t, count, lgamma(count + 1.0))
 }
 
-// The repeat component's height at a count, with lgamma(count + 1) at hand.
+// The repeat component's height at a count, with lgamma(count + 1) at hand. It has a lobe alone, where the single-copy
+// component may have a shelf: so the two are of different types.
+#[tactic(auto, unfolding(crate::specs::HeightTerms::repeat_height_with))]
 fn repeat_height_with(t: HeightTerms, count: f64, gamma: f64) -> f64
     ensures { result ≡ repeat_height_with t count gamma }
 {
@@ -110,6 +117,7 @@ fn repeat_height_with(t: HeightTerms, count: f64, gamma: f64) -> f64
     )
 }
 
+#[tactic(auto, unfolding(crate::specs::HeightTerms::repeat_height_of))]
 pub fn repeat_height(t: HeightTerms, count: f64) -> f64
     ensures { result ≡ repeat_height_of t count }
 {

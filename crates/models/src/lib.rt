@@ -21,6 +21,7 @@ pub mod prepared;
 pub mod problems;
 pub mod recovery;
 pub mod refusals;
+pub mod scans;
 pub mod shelf_rules;
 pub mod spectra;
 pub mod steady;

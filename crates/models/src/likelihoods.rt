@@ -166,11 +166,9 @@ pub(crate) fn likelihood(
         total: -0.0,
         ahead: ahead_of(error, ready, 0),
     };
-    let mut i: u16 = 0;
-    while i < top {
+    for i in 0..top {
         let n = recovered_at(bins, scale, i as usize);
         reached = add_point(reached, n, p, m, steady, i, ready, kept, table);
-        i += 1;
     }
     reached.total
 }

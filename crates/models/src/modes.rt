@@ -6,14 +6,13 @@ ghost use Rattle.std.specs.Float.Ieee.{lt};
 ghost use Rattle.routines.specs.Ops.{◌⊕◌, of_count};
 ghost use Rattle.helpers.specs.LogSums.{ln_sub_exp_of};
 ghost use Rattle.models.specs.Hoists.{log_probability_between};
-ghost use Rattle.helpers.specs.Answers.{count_says};
 ghost use Rattle.models.specs.Modes.{later_wins, with_nan, higher_with, highest_of, error_mode_of};
+ghost use Rattle.meaning.specs.Answers.{reply_of};
 
 use crate::errors::ErrorParams;
 use crate::fit::SpectrumFit;
-use helpers::answers::Count;
-use meaning::limits::MOST;
-use meaning::refusals::{NAN_SCANNED, NO_WINDOW, TOO_LARGE};
+use helpers::window_ends::window_end;
+use meaning::refusals::Refusal;
 use routines::ln::ln;
 
 // The highest of the counts so far, and whether one of them was NaN.
@@ -25,6 +24,7 @@ struct Standing {
 }
 
 // The order of all numbers that are not NaN, with -0 below +0: 1 / -0 is below 1 / +0.
+#[tactic(auto, unfolding(crate::specs::Modes::later_wins))]
 fn later_wins(best: f64, here: f64) -> bool
     ensures { result ≡ later_wins best here }
 {
@@ -37,33 +37,32 @@ fn later_wins(best: f64, here: f64) -> bool
 fn with_nan(nan: bool, here: f64) -> bool
     ensures { result ≡ with_nan nan here }
 {
-    if nan {
-        return true;
-    }
-    here != here
+    nan || here.is_nan()
 }
 
 // `here` is the log probability of `count`.
+#[tactic(auto, unfolding(crate::specs::Modes::higher_with))]
 fn higher(best: Standing, count: u32, here: f64) -> Standing
     ensures { result ≡ higher_with here count best }
 {
     let nan = with_nan(best.nan, here);
     if later_wins(best.log, here) {
         return Standing {
-            count: count,
+            count,
             log: here,
-            nan: nan,
+            nan,
         };
     }
     Standing {
         count: best.count,
         log: best.log,
-        nan: nan,
+        nan,
     }
 }
 
 // Whether a count is sure to be below `best`: from 2 on, where the tail's log and the step to the next survival are not
-// above 0, its log probability is at most its survival, and no NaN.
+// above 0, its log probability is at most its survival, and no NaN. Test by test: behind one chain of && the check
+// leaves the goal of the clause open.
 fn outdone(best: f64, ln_tail: f64, count: u32, survival: f64, next: f64) -> bool
     ensures { result ≡ true → (1 < count) × (lt (ln_tail ⊕ ln_sub_exp_of survival next) best ≡ true) }
 {
@@ -106,36 +105,28 @@ fn highest(p: ErrorParams, top: u16) -> Standing
 {
     let mut best = Standing {
         count: 1,
-        log: -1.0 / 0.0,
+        log: f64::NEG_INFINITY,
         nan: false,
     };
     let ln_tail = p.ln_tail();
     let mut survival = p.log_survival_from_two(1.0);
-    let mut count: u32 = 1;
-    while count <= (top as u32) {
+    for count in 1..=(top as u32) {
         let next = p.survival_with(ln(count as f64));
         best = step(best, p, ln_tail, count, survival, next);
         survival = next;
-        count += 1;
     }
     best
 }
 
 // The later of equal maxima, which the validator wants below the valley; 2 for a window end above 65,535, 5 for 0, 8
 // for a NaN among the heights.
-pub fn error_mode(fit: SpectrumFit) -> Count
-    ensures { count_says result ≡ error_mode_of fit }
+pub fn error_mode(fit: SpectrumFit) -> Result<u64, Refusal>
+    ensures { reply_of result ≡ error_mode_of fit }
 {
-    let top = fit.fit_window_end;
-    if top > MOST {
-        return Count::Refused(TOO_LARGE);
-    }
-    if top == 0 {
-        return Count::Refused(NO_WINDOW);
-    }
-    let best = highest(fit.error_params, top as u16);
+    let end = window_end(fit.fit_window_end)?;
+    let best = highest(fit.error_params, end.count());
     if best.nan {
-        return Count::Refused(NAN_SCANNED);
+        return Err(Refusal::NanScanned);
     }
-    Count::Whole(best.count as u64)
+    Ok(best.count as u64)
 }

@@ -3,17 +3,18 @@
 ghost use Rattle.std.specs.Prelude.{◌≡◌, get_or};
 ghost use Rattle.std.specs.Float.{nan};
 ghost use Rattle.models.specs.Params.{mode_of, error_params_of, ratio_of, shelf_at, shelf_part_of, params_of};
-ghost use Rattle.models.specs.Params.{params_answer_of, params_says};
+ghost use Rattle.models.specs.Params.{params_answer_of};
+ghost use Rattle.meaning.specs.Answers.{reply_of};
 
-use crate::errors::{ErrorParams, ShapePart};
+use crate::errors::ErrorParams;
 use crate::families::{ErrorModel, GenomeModel, list_length};
 use crate::shelf_rules::{
     SHELF_MAX_SHARE, SHELF_MIN_RETAINED, from_retained, shelf_concentration_bounds,
 };
 use helpers::log_sums::{ln_softmax3, sigmoid};
-use helpers::shelves::{Shelf, ShelfPart};
+use helpers::shelves::Shelf;
 use meaning::limits::MOST;
-use meaning::refusals::{TOO_LARGE, TOO_SMALL, WRONG_LENGTH};
+use meaning::refusals::Refusal;
 use routines::exp::exp;
 
 // The single-copy mode is held within 0.75 to 1.33 times the peak.
@@ -37,21 +38,15 @@ pub struct Params {
     pub mean: f64,
     pub dispersion: f64,
     pub error_params: ErrorParams,
-    pub shelf: ShelfPart,
+    pub shelf: Option<Shelf>,
     pub repeat_ratio: f64,
-}
-
-#[derive(Clone, Copy)]
-pub enum ParamsAnswer {
-    At(Params),
-    Refused(u8),
 }
 
 // Entry i of a list, and a NaN past its end.
 fn at(theta: &[f64], i: usize) -> f64
     ensures { result ≡ get_or theta.now i nan }
 {
-    if i < theta.len() { theta[i] } else { 0.0 / 0.0 }
+    theta.get(i).copied().unwrap_or(f64::NAN)
 }
 
 fn mode_at(peak: f64, t: f64) -> f64
@@ -69,12 +64,12 @@ fn error_params_at(family: ErrorModel, tail: f64, single: f64, shape: f64) -> Er
         ErrorModel::FreeSingletonWeibull => ErrorParams {
             singleton_probability,
             tail_exponent,
-            weibull_shape: ShapePart::Present(exp(shape)),
+            weibull_shape: Some(exp(shape)),
         },
         ErrorModel::SingletonPareto => ErrorParams {
             singleton_probability,
             tail_exponent,
-            weibull_shape: ShapePart::Absent,
+            weibull_shape: None,
         },
     }
 }
@@ -97,16 +92,17 @@ fn shelf_at(share: f64, kept: f64, narrow: f64) -> Shelf
     )
 }
 
-fn shelf_part_at(family: GenomeModel, share: f64, kept: f64, narrow: f64) -> ShelfPart
+fn shelf_part_at(family: GenomeModel, share: f64, kept: f64, narrow: f64) -> Option<Shelf>
     ensures { result ≡ shelf_part_of family share kept narrow }
 {
     match family {
-        GenomeModel::NegativeBinomial => ShelfPart::Absent,
-        GenomeModel::ShelfNegativeBinomial => ShelfPart::Present(shelf_at(share, kept, narrow)),
+        GenomeModel::NegativeBinomial => None,
+        GenomeModel::ShelfNegativeBinomial => Some(shelf_at(share, kept, narrow)),
     }
 }
 
 // The list decoded: softmax weights with the error's logit at 0, and sigmoid or exponential maps into each range.
+#[tactic(auto, unfolding(crate::specs::Params::params_of))]
 pub(crate) fn decode(error: ErrorModel, genome: GenomeModel, peak: f64, theta: &[f64]) -> Params
     ensures { result ≡ params_of error genome peak theta.now }
 {
@@ -138,17 +134,17 @@ pub fn params_from(
     genome: GenomeModel,
     peak: usize,
     theta: &[f64],
-) -> ParamsAnswer
-    ensures { params_says result ≡ params_answer_of error genome peak theta.now }
+) -> Result<Params, Refusal>
+    ensures { reply_of result ≡ params_answer_of error genome peak theta.now }
 {
     if peak < 2 {
-        return ParamsAnswer::Refused(TOO_SMALL);
+        return Err(Refusal::TooSmall);
     }
     if peak > MOST {
-        return ParamsAnswer::Refused(TOO_LARGE);
+        return Err(Refusal::TooLarge);
     }
     if theta.len() != list_length(error, genome) {
-        return ParamsAnswer::Refused(WRONG_LENGTH);
+        return Err(Refusal::WrongLength);
     }
-    ParamsAnswer::At(decode(error, genome, (peak as u16) as f64, theta))
+    Ok(decode(error, genome, (peak as u16) as f64, theta))
 }

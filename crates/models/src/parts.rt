@@ -4,102 +4,92 @@ ghost use Rattle.std.specs.Prelude.{◌≡◌};
 ghost use Rattle.models.specs.Parts.{error_number, genome_number, error_of, genome_of, shape_there, shape_number};
 ghost use Rattle.models.specs.Parts.{shape_of, shelf_there, shelf_held, shelf_from};
 
-use crate::errors::ShapePart;
 use crate::families::{ErrorModel, GenomeModel};
-use helpers::shelves::{Shelf, ShelfPart};
+use helpers::shelves::Shelf;
+use meaning::flags::byte_of;
 
-pub fn error_number(error: ErrorModel) -> u8
-    ensures { result ≡ error_number error }
-{
-    match error {
-        ErrorModel::FreeSingletonWeibull => 0,
-        ErrorModel::SingletonPareto => 1,
+impl From<ErrorModel> for u8 {
+    ghost from_gives = { λ error number. number ≡ error_number error };
+
+    fn from(error: ErrorModel) -> u8 {
+        match error {
+            ErrorModel::FreeSingletonWeibull => 0,
+            ErrorModel::SingletonPareto => 1,
+        }
     }
 }
 
-pub fn genome_number(genome: GenomeModel) -> u8
-    ensures { result ≡ genome_number genome }
-{
-    match genome {
-        GenomeModel::NegativeBinomial => 0,
-        GenomeModel::ShelfNegativeBinomial => 1,
+impl From<u8> for ErrorModel {
+    ghost from_gives = { λ number error. error ≡ error_of number };
+
+    fn from(number: u8) -> ErrorModel {
+        if number == 0 {
+            return ErrorModel::FreeSingletonWeibull;
+        }
+        ErrorModel::SingletonPareto
     }
 }
 
-pub fn error_of(error: u8) -> ErrorModel
-    ensures { result ≡ error_of error }
-{
-    if error == 0 {
-        return ErrorModel::FreeSingletonWeibull;
+impl From<GenomeModel> for u8 {
+    ghost from_gives = { λ genome number. number ≡ genome_number genome };
+
+    fn from(genome: GenomeModel) -> u8 {
+        match genome {
+            GenomeModel::NegativeBinomial => 0,
+            GenomeModel::ShelfNegativeBinomial => 1,
+        }
     }
-    ErrorModel::SingletonPareto
 }
 
-pub fn genome_of(genome: u8) -> GenomeModel
-    ensures { result ≡ genome_of genome }
-{
-    if genome == 0 {
-        return GenomeModel::NegativeBinomial;
+impl From<u8> for GenomeModel {
+    ghost from_gives = { λ number genome. genome ≡ genome_of number };
+
+    fn from(number: u8) -> GenomeModel {
+        if number == 0 {
+            return GenomeModel::NegativeBinomial;
+        }
+        GenomeModel::ShelfNegativeBinomial
     }
-    GenomeModel::ShelfNegativeBinomial
 }
 
-pub fn shape_there(shape: ShapePart) -> u8
+pub fn shape_there(shape: Option<f64>) -> u8
     ensures { result ≡ shape_there shape }
 {
-    match shape {
-        ShapePart::Absent => 0,
-        ShapePart::Present(_) => 1,
-    }
+    byte_of(shape.is_some())
 }
 
 // 0 for a shape that is not there.
-pub fn shape_number(shape: ShapePart) -> f64
+pub fn shape_number(shape: Option<f64>) -> f64
     ensures { result ≡ shape_number shape }
 {
-    match shape {
-        ShapePart::Absent => 0.0,
-        ShapePart::Present(value) => value,
-    }
+    shape.unwrap_or(0.0)
 }
 
-pub fn shape_of(present: u8, shape: f64) -> ShapePart
+pub fn shape_of(present: u8, shape: f64) -> Option<f64>
     ensures { result ≡ shape_of present shape }
 {
-    if present == 0 {
-        return ShapePart::Absent;
-    }
-    ShapePart::Present(shape)
+    if present == 0 { None } else { Some(shape) }
 }
 
-pub fn shelf_there(shelf: ShelfPart) -> u8
+pub fn shelf_there(shelf: Option<Shelf>) -> u8
     ensures { result ≡ shelf_there shelf }
 {
-    match shelf {
-        ShelfPart::Absent => 0,
-        ShelfPart::Present(_) => 1,
-    }
+    byte_of(shelf.is_some())
 }
 
 // Three zeros for a shelf that is not there.
-pub fn shelf_held(shelf: ShelfPart) -> Shelf
+pub fn shelf_held(shelf: Option<Shelf>) -> Shelf
     ensures { result ≡ shelf_held shelf }
 {
-    match shelf {
-        ShelfPart::Absent => Shelf {
-            share: 0.0,
-            alpha: 0.0,
-            beta: 0.0,
-        },
-        ShelfPart::Present(s) => s,
-    }
+    shelf.unwrap_or(Shelf {
+        share: 0.0,
+        alpha: 0.0,
+        beta: 0.0,
+    })
 }
 
-pub fn shelf_from(present: u8, shelf: Shelf) -> ShelfPart
+pub fn shelf_from(present: u8, shelf: Shelf) -> Option<Shelf>
     ensures { result ≡ shelf_from present shelf }
 {
-    if present == 0 {
-        return ShelfPart::Absent;
-    }
-    ShelfPart::Present(shelf)
+    if present == 0 { None } else { Some(shelf) }
 }

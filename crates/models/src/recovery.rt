@@ -9,15 +9,15 @@ use routines::pick::is_finite;
 use routines::whole::round;
 
 // A scale that is not finite or is below 1 becomes 1.
+#[tactic(auto, unfolding(crate::specs::Recovery::used_scale_of))]
 pub fn used_scale(scale: f64) -> f64
     ensures { result ≡ used_scale_of scale }
 {
-    if is_finite(scale) {
-        if scale >= 1.0 {
-            return scale;
-        }
+    if is_finite(scale) && scale >= 1.0 {
+        scale
+    } else {
+        1.0
     }
-    1.0
 }
 
 // n / divisor, a half away from zero. Over 1 that is n.

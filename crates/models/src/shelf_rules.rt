@@ -20,6 +20,7 @@ pub const SHELF_MAX_CONCENTRATION: f64 = 20.0;
 const SLACK: f64 = 1e-9;
 
 // The mean fraction of coverage that the shelf's k-mers keep.
+#[tactic(auto, unfolding(crate::specs::ShelfRules::retained_of))]
 pub fn retained(s: Shelf) -> f64
     ensures { result ≡ retained_of s }
 {
@@ -27,6 +28,7 @@ pub fn retained(s: Shelf) -> f64
 }
 
 // How narrow the shelf is: the variance of the retained fraction m is m (1 - m) / (a + b + 1).
+#[tactic(auto, unfolding(crate::specs::ShelfRules::concentration_of))]
 pub fn concentration(s: Shelf) -> f64
     ensures { result ≡ concentration_of s }
 {

@@ -24,10 +24,11 @@ pub(crate) struct Window {
 fn bin_at(bins: &[u32], i: usize) -> u32
     ensures { result ≡ get_or bins.now i 0 }
 {
-    if i < bins.len() { bins[i] } else { 0 }
+    bins.get(i).copied().unwrap_or(0)
 }
 
 // Bin i over the scale.
+#[tactic(auto, unfolding(crate::specs::Spectra::recovered_at))]
 pub(crate) fn recovered_at(bins: &[u32], scale: f64, i: usize) -> u32
     ensures { result ≡ recovered_at bins.now scale i }
 {
@@ -35,6 +36,7 @@ pub(crate) fn recovered_at(bins: &[u32], scale: f64, i: usize) -> u32
 }
 
 // A sum is taken over the bins that are not empty.
+#[tactic(auto, unfolding(crate::specs::Spectra::seen_term))]
 fn add_seen(total: f64, n: u32) -> f64
     ensures { result ≡ seen_term n total (of_count n) }
 {
@@ -49,10 +51,8 @@ fn observed_total(bins: &[u32], scale: f64, top: u16) -> f64
     ensures { result ≡ observed_total_of bins.now scale top }
 {
     let mut total = -0.0;
-    let mut i: u16 = 0;
-    while i < top {
+    for i in 0..top {
         total = add_seen(total, recovered_at(bins, scale, i as usize));
-        i += 1;
     }
     total
 }
@@ -62,10 +62,8 @@ fn full_total(bins: &[u32]) -> f64
     ensures { result ≡ full_total_of bins.now }
 {
     let mut total = -0.0;
-    let mut i: usize = 0;
-    while i < bins.len() {
-        total = total + (bins[i] as f64);
-        i += 1;
+    for &n in bins {
+        total += n as f64;
     }
     total
 }
@@ -86,26 +84,12 @@ pub(crate) fn window_of(bins: &[u32], scale: f64, end: u16) -> Window
 pub(crate) fn all_zero(bins: &[u32]) -> bool
     ensures { result ≡ all_zero_of bins.now }
 {
-    let mut i: usize = 0;
-    while i < bins.len() {
-        if bins[i] != 0 {
-            return false;
-        }
-        i += 1;
-    }
-    true
+    bins.iter().all(|&n| n == 0)
 }
 
 // Whether every recovered bin at counts 1 to `top` is zero.
 pub(crate) fn none_recovered(bins: &[u32], scale: f64, top: usize) -> bool
     ensures { result ≡ none_recovered_of bins.now scale top }
 {
-    let mut i: usize = 0;
-    while i < top {
-        if recovered_at(bins, scale, i) != 0 {
-            return false;
-        }
-        i += 1;
-    }
-    true
+    (0..top).all(|i| recovered_at(bins, scale, i) == 0)
 }

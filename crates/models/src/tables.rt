@@ -3,22 +3,15 @@ ghost use Rattle.std.specs.Prelude.{◌≡◌, length};
 ghost use Rattle.meaning.specs.Over.{over};
 ghost use Rattle.models.specs.Tables.{entries_in};
 
-use helpers::shelves::{ShelfPart, shelf_log_table};
-use meaning::answers::Written;
+use helpers::shelves::{Shelf, shelf_log_table};
 
 // How many entries were written: all, and none where there is no shelf or they do not fit.
-pub(crate) fn fill_table(mean: f64, shelf: ShelfPart, top: u16, table: &mut [f64]) -> usize
+pub(crate) fn fill_table(mean: f64, shelf: Option<Shelf>, top: u16, table: &mut [f64]) -> usize
     ensures value { result ≡ length (entries_in shelf mean top (length table.old)) }
     ensures table_after { table.new ≡ over (entries_in shelf mean top (length table.old)) table.old }
 {
     match shelf {
-        ShelfPart::Absent => 0,
-        ShelfPart::Present(s) => {
-            let written = shelf_log_table(mean, s, top as usize, table);
-            match written {
-                Written::Items(n) => n,
-                Written::Refused(_) => 0,
-            }
-        }
+        None => 0,
+        Some(s) => { shelf_log_table(mean, s, top as usize, table).unwrap_or(0) }
     }
 }

@@ -2,13 +2,14 @@
 // Ported from src/preprocessing/models.rs of bacpop/sparrowhawk-asm, f1f8af1232, Apache-2.0; ported and changed:
 // the shelf's table lies in a lent slice, and what can't be used is refused by number.
 ghost use Rattle.std.specs.Prelude.{◌≡◌, ◌≤◌, length};
+ghost use Rattle.meaning.specs.Answers.{reply_of};
 ghost use Rattle.meaning.specs.Over.{over};
 ghost use Rattle.models.specs.Tables.{entries_in};
-ghost use Rattle.models.specs.Unpacking.{log_total, fit_of, fit_at, empty_fit, fit_answer_of, unpack_of, unpack_table};
+ghost use Rattle.models.specs.Unpacking.{log_total, fit_of, fit_at, empty_fit, unpack_of, unpack_table};
 ghost use Rattle.models.specs.Unpacking.{unpack_entries, unpack_at};
 
 use crate::deviances::conditional_deviance;
-use crate::errors::{ErrorParams, ShapePart};
+use crate::errors::ErrorParams;
 use crate::families::{ErrorModel, GenomeModel, list_length};
 use crate::fit::SpectrumFit;
 use crate::params::{Params, decode};
@@ -16,16 +17,9 @@ use crate::refusals::fit_refusal;
 use crate::spectra::{Window, window_of};
 use crate::tables::fill_table;
 use crate::window_masses::{WindowMasses, masses_of};
-use helpers::shelves::ShelfPart;
+use meaning::refusals::Refusal;
 use routines::exp::exp;
 use routines::ln::ln;
-
-// `number` is 0 beside a fit; beside a number the fit is the empty one.
-#[derive(Clone, Copy)]
-pub struct FitAnswer {
-    pub number: u8,
-    pub fit: SpectrumFit,
-}
 
 // A component's log total of k-mers over every count.
 fn log_total(ln_weight: f64, ln_library: f64, mass: f64) -> f64
@@ -64,8 +58,8 @@ fn fit_of(
         mean: p.mean,
         dispersion: p.dispersion,
         target_mode: p.target_mode,
-        error_params: error_params,
-        shelf: shelf,
+        error_params,
+        shelf,
         repeat_ratio: p.repeat_ratio,
         genome_kmers: exp(total_single),
         error_kmers: exp(total_error),
@@ -110,6 +104,7 @@ fn fit_at(
 }
 
 // The fit beside a number.
+#[tactic(auto, unfolding(crate::specs::Unpacking::empty_fit))]
 pub fn empty_fit() -> SpectrumFit
     ensures { result ≡ empty_fit }
 {
@@ -125,9 +120,9 @@ pub fn empty_fit() -> SpectrumFit
         error_params: ErrorParams {
             singleton_probability: 0.0,
             tail_exponent: 0.0,
-            weibull_shape: ShapePart::Absent,
+            weibull_shape: None,
         },
-        shelf: ShelfPart::Absent,
+        shelf: None,
         repeat_ratio: 0.0,
         genome_kmers: 0.0,
         error_kmers: 0.0,
@@ -145,6 +140,7 @@ pub fn empty_fit() -> SpectrumFit
 }
 
 // A converged list as a fit over its window, once nothing is refused.
+#[tactic(auto, unfolding(crate::specs::Unpacking::unpack_at))]
 fn unpack_at(
     bins: &[u32],
     window: Window,
@@ -180,15 +176,15 @@ pub fn unpack(
     cost: f64,
     iterations: u64,
     table: &mut [f64],
-) -> FitAnswer
-    ensures value { result
-        ≡ fit_answer_of (unpack_of bins.now scale window_end peak error genome theta.now cost
-        iterations (length table.old)) }
+) -> Result<SpectrumFit, Refusal>
+    ensures value { reply_of result
+        ≡ unpack_of bins.now scale window_end peak error genome theta.now cost
+        iterations (length table.old) }
     ensures table_after { table.new
         ≡ unpack_table bins.now scale window_end peak error genome theta.now cost iterations
         table.old }
 {
-    let refused = fit_refusal(
+    fit_refusal(
         bins,
         scale,
         window_end,
@@ -197,15 +193,9 @@ pub fn unpack(
         genome,
         theta.len(),
         table.len(),
-    );
-    if refused != 0 {
-        return FitAnswer {
-            number: refused,
-            fit: empty_fit(),
-        };
-    }
+    )?;
     let window = window_of(bins, scale, window_end as u16);
-    let fit = unpack_at(
+    Ok(unpack_at(
         bins,
         window,
         peak as u16,
@@ -215,9 +205,5 @@ pub fn unpack(
         cost,
         iterations,
         table,
-    );
-    FitAnswer {
-        number: 0,
-        fit: fit,
-    }
+    ))
 }

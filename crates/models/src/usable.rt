@@ -3,18 +3,18 @@
 ghost use Rattle.std.specs.Prelude.{◌≡◌};
 ghost use Rattle.models.specs.Usable.{shape_usable, error_usable, shelf_usable, params_usable};
 
-use crate::errors::{ErrorParams, ShapePart};
+use crate::errors::ErrorParams;
 use crate::params::Params;
 use crate::shelf_rules::shelf_is_valid;
-use helpers::shelves::ShelfPart;
+use helpers::shelves::Shelf;
 use routines::pick::is_finite;
 
-fn shape_usable(shape: ShapePart) -> bool
+fn shape_usable(shape: Option<f64>) -> bool
     ensures { result ≡ shape_usable shape }
 {
     match shape {
-        ShapePart::Absent => true,
-        ShapePart::Present(beta) => is_finite(beta),
+        None => true,
+        Some(beta) => is_finite(beta),
     }
 }
 
@@ -30,12 +30,12 @@ fn error_usable(p: ErrorParams) -> bool
         && shape_usable(shape)
 }
 
-fn shelf_usable(shelf: ShelfPart) -> bool
+fn shelf_usable(shelf: Option<Shelf>) -> bool
     ensures { result ≡ shelf_usable shelf }
 {
     match shelf {
-        ShelfPart::Absent => true,
-        ShelfPart::Present(s) => shelf_is_valid(s),
+        None => true,
+        Some(s) => shelf_is_valid(s),
     }
 }
 

@@ -2,23 +2,16 @@
 // Ported from src/preprocessing/models.rs of bacpop/sparrowhawk-asm, f1f8af1232, Apache-2.0; ported and changed.
 ghost use Rattle.std.specs.Prelude.{◌≡◌, suc, max};
 ghost use Rattle.models.specs.WalkHoists.{probability_of};
-ghost use Rattle.models.specs.Walk.{part_says, walk_of, all_probable};
+ghost use Rattle.models.specs.Walk.{walk_of, all_probable};
 
 use helpers::single_copies::{SingleCopy, single_density};
 use routines::exp::exp;
-
-// The Rust's Option<u16>.
-#[derive(Clone, Copy)]
-pub enum CutoffPart {
-    Absent,
-    Present(u16),
-}
 
 // No cutoff is below 2.
 pub(crate) fn at_least_two(count: u16) -> u16
     ensures { result ≡ max count 2 }
 {
-    if count < 2 { 2 } else { count }
+    count.max(2)
 }
 
 // The single-copy component's probability of a count.
@@ -29,20 +22,18 @@ pub fn probability(single: SingleCopy, count: u16) -> f64
 }
 
 // The first count from 1 to ceiling - 1 whose sum through it is above what is allowed, and 2 at least.
-pub(crate) fn walk(single: SingleCopy, allowed: f64, ceiling: u16) -> CutoffPart
-    ensures { part_says result ≡ walk_of (probability_of single) allowed ceiling }
+pub(crate) fn walk(single: SingleCopy, allowed: f64, ceiling: u16) -> Option<u16>
+    ensures { result ≡ walk_of (probability_of single) allowed ceiling }
 {
     let mut cdf = probability(single, 0);
-    let mut count: u16 = 1;
-    while count < ceiling {
+    for count in 1..ceiling {
         let next = cdf + probability(single, count);
         if next > allowed {
-            return CutoffPart::Present(at_least_two(count));
+            return Some(at_least_two(count));
         }
         cdf = next;
-        count += 1;
     }
-    CutoffPart::Absent
+    None
 }
 
 // Whether each probability from count 0 to the ceiling lies between 0 and 2. exp is never negative, so only a NaN and
@@ -50,13 +41,10 @@ pub(crate) fn walk(single: SingleCopy, allowed: f64, ceiling: u16) -> CutoffPart
 pub(crate) fn all_probable(single: SingleCopy, ceiling: u16) -> bool
     ensures { result ≡ all_probable (probability_of single) (suc ceiling) }
 {
-    let mut count: u16 = 0;
-    while count < ceiling {
-        let p = probability(single, count);
-        if !(p <= 2.0) {
+    for count in 0..=ceiling {
+        if !(probability(single, count) <= 2.0) {
             return false;
         }
-        count += 1;
     }
-    probability(single, ceiling) <= 2.0
+    true
 }

@@ -40,8 +40,9 @@ pub(crate) fn masses_at(
     let shelf = p.shelf;
     let log = ln_at(ready, top);
     let error = p.error_params.window_mass_with(steady.ln_tail, log);
-    let made = window_end(top as usize);
-    let end = made.end;
+    let Ok(end) = window_end(top as usize) else {
+        unreachable!();
+    };
     let lobes = lobe_masses(steady.lobe, steady.second, ready, kept, end);
     let single = mix_mass(lobes.first, shelf, steady.logs, table, end);
     WindowMasses {

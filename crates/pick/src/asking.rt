@@ -105,8 +105,7 @@ pub(crate) fn read_words<R: Env + Eprint>(rt: &R) -> Asking {
             scale: scale.value,
             hint: hint.value,
             mass_limit: limit.value,
-            window_given: end.words > 0,
-            window_end: end.value,
+            window_end: (end.words > 0).then_some(end.value),
         },
     }
 }

@@ -10,31 +10,18 @@ mod showing;
 use asking::read_words;
 use fitter::asking::{Asked, window_end_of};
 use fitter::shares::empirical_shelf_share;
-use helpers::answers::Number;
-use histogram::reader::{FileRead, LONGEST_FILE, MAX_FILE_BINS, read_histogram};
+use histogram::reader::{LONGEST_FILE, MAX_FILE_BINS, ReadError, read_histogram};
 use models::families::{ErrorModel, GenomeModel};
 use progress::{Watch, seconds};
 use record::records::{write_broken, write_record, write_refused};
-use searches::{attempt, problem_of, refusal};
+use searches::{attempt, first, problem_of, refusal};
 use showing::{LONGEST_RECORD, complain, give_up, show, tell_failed};
 use std::rt::Runtime;
 use streams::failure::fail;
-use streams::input::{Input, read_input};
+use streams::input::read_input;
 
 // One byte more than the longest accepted file has: what lies behind it changes nothing.
 const ENOUGH: usize = LONGEST_FILE + 1;
-
-// A share that is refused stands beside a spectrum that is refused, which comes first.
-fn value(number: Number) -> f64 {
-    match number {
-        Number::Value(x) => x,
-        Number::Refused(_) => 0.0,
-    }
-}
-
-fn first_bins(x: &[u32], n: usize) -> &[u32] {
-    if n < x.len() { &x[..n] } else { x }
-}
 
 // The four configurations, in the original's order.
 fn pick_bins<R: Runtime>(rt: &R, bins: &[u32], asked: Asked, watch: Watch, status: bool) {
@@ -46,26 +33,22 @@ fn pick_bins<R: Runtime>(rt: &R, bins: &[u32], asked: Asked, watch: Watch, statu
         ErrorModel::SingletonPareto,
         GenomeModel::ShelfNegativeBinomial,
     );
-    let number = refusal(bins, shelf);
-    if number != 0 {
-        let refused = write_refused(asked, bins.len(), number, &mut text);
+    if let Some(why) = refusal(bins, shelf) {
+        let refused = write_refused(asked, bins.len(), u8::from(why), &mut text);
         let last = refused.last;
         show(rt, &text, refused.size, last, status);
         return;
     }
-    let share = value(empirical_shelf_share(bins, asked.scale, asked.valley, asked.peak));
+    // A share that is refused stands beside a spectrum that is refused, which comes first.
+    let share = empirical_shelf_share(bins, asked.scale, asked.valley, asked.peak).unwrap_or(0.0);
     let a = attempt(rt, bins, asked, end, share, 1, watch);
     let b = attempt(rt, bins, asked, end, share, 2, watch);
     let c = attempt(rt, bins, asked, end, share, 3, watch);
     let d = attempt(rt, bins, asked, end, share, 4, watch);
-    if !a.whole || !b.whole || !c.whole || !d.whole {
+    let (Some(one), Some(two), Some(three), Some(four)) = (a, b, c, d) else {
         give_up(rt, status);
         return;
-    }
-    let one = a.attempt;
-    let two = b.attempt;
-    let three = c.attempt;
-    let four = d.attempt;
+    };
     let record = write_record(asked, bins.len(), one, two, three, four, &mut text);
     let last = record.last;
     show(rt, &text, record.size, last, status);
@@ -76,13 +59,15 @@ fn pick_file<R: Runtime>(rt: &R, file: &[u8], asked: Asked, watch: Watch, status
     let mut text = [0u8; LONGEST_RECORD];
     let read = read_histogram(file, &mut bins);
     match read {
-        FileRead::Bins(n) => pick_bins(rt, first_bins(&bins, n), asked, watch, status),
-        FileRead::Broken(place) => {
+        Ok(n) => pick_bins(rt, first(&bins, n), asked, watch, status),
+        Err(ReadError::Broken(place)) => {
             let broken = write_broken(asked, place, &mut text);
             let last = broken.last;
             show(rt, &text, broken.size, last, status);
         }
-        FileRead::Refused(_) => complain(rt, "pick: the bins do not fit, which can't be", status),
+        Err(ReadError::Refused(_)) => {
+            complain(rt, "pick: the bins do not fit, which can't be", status)
+        }
     }
 }
 
@@ -98,11 +83,12 @@ fn main(rt: HostRuntime) {
         tell_failed(a.status);
         return;
     }
+    // Room for the longest file, since the project has no heap.
     let mut file = [0u8; ENOUGH];
     let input = read_input(&mut rt.stdin(), &mut file);
     match input {
-        Input::Bytes(n) => pick_file(&rt, &file[..n], asked, watch, a.status),
-        Input::Failed(e) => {
+        Ok(n) => pick_file(&rt, &file[..n], asked, watch, a.status),
+        Err(e) => {
             fail(&rt, "pick: reading", e);
             tell_failed(a.status);
         }

@@ -1,8 +1,7 @@
 // The words that the program is started with.
 ghost use Rattle.std.specs.Counts.{IsPrefixLen};
 
-use arguments::numbers::{Decimal, Whole, read_decimal, read_whole};
-use meaning::wholes::least;
+use arguments::numbers::{read_decimal, read_whole};
 use std::env::FillError;
 use std::rt::Env;
 
@@ -11,61 +10,22 @@ const LONGEST: usize = 64;
 
 // How many words have the option's name, the number of the last, and whether that is malformed.
 #[derive(Clone, Copy)]
-pub struct WholeOption {
+pub struct Named<T> {
     pub words: usize,
-    pub value: usize,
+    pub value: T,
     pub wrong: bool,
-}
-
-#[derive(Clone, Copy)]
-pub struct DecimalOption {
-    pub words: usize,
-    pub value: f64,
-    pub wrong: bool,
-}
-
-fn more(n: usize) -> usize {
-    if n < usize::MAX { n + 1 } else { n }
-}
-
-fn begins(word: &[u8], name: &[u8]) -> bool {
-    let n = least(name.len(), word.len());
-    &word[..n] == name
 }
 
 // What stands behind a name that the word begins with.
 fn behind<'a>(word: &'a [u8], name: &[u8]) -> &'a [u8] {
-    let n = least(name.len(), word.len());
-    &word[n..]
+    &word[name.len().min(word.len())..]
 }
 
-fn whole_read(words: usize, read: Whole) -> WholeOption {
-    match read {
-        Whole::Value(n) => WholeOption {
-            words,
-            value: n as usize,
-            wrong: false,
-        },
-        Whole::Malformed => WholeOption {
-            words,
-            value: 0,
-            wrong: true,
-        },
-    }
-}
-
-fn decimal_read(words: usize, read: Decimal) -> DecimalOption {
-    match read {
-        Decimal::Value(x) => DecimalOption {
-            words,
-            value: x,
-            wrong: false,
-        },
-        Decimal::Malformed => DecimalOption {
-            words,
-            value: 0.0,
-            wrong: true,
-        },
+fn named_by<T: Copy>(words: usize, read: Option<T>, none: T) -> Named<T> {
+    Named {
+        words,
+        value: read.unwrap_or(none),
+        wrong: read.is_none(),
     }
 }
 
@@ -98,88 +58,80 @@ fn is_word<R: Env>(rt: &R, i: usize, name: &[u8]) -> bool {
 fn word_begins<R: Env>(rt: &R, i: usize, name: &[u8]) -> bool {
     let mut word = [0u8; LONGEST];
     let n = read_word(rt, i, &mut word);
-    begins(&word[..n], name)
+    word[..n].starts_with(name)
 }
 
-fn whole_at<R: Env>(rt: &R, i: usize, name: &[u8]) -> Whole {
+// What a word says behind the name.
+fn read_at<R: Env, T, F: Fn(&[u8]) -> Option<T>>(
+    rt: &R,
+    i: usize,
+    name: &[u8],
+    read: F,
+) -> Option<T>
+    requires { F.IsAlwaysCallable read }
+{
     let mut word = [0u8; LONGEST];
     let n = read_word(rt, i, &mut word);
-    read_whole(behind(&word[..n], name))
-}
-
-fn decimal_at<R: Env>(rt: &R, i: usize, name: &[u8]) -> Decimal {
-    let mut word = [0u8; LONGEST];
-    let n = read_word(rt, i, &mut word);
-    read_decimal(behind(&word[..n], name))
+    read(behind(&word[..n], name))
 }
 
 // How many words are the flag itself.
 pub(crate) fn flag_words<R: Env>(rt: &R, name: &[u8]) -> usize {
     let all = word_count(rt);
-    let mut count: usize = 0;
-    for i in 1..all {
-        if is_word(rt, i, name) {
-            count = more(count);
-        }
-    }
-    count
+    (1..all).filter(|i| is_word(rt, *i, name)).count()
 }
 
-// A name ends in `=`.
-pub(crate) fn whole_option<R: Env>(rt: &R, name: &[u8]) -> WholeOption {
+// The last word of a name; without one the value is the one given here.
+fn last_named<R: Env, T: Copy, F: Fn(usize, usize) -> Named<T>>(
+    rt: &R,
+    name: &[u8],
+    value: T,
+    read: F,
+) -> Named<T>
+    requires { F.IsAlwaysCallable read }
+{
     let all = word_count(rt);
-    let mut found = WholeOption {
-        words: 0,
-        value: 0,
-        wrong: false,
-    };
-    for i in 1..all {
-        if word_begins(rt, i, name) {
-            found = whole_read(more(found.words), whole_at(rt, i, name));
-        }
-    }
-    found
-}
-
-// Without a word of the name the value is the one given here.
-pub(crate) fn decimal_option<R: Env>(rt: &R, name: &[u8], value: f64) -> DecimalOption {
-    let all = word_count(rt);
-    let mut found = DecimalOption {
+    let mut found = Named {
         words: 0,
         value,
         wrong: false,
     };
     for i in 1..all {
         if word_begins(rt, i, name) {
-            found = decimal_read(more(found.words), decimal_at(rt, i, name));
+            found = read(found.words.saturating_add(1), i);
         }
     }
     found
 }
 
+// A name ends in `=`.
+pub(crate) fn whole_option<R: Env>(rt: &R, name: &[u8]) -> Named<usize> {
+    last_named(rt, name, 0, |words, i| {
+        let read = read_at(rt, i, name, read_whole);
+        named_by(words, read.map(|n| n as usize), 0)
+    })
+}
+
+pub(crate) fn decimal_option<R: Env>(rt: &R, name: &[u8], value: f64) -> Named<f64> {
+    last_named(rt, name, value, |words, i| {
+        named_by(words, read_at(rt, i, name, read_decimal), 0.0)
+    })
+}
+
 fn is_known<R: Env>(rt: &R, i: usize) -> bool {
-    if is_word(rt, i, b"--status") || is_word(rt, i, b"--quiet") {
-        return true;
-    }
-    if word_begins(rt, i, b"--valley=")
+    is_word(rt, i, b"--status")
+        || is_word(rt, i, b"--quiet")
+        || word_begins(rt, i, b"--valley=")
         || word_begins(rt, i, b"--peak=")
         || word_begins(rt, i, b"--budget=")
-    {
-        return true;
-    }
-    if word_begins(rt, i, b"--scale=") || word_begins(rt, i, b"--hint=") {
-        return true;
-    }
-    word_begins(rt, i, b"--window-end=") || word_begins(rt, i, b"--mass-limit=")
+        || word_begins(rt, i, b"--scale=")
+        || word_begins(rt, i, b"--hint=")
+        || word_begins(rt, i, b"--window-end=")
+        || word_begins(rt, i, b"--mass-limit=")
 }
 
 // Whether each word is an option.
 pub(crate) fn all_known<R: Env>(rt: &R) -> bool {
     let all = word_count(rt);
-    for i in 1..all {
-        if !is_known(rt, i) {
-            return false;
-        }
-    }
-    true
+    (1..all).all(|i| is_known(rt, i))
 }

@@ -1,6 +1,4 @@
 // One configuration: its starts, the search from each of them to its end, and what it came to.
-ghost use Rattle.std.specs.Prelude.{◌<◌, ◌≤◌};
-
 use crate::progress::{Watch, say};
 use crate::showing::is_heard;
 use fitter::asking::{Asked, SEEDS, SHAPES, configuration};
@@ -8,8 +6,8 @@ use fitter::attempting::attempt_from_numbers;
 use fitter::attempts::FitAttempt;
 use fitter::starts::fit_starts;
 use histogram::reader::MAX_FILE_BINS;
-use meaning::answers::Written;
 use meaning::flags::is_set;
+use meaning::refusals::Refusal;
 use models::families::{ErrorModel, GenomeModel};
 use models::problems::Problem;
 use routines::bits::pattern;
@@ -33,34 +31,9 @@ const TURNS: u64 = 100;
 
 const SLICES: u64 = 20;
 
-// What the search of a configuration came to, where every call answered and every run was searched to its end.
-#[derive(Clone, Copy)]
-pub struct Attempted {
-    pub whole: bool,
-    pub attempt: FitAttempt,
-}
-
-// How many items were written; none for a refusal.
-fn items(written: Written) -> usize {
-    match written {
-        Written::Items(n) => n,
-        Written::Refused(_) => 0,
-    }
-}
-
-fn is_written(written: Written) -> bool {
-    match written {
-        Written::Items(_) => true,
-        Written::Refused(_) => false,
-    }
-}
-
-fn both(a: bool, b: bool) -> bool {
-    a && b
-}
-
-fn first_floats(x: &[f64], n: usize) -> &[f64] {
-    if n < x.len() { &x[..n] } else { x }
+// The first n items, or all where there are fewer.
+pub(crate) fn first<T>(x: &[T], n: usize) -> &[T] {
+    &x[..n.min(x.len())]
 }
 
 pub(crate) fn problem_of(
@@ -80,126 +53,157 @@ pub(crate) fn problem_of(
     }
 }
 
-// The number by which the spectrum is refused with what was asked, and 0 for none: what an attempt over no run gives.
-pub(crate) fn refusal(bins: &[u32], problem: Problem) -> u8 {
+// Why the spectrum is refused with what was asked: what an attempt over no run gives.
+pub(crate) fn refusal(bins: &[u32], problem: Problem) -> Option<Refusal> {
     let mut table = [0.0f64; TABLE];
-    let answer = attempt_from_numbers(bins, problem, &[], &[], &[], &[], &[], &[], &[], &mut table);
-    answer.number
+    attempt_from_numbers(bins, problem, &[], &[], &[], &[], &[], &[], &[], &mut table).err()
 }
 
-fn first_bytes(x: &[u8], n: usize) -> &[u8] {
-    if n < x.len() { &x[..n] } else { x }
-}
-
-fn flag_at(x: &[u8], i: usize) -> bool {
-    if i < x.len() { is_set(x[i]) } else { false }
-}
-
-// 1 for a run that has ended, by the test or at its cap, and 0 for one that has not.
-fn ended(stopped: bool, capped: bool) -> usize
-    ensures { result ≤ 1 }
-{
-    if stopped || capped { 1 } else { 0 }
-}
-
-// How many runs have ended.
+// How many runs have ended, by the test or at their caps.
 fn runs_done(stopped: &[u8], caps: &[u8]) -> usize {
-    let mut done: usize = 0;
-    let mut i: usize = 0;
-    while i < stopped.len() {
-        done += ended(is_set(stopped[i]), flag_at(caps, i));
-        i += 1;
-    }
-    done
+    let runs = stopped.iter().zip(caps);
+    runs.filter(|(s, c)| is_set(**s) || is_set(**c)).count()
 }
 
+// Infinity of no run. A NaN is no least cost, and of 0 and -0 the first stays.
 fn least_cost(costs: &[f64]) -> f64 {
-    let mut least = 1.0 / 0.0;
-    let mut i: usize = 0;
-    while i < costs.len() {
-        if costs[i] < least {
-            least = costs[i];
+    let mut least = f64::INFINITY;
+    for cost in costs {
+        if *cost < least {
+            least = *cost;
         }
-        i += 1;
     }
     least
 }
 
-// Some turns of every run, and what they came to, as a run table.
-fn go_on(
-    bins: &[u32],
-    problem: Problem,
-    runs: usize,
-    rows: &mut [f64],
-    iterations: &mut [u64],
-    stopped: &mut [u8],
-    ready: &mut [f64],
-    table: &mut [f64],
-    converged: &mut [u8],
-    costs: &mut [f64],
-    places: &mut [usize],
-    lengths: &mut [usize],
-    caps: &mut [u8],
-) -> bool {
-    let error = problem.error;
-    let genome = problem.genome;
-    let ran = run_searches(
-        bins, problem, runs, TURNS, rows, iterations, stopped, ready, table,
-    );
-    let reported = report_searches(
-        error, genome, runs, rows, iterations, stopped, converged, costs, places, lengths, caps,
-    );
-    both(is_written(ran), is_written(reported))
+// What the searches of a configuration work in. Fixed buffers: the project has no heap.
+#[derive(Drop)]
+struct Room {
+    rows: [f64; ROWS],
+    iterations: [u64; RUNS],
+    stopped: [u8; RUNS],
+    ready: [f64; READY],
+    table: [f64; TABLE],
+    converged: [u8; RUNS],
+    costs: [f64; RUNS],
+    places: [usize; RUNS],
+    lengths: [usize; RUNS],
+    caps: [u8; RUNS],
 }
 
-// The slice that comes next: the end of them all, where nobody listens.
-fn next_slice(slice: u64, heard: bool) -> u64
-    requires { slice < 20 }
-    ensures { (slice < result) × (result ≤ 20) }
-{
-    if heard { slice + 1 } else { SLICES }
-}
-
-// As many turns as the largest cap, by which every run has ended, with a line of progress between. It stops early where
-// nobody listens.
-fn search_all<R: Clock + Eprint>(
-    rt: &R,
-    bins: &[u32],
-    problem: Problem,
-    runs: usize,
-    k: u64,
-    watch: Watch,
-    rows: &mut [f64],
-    iterations: &mut [u64],
-    stopped: &mut [u8],
-    ready: &mut [f64],
-    table: &mut [f64],
-    converged: &mut [u8],
-    costs: &mut [f64],
-    places: &mut [usize],
-    lengths: &mut [usize],
-    caps: &mut [u8],
-) -> bool {
-    let mut whole = true;
-    let mut done: usize = 0;
-    let mut slice: u64 = 0;
-    while slice < SLICES {
-        let fine = go_on(
-            bins, problem, runs, rows, iterations, stopped, ready, table, converged, costs, places,
-            lengths, caps,
-        );
-        whole = both(whole, fine);
-        if done < runs {
-            done = runs_done(first_bytes(stopped, runs), first_bytes(caps, runs));
-            let least = least_cost(first_floats(costs, runs));
-            say(rt, watch, k, done as u64, runs as u64, pattern(least));
+impl Room {
+    fn new() -> Room {
+        Room {
+            rows: [0.0; ROWS],
+            iterations: [0; RUNS],
+            stopped: [0; RUNS],
+            ready: [0.0; READY],
+            table: [0.0; TABLE],
+            converged: [0; RUNS],
+            costs: [0.0; RUNS],
+            places: [0; RUNS],
+            lengths: [0; RUNS],
+            caps: [0; RUNS],
         }
-        slice = next_slice(slice, is_heard(watch.status));
     }
-    both(whole, done >= runs)
+
+    // How many runs there are from these starts, each before its first turn; none for a refusal.
+    fn begin(&mut self, bins: &[u32], problem: Problem, starts: &[f64]) -> usize {
+        let begun = begin_searches(
+            bins,
+            problem,
+            starts,
+            &mut self.rows,
+            &mut self.iterations,
+            &mut self.stopped,
+            &mut self.ready,
+            &mut self.table,
+        );
+        begun.unwrap_or(0)
+    }
+
+    // Some turns of every run, and what they came to, as a run table.
+    fn go_on(&mut self, bins: &[u32], problem: Problem, runs: usize) -> bool {
+        let error = problem.error;
+        let genome = problem.genome;
+        let ran = run_searches(
+            bins,
+            problem,
+            runs,
+            TURNS,
+            &mut self.rows,
+            &mut self.iterations,
+            &mut self.stopped,
+            &mut self.ready,
+            &mut self.table,
+        );
+        let reported = report_searches(
+            error,
+            genome,
+            runs,
+            &self.rows,
+            &self.iterations,
+            &self.stopped,
+            &mut self.converged,
+            &mut self.costs,
+            &mut self.places,
+            &mut self.lengths,
+            &mut self.caps,
+        );
+        ran.is_ok() && reported.is_ok()
+    }
+
+    // As many turns as the largest cap, by which every run has ended, with a line of progress between. It stops early
+    // where nobody listens.
+    fn search_all<R: Clock + Eprint>(
+        &mut self,
+        rt: &R,
+        bins: &[u32],
+        problem: Problem,
+        runs: usize,
+        k: u64,
+        watch: Watch,
+    ) -> bool {
+        let mut whole = true;
+        let mut done = 0;
+        for _ in 0..SLICES {
+            let fine = self.go_on(bins, problem, runs);
+            whole = whole && fine;
+            if done < runs {
+                done = runs_done(first(&self.stopped, runs), first(&self.caps, runs));
+                let least = least_cost(first(&self.costs, runs));
+                say(rt, watch, k, done as u64, runs as u64, pattern(least));
+            }
+            if !is_heard(watch.status) {
+                break;
+            }
+        }
+        whole && done >= runs
+    }
+
+    // The attempt that the run table makes.
+    fn settle(
+        &mut self,
+        bins: &[u32],
+        problem: Problem,
+        runs: usize,
+    ) -> Result<FitAttempt, Refusal> {
+        attempt_from_numbers(
+            bins,
+            problem,
+            first(&self.converged, runs),
+            &self.costs,
+            &self.places,
+            &self.lengths,
+            &self.iterations,
+            &self.caps,
+            &self.rows,
+            &mut self.table,
+        )
+    }
 }
 
-// The attempt of the k-th configuration, each of its runs searched to its end.
+// The attempt of the k-th configuration, where every call answered and each of its runs was searched to its end.
 pub(crate) fn attempt<R: Clock + Eprint>(
     rt: &R,
     bins: &[u32],
@@ -208,7 +212,7 @@ pub(crate) fn attempt<R: Clock + Eprint>(
     share: f64,
     k: u64,
     watch: Watch,
-) -> Attempted {
+) -> Option<FitAttempt> {
     let families = configuration(k);
     let error = families.error;
     let genome = families.genome;
@@ -216,17 +220,8 @@ pub(crate) fn attempt<R: Clock + Eprint>(
     let shapes = SHAPES;
     let problem = problem_of(asked, end, error, genome);
     let mut starts = [0.0f64; STARTS];
-    let mut rows = [0.0f64; ROWS];
-    let mut iterations = [0u64; RUNS];
-    let mut stopped = [0u8; RUNS];
-    let mut ready = [0.0f64; READY];
-    let mut table = [0.0f64; TABLE];
-    let mut converged = [0u8; RUNS];
-    let mut costs = [0.0f64; RUNS];
-    let mut places = [0usize; RUNS];
-    let mut lengths = [0usize; RUNS];
-    let mut caps = [0u8; RUNS];
-    let numbers = items(fit_starts(
+    let mut room = Room::new();
+    let numbers = fit_starts(
         error,
         genome,
         &seeds,
@@ -234,49 +229,12 @@ pub(crate) fn attempt<R: Clock + Eprint>(
         share,
         &shapes,
         &mut starts,
-    ));
-    let runs = items(begin_searches(
-        bins,
-        problem,
-        first_floats(&starts, numbers),
-        &mut rows,
-        &mut iterations,
-        &mut stopped,
-        &mut ready,
-        &mut table,
-    ));
-    let whole = search_all(
-        rt,
-        bins,
-        problem,
-        runs,
-        k,
-        watch,
-        &mut rows,
-        &mut iterations,
-        &mut stopped,
-        &mut ready,
-        &mut table,
-        &mut converged,
-        &mut costs,
-        &mut places,
-        &mut lengths,
-        &mut caps,
     );
-    let answer = attempt_from_numbers(
-        bins,
-        problem,
-        first_bytes(&converged, runs),
-        &costs,
-        &places,
-        &lengths,
-        &iterations,
-        &caps,
-        &rows,
-        &mut table,
-    );
-    Attempted {
-        whole: whole && runs > 0 && answer.number == 0,
-        attempt: answer.attempt,
+    let runs = room.begin(bins, problem, first(&starts, numbers.unwrap_or(0)));
+    let whole = room.search_all(rt, bins, problem, runs, k, watch);
+    let settled = room.settle(bins, problem, runs);
+    if whole && runs > 0 {
+        return settled.ok();
     }
+    None
 }

@@ -1,13 +1,16 @@
 // The parameters of a list, as C has them.
 ghost use Rattle.std.specs.Prelude.{◌≡◌};
-ghost use Rattle.models.specs.Params.{params_answer_of, params_says};
+ghost use Rattle.models.specs.Params.{params_answer_of};
 ghost use Rattle.models.specs.Parts.{error_of, genome_of};
 ghost use Rattle.probe.specs.FlatModels.{of_params, no_params, say_params};
+ghost use Rattle.meaning.specs.Answers.{reply_of};
 
 use exports::fits::{FlatErrors, flat_errors, shelf_numbers};
 use exports::shelf::FlatShelf;
-use models::params::{Params, ParamsAnswer, params_from};
-use models::parts::{error_of, genome_of, shelf_there};
+use meaning::refusals::Refusal;
+use models::families::{ErrorModel, GenomeModel};
+use models::params::{Params, params_from};
+use models::parts::shelf_there;
 
 #[repr(C)]
 #[derive(Clone, Copy)]
@@ -43,7 +46,7 @@ fn flat_params(p: Params) -> FlatParams
         target_mode: p.target_mode,
         mean: p.mean,
         dispersion: p.dispersion,
-        error_params: error_params,
+        error_params,
         shelf_present: shelf_there(shelf),
         shelf: shelf_numbers(shelf),
         repeat_ratio: p.repeat_ratio,
@@ -79,20 +82,21 @@ fn no_params(number: u8) -> FlatParamsAnswer
     }
 }
 
-fn flat_params_answer(answer: ParamsAnswer) -> FlatParamsAnswer
-    ensures { result ≡ say_params (params_says answer) }
+fn flat_params_answer(answer: Result<Params, Refusal>) -> FlatParamsAnswer
+    ensures { result ≡ say_params (reply_of answer) }
 {
     match answer {
-        ParamsAnswer::At(p) => FlatParamsAnswer {
+        Ok(p) => FlatParamsAnswer {
             number: 0,
             params: flat_params(p),
         },
-        ParamsAnswer::Refused(number) => no_params(number),
+        Err(refusal) => no_params(u8::from(refusal)),
     }
 }
 
 pub fn fog_params_from(error: u8, genome: u8, peak: usize, theta: &[f64]) -> FlatParamsAnswer
     ensures { result ≡ say_params (params_answer_of (error_of error) (genome_of genome) peak theta.now) }
 {
-    flat_params_answer(params_from(error_of(error), genome_of(genome), peak, theta))
+    let (error, genome) = (ErrorModel::from(error), GenomeModel::from(genome));
+    flat_params_answer(params_from(error, genome, peak, theta))
 }

@@ -49,14 +49,12 @@ pub fn fog_log_at(i: u64) -> FlatPair
 pub fn fog_pareto_start(i: usize) -> f64
     ensures { result ≡ entry_or0 pareto_starts i }
 {
-    let starts = pareto_starts();
-    if i < 6 { starts[i] } else { 0.0 }
+    pareto_starts().get(i).copied().unwrap_or(0.0)
 }
 
 // Number i of the Weibull starts, and 0 behind the last.
 pub fn fog_weibull_start(i: usize) -> f64
     ensures { result ≡ entry_or0 weibull_starts i }
 {
-    let starts = weibull_starts();
-    if i < 9 { starts[i] } else { 0.0 }
+    weibull_starts().get(i).copied().unwrap_or(0.0)
 }

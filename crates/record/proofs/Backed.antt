@@ -6,7 +6,6 @@
 use Prim.Native.Nat.{ℕ, ◌≤◌}
 use mathlib.Core.Path.{◌≡◌, refl, sym, ap, ◌∙◌, subst}
 use mathlib.Core.Bool.{Bool, true, false, not, cond}
-use mathlib.Core.Option.{Option, none, some}
 use native.Mathlib.Nat.{le_trans}
 use native.Mathlib.Omega.{arith}
 use lib.Dec.{T, eqb}
@@ -19,7 +18,6 @@ use Rattle.models.specs.Cutoffs.{hole_cutoff_sure_of}
 use Rattle.models.proofs.HoleCutoffs.{told_same, sure-supposed, sure-keeps, hole-cutoff-range}
 use Rattle.models.proofs.Lower.{lower-keeps, least_kept, least-broken}
 use Rattle.fitter.specs.declared.asking.Asked.{Asked}
-use Rattle.fitter.specs.declared.selection.Selected.{Selected}
 use Rattle.models.specs.declared.fit.SpectrumFit.{SpectrumFit}
 use Rattle.record.specs.Answers.{smaller_of, answer_place, answer_of, is_below, by_hole, least_removed, least_at}
 use Rattle.record.specs.Answers.{least_kind}
@@ -35,6 +33,8 @@ use Rattle.record.specs.declared.values.HowSure.{HowSure}
 use Rattle.record.specs.declared.values.HowSure.TheVariants.{Sure, NotFinite, NotProbable}
 use Rattle.record.specs.declared.values.Place.{Place}
 use Rattle.record.specs.declared.values.Place.TheVariants.{Nothing, At, Unknown}
+use Rattle.std.specs.Prelude.{Option, None, Some, unwrap_or}
+use Rattle.models.specs.Unpacking.{empty_fit}
 
 -- ---- the last line of a reply to `hole_cutoff_sure`
 -- why it is not sure, by the test of the share
@@ -65,7 +65,7 @@ same_count m n e = cc
 -- a count: the walk found one, and the line has the smaller of that and the valley
 record Counted (valley n : ℕ) (reply : Reply Sureness) : Type 0 where
   hole : ℕ
-  told : told_of reply ≡ give (some hole)
+  told : told_of reply ≡ give (Some hole)
   at : n ≡ smaller_of valley hole
 
 counted : (valley n : ℕ) (f by below : Bool) (reply : Reply Sureness)
@@ -73,15 +73,15 @@ counted : (valley n : ℕ) (f by below : Bool) (reply : Reply Sureness)
     last_number l ≤ 1 → last_place l ≡ At n → Counted valley n reply
 counted valley n f by below (refuse m) k p = absurd (omega arith)
 counted valley n f by below (broken place) k p = absurd (omega arith)
-counted valley n f by below (give (sure none)) k p = absurd (nothing n (sym (shows (answered by below Nothing)) ∙ p))
-counted valley n f by below (give (sure (some c))) k p =
+counted valley n f by below (give (sure None)) k p = absurd (nothing n (sym (shows (answered by below Nothing)) ∙ p))
+counted valley n f by below (give (sure (Some c))) k p =
     let smaller = smaller_of valley c in
     record { hole = c; told = refl; at = same_count smaller n (sym (shows (answered by below (At smaller))) ∙ p) }
-counted valley n true by below (give (not_sure none)) k p = absurd (nothing n p)
-counted valley n false by below (give (not_sure none)) k p = absurd (nothing n p)
-counted valley n true by below (give (not_sure (some c))) k p =
+counted valley n true by below (give (not_sure None)) k p = absurd (nothing n p)
+counted valley n false by below (give (not_sure None)) k p = absurd (nothing n p)
+counted valley n true by below (give (not_sure (Some c))) k p =
     record { hole = c; told = refl; at = same_count (smaller_of valley c) n p }
-counted valley n false by below (give (not_sure (some c))) k p =
+counted valley n false by below (give (not_sure (Some c))) k p =
     record { hole = c; told = refl; at = same_count (smaller_of valley c) n p }
 counted valley n f by below (give no_walk) k p = absurd (nothing n p)
 
@@ -98,11 +98,11 @@ certain valley f by below (give no_walk) k = absurd (omega arith)
 -- none, and a cutoff: the walk found none, and it is sure
 uncounted : (valley : ℕ) (f by below : Bool) (reply : Reply Sureness)
     → let l = line_of valley by below (hole_in (why f) reply) in
-    last_number l ≡ 0 → last_place l ≡ Nothing → reply ≡ give (sure none)
+    last_number l ≡ 0 → last_place l ≡ Nothing → reply ≡ give (sure None)
 uncounted valley f by below (refuse m) k p = absurd (omega arith)
 uncounted valley f by below (broken place) k p = absurd (omega arith)
-uncounted valley f by below (give (sure none)) k p = refl
-uncounted valley f by below (give (sure (some c))) k p =
+uncounted valley f by below (give (sure None)) k p = refl
+uncounted valley f by below (give (sure (Some c))) k p =
     let smaller = smaller_of valley c in
     absurd (nothing smaller (sym p ∙ shows (answered by below (At smaller))))
 uncounted valley true by below (give (not_sure a)) k p = absurd (omega arith)
@@ -131,7 +131,7 @@ module _ (asked : Asked) (fit : SpectrumFit) where
   below = is_below (answer_place asked.valley place) (cutoffs_of fit budget).floor
 
   -- ---- the hole cutoff, by the call without `sure`
-  same-hole : (h : ℕ) → told_of reply ≡ give (some h) → hole_cutoff_of fit budget ≡ give (some h)
+  same-hole : (h : ℕ) → told_of reply ≡ give (Some h) → hole_cutoff_of fit budget ≡ give (Some h)
   same-hole h e = sym (told_same fit budget) ∙ e
 
   keeps : (n : ℕ) → Supposed fit budget → 3 ≤ n → Counted asked.valley n reply
@@ -168,35 +168,40 @@ module _ (asked : Asked) (fit : SpectrumFit) where
   unfolding chosen_last answer_of why_not
   chosen_none e =
       let f = finite (allowed_of fit budget) in
-      (sure-keeps fit budget none
+      (sure-keeps fit budget None
       (uncounted asked.valley f by below reply (ap last_number e) (ap last_place e))).1.stays refl
 
 -- ---- THE THEOREMS, of the last line of a selection
-module _ (asked : Asked) (s : Selected) where
-  selected : (l : Last) → (NoFit ≡ l → ⊥) → last_of asked s ≡ l → chosen_last asked s.fit ≡ l
-  unfolding last_of
-  selected l never e = go s.found e
-    where
-      go : (b : Bool) → cond b (chosen_last asked s.fit) NoFit ≡ l → chosen_last asked s.fit ≡ l
-      go true e = e
-      go false e = absurd (never e)
+-- the selected fit, and the empty one where there is none
+abbrev pub fit_of : Option SpectrumFit → SpectrumFit
+fit_of s = unwrap_or s empty_fit
+
+module _ (asked : Asked) where
+  selected : (s : Option SpectrumFit) (l : Last) → (NoFit ≡ l → ⊥) → last_of asked s ≡ l
+      → chosen_last asked (fit_of s) ≡ l
+  selected None l never e = absurd (never e)
+  selected (Some fit) l never e = e
 
   other : (l : Last) → last_number l ≤ 1 → NoFit ≡ l → ⊥
   other l k e = let two : 2 ≡ last_number l = ap last_number e in omega arith
 
-  pub cutoff-keeps : (n : ℕ) → last_of asked s ≡ Cutoff (At n) → 3 ≤ n
-      → AtMost (removed_by s.fit n) (allowed_share s.fit asked.budget)
-  cutoff-keeps n e =
-      chosen-cutoff asked s.fit n (selected (Cutoff (At n)) (other (Cutoff (At n)) (omega arith)) e)
+  module _ (s : Option SpectrumFit) where
+    abbrev fit : SpectrumFit
+    fit = fit_of s
 
-  pub unsure-keeps : (n : ℕ) → Supposed s.fit asked.budget → last_of asked s ≡ Unsure (At n) → 3 ≤ n
-      → AtMost (removed_by s.fit n) (allowed_share s.fit asked.budget)
-  unsure-keeps n h e =
-      chosen-unsure asked s.fit n h (selected (Unsure (At n)) (other (Unsure (At n)) (omega arith)) e)
+    pub cutoff-keeps : (n : ℕ) → last_of asked s ≡ Cutoff (At n) → 3 ≤ n
+        → AtMost (removed_by fit n) (allowed_share fit asked.budget)
+    cutoff-keeps n e =
+        chosen-cutoff asked fit n (selected s (Cutoff (At n)) (other (Cutoff (At n)) (omega arith)) e)
 
-  pub none-keeps : last_of asked s ≡ Cutoff Nothing
-      → AtMost (removed_by s.fit (ceiling_of s.fit)) (allowed_share s.fit asked.budget)
-  none-keeps e = chosen_none asked s.fit (selected (Cutoff Nothing) (other (Cutoff Nothing) (omega arith)) e)
+    pub unsure-keeps : (n : ℕ) → Supposed fit asked.budget → last_of asked s ≡ Unsure (At n) → 3 ≤ n
+        → AtMost (removed_by fit n) (allowed_share fit asked.budget)
+    unsure-keeps n h e =
+        chosen-unsure asked fit n h (selected s (Unsure (At n)) (other (Unsure (At n)) (omega arith)) e)
+
+    pub none-keeps : last_of asked s ≡ Cutoff Nothing
+        → AtMost (removed_by fit (ceiling_of fit)) (allowed_share fit asked.budget)
+    none-keeps e = chosen_none asked fit (selected s (Cutoff Nothing) (other (Cutoff Nothing) (omega arith)) e)
 
 -- ---- the line at 2
 sure-hole : (f : Bool) (reply : Reply Sureness) → sure_number (hole_in (why f) reply).how ≡ 0

@@ -5,7 +5,7 @@ use mathlib.Core.Bool.{Bool, true, false, cond}
 use native.Mathlib.Omega.{arith}
 use lib.Dec.{eqb}
 use lib.Ieee.{Float}
-use Rattle.fitter.specs.Attempts.{valid_of}
+use Rattle.fitter.specs.Attempts.{valid_of, candidate_in}
 use Rattle.fitter.specs.declared.attempts.FitAttempt.{FitAttempt}
 use Rattle.record.specs.Leaning.{vote_of, leant_on, lean_step}
 use Rattle.record.specs.Values.{hole_of}
@@ -27,8 +27,8 @@ step-few : (budget : Float) (answer : ℕ) (l : Leaning) (a : FitAttempt) (n : �
 unfolding lean_step
 step-few budget answer l a n f = go (valid_of a)
   where
-    go : (b : Bool) → Few (n + 1) (cond b (leant_on answer l (vote_of (hole_of a.candidate budget))) l)
-    go true = on-few answer l (vote_of (hole_of a.candidate budget)) n f
+    go : (b : Bool) → Few (n + 1) (cond b (leant_on answer l (vote_of (hole_of (candidate_in a) budget))) l)
+    go true = on-few answer l (vote_of (hole_of (candidate_in a) budget)) n f
     go false = (omega (arith, f.0), omega (arith, f.1))
 
 pub still-few : (budget : Float) (answer : ℕ) (l r : Leaning) (a : FitAttempt) (n : ℕ) → r ≡ lean_step budget answer l a → Few n l

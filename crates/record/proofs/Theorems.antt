@@ -1,36 +1,30 @@
 -- A record ends in its last line, which is the selected fit's. Assumes nothing.
 use Prim.Native.Nat.{ℕ}
 use mathlib.Core.Path.{◌≡◌, refl, ap, ◌∙◌}
-use mathlib.Core.Bool.{Bool, true, false, cond}
 use mathlib.Core.List.{List, [], ◌∷◌, ◌++◌, append_assoc}
+use Rattle.std.specs.Prelude.{Option, None, Some}
 use Rattle.fitter.specs.Selection.{select_of}
 use Rattle.fitter.specs.declared.asking.Asked.{Asked}
 use Rattle.fitter.specs.declared.attempts.FitAttempt.{FitAttempt}
-use Rattle.fitter.specs.declared.selection.Selected.{Selected}
+use Rattle.models.specs.declared.fit.SpectrumFit.{SpectrumFit}
 use Rattle.record.specs.Fits.{fit_text}
-use Rattle.record.specs.Record.{found_text, leaning_text, chosen_last, last_of, last_text}
+use Rattle.record.specs.Record.{found_text, leaning_text, last_of, last_text}
 use Rattle.record.specs.Record.{chosen_of, chosen_text, selected_text, attempts_text, head_text, record_of}
 use Rattle.record.specs.declared.answers.Last.{Last}
-use Rattle.record.specs.declared.answers.Last.TheVariants.{NoFit}
 use Rattle.record.specs.declared.records.Recorded.{Recorded}
 
 -- what stands in front of the last line of the selected fit
-abbrev in_front : Asked → List FitAttempt → Selected → Bool → List ℕ
-in_front asked attempts s true =
-    let fit = s.fit in
+abbrev in_front : Asked → List FitAttempt → Option SpectrumFit → List ℕ
+in_front asked attempts (Some fit) =
     let x = chosen_of asked attempts fit in
     fit_text fit ++ (found_text asked.budget fit x.cutoffs x.answer ++ leaning_text x.leaning)
-in_front asked attempts s false = []
+in_front asked attempts None = []
 
-selected-ends : (asked : Asked) (attempts : List FitAttempt) (s : Selected)
-    → selected_text asked attempts s ≡ in_front asked attempts s s.found ++ last_text (last_of asked s)
-unfolding selected_text chosen_text chosen_of last_of
-selected-ends asked attempts s = go s.found
-  where
-    go : (b : Bool) → cond b (chosen_text asked.budget s.fit (chosen_of asked attempts s.fit)) (last_text NoFit)
-        ≡ in_front asked attempts s b ++ last_text (cond b (chosen_last asked s.fit) NoFit)
-    go true = simp append_assoc
-    go false = refl
+selected-ends : (asked : Asked) (attempts : List FitAttempt) (s : Option SpectrumFit)
+    → selected_text asked attempts s ≡ in_front asked attempts s ++ last_text (last_of asked s)
+unfolding selected_text chosen_text chosen_of
+selected-ends asked attempts (Some fit) = simp append_assoc
+selected-ends asked attempts None = refl
 
 -- what was recorded, by its two parts
 pub recorded : (r : Recorded) (size : ℕ) (last : Last) → r.size ≡ size → r.last ≡ last
@@ -51,6 +45,6 @@ record-ends asked bins a b c d =
     record {
       front =
           head_text asked bins
-          ++ (attempts_text a b c d asked.budget ++ in_front asked attempts s s.found);
+          ++ (attempts_text a b c d asked.budget ++ in_front asked attempts s);
       whole = rw (selected-ends asked attempts s) (simp append_assoc);
     }

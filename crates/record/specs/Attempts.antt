@@ -1,15 +1,17 @@
 -- The lines of an attempt: its families, what speaks against it, its cost and BIC, what the search took, and the cutoffs of
 -- its own fit. Definitions only. Assumes nothing.
-use Rattle.std.specs.Prelude.{ℕ, cond, List, [], ◌∷◌, ◌++◌, Float}
+use Rattle.std.specs.Prelude.{ℕ, List, [], ◌∷◌, ◌++◌, Float, Option, None, Some, is_some}
 use Rattle.std.specs.Float.Ieee.{neg}
 use Rattle.meaning.specs.Flags.{byte_of}
 use Rattle.models.specs.HeightCutoffs.{crossover_of, error_floor_of}
+use Rattle.fitter.specs.Attempts.{candidate_in}
 use Rattle.fitter.specs.declared.attempts.FitAttempt.{FitAttempt}
 use Rattle.models.specs.declared.fit.SpectrumFit.{SpectrumFit}
 use Rattle.templates.specs.Filling.{filled_of}
 use Rattle.record.specs.Lines.{lines_of}
 use Rattle.routines.specs.Bits.{pattern_of}
-use Rattle.record.specs.Values.{error_number, genome_number, rejection_number, place_numbers, sure_number}
+use Rattle.models.specs.Parts.{error_number, genome_number}
+use Rattle.record.specs.Values.{rejection_number, place_numbers, sure_number}
 use Rattle.record.specs.Values.{no_hole, crossover_place, floor_place, hole_of}
 use Rattle.record.specs.declared.values.Place.TheVariants.{Unknown}
 use Rattle.record.specs.declared.attempt_lines.CutoffNumbers.{CutoffNumbers}
@@ -27,8 +29,9 @@ cutoffs_of fit budget =
       floor = floor_place (error_floor_of fit);
     }
 
-unfoldable pub own_cutoffs : FitAttempt → Float → Cutoffs
-own_cutoffs attempt budget = cond attempt.has_candidate (cutoffs_of attempt.candidate budget) no_cutoffs
+abbrev pub own_cutoffs : Option SpectrumFit → Float → Cutoffs
+own_cutoffs None budget = no_cutoffs
+own_cutoffs (Some fit) budget = cutoffs_of fit budget
 
 -- ---- the lines
 -- what the marks of the lines `hole`, `crossover` and `error_floor` take
@@ -55,7 +58,8 @@ families_text k a =
 -- the cost is what the log-likelihood was made of, with the other sign
 abbrev pub costs_text : ℕ → FitAttempt → List ℕ
 costs_text k a =
-    let held = byte_of a.has_candidate in
+    let held = byte_of (is_some a.candidate) in
+    let fit = candidate_in a in
     filled_of
     (lines_of
     ("attempt.#.cost {-|~}"
@@ -63,7 +67,7 @@ costs_text k a =
     ∷ "attempt.#.total_iterations #"
     ∷ "attempt.#.capped_starts #"
     ∷ []))
-    (k ∷ held ∷ pattern_of (neg a.candidate.log_likelihood) ∷ k ∷ held ∷ pattern_of a.candidate.bic
+    (k ∷ held ∷ pattern_of (neg fit.log_likelihood) ∷ k ∷ held ∷ pattern_of fit.bic
     ∷ k ∷ a.total_iterations ∷ k ∷ a.capped_starts ∷ [])
 
 unfoldable pub own_cutoffs_text : ℕ → Cutoffs → List ℕ
@@ -79,4 +83,4 @@ own_cutoffs_text k c =
     ∷ k ∷ n.floor.part ∷ n.floor.at ∷ [])
 
 unfoldable pub attempt_text : ℕ → FitAttempt → Float → List ℕ
-attempt_text k a budget = families_text k a ++ (costs_text k a ++ own_cutoffs_text k (own_cutoffs a budget))
+attempt_text k a budget = families_text k a ++ (costs_text k a ++ own_cutoffs_text k (own_cutoffs a.candidate budget))

@@ -1,25 +1,22 @@
 -- The lines of the selected fit: every field, by the Rust's name. Definitions only. Assumes nothing.
-use Rattle.std.specs.Prelude.{ℕ, List, [], ◌∷◌, ◌++◌, Float, get_or}
+use Rattle.std.specs.Prelude.{ℕ, List, [], ◌∷◌, ◌++◌, Float, get_or, Option, None, Some}
 use Rattle.std.specs.Float.{nan}
-use Rattle.helpers.specs.declared.shelves.ShelfPart.{ShelfPart}
-use Rattle.helpers.specs.declared.shelves.ShelfPart.TheVariants as shelf
-use Rattle.models.specs.declared.errors.ShapePart.{ShapePart}
-use Rattle.models.specs.declared.errors.ShapePart.TheVariants as shape
 use Rattle.models.specs.declared.fit.SpectrumFit.{SpectrumFit}
 use Rattle.templates.specs.Filling.{filled_of}
 use Rattle.record.specs.Lines.{lines_of}
 use Rattle.routines.specs.Bits.{pattern_of}
-use Rattle.record.specs.Values.{error_number, genome_number}
+use Rattle.models.specs.Parts.{error_number, genome_number}
 use Rattle.record.specs.declared.fit_lines.ShelfValues.{ShelfValues}
 use Rattle.record.specs.declared.fit_lines.ShapeValues.{ShapeValues}
+use Rattle.helpers.specs.declared.shelves.Shelf.{Shelf}
 
-abbrev pub shape_values : ShapePart → ShapeValues
-shape_values shape.Absent = record { present = 0; shape = 0 }
-shape_values (shape.Present x) = record { present = 1; shape = pattern_of x }
+abbrev pub shape_values : Option Float → ShapeValues
+shape_values None = record { present = 0; shape = 0 }
+shape_values (Some x) = record { present = 1; shape = pattern_of x }
 
-abbrev pub shelf_values : ShelfPart → ShelfValues
-shelf_values shelf.Absent = record { present = 0; share = 0; alpha = 0; beta = 0 }
-shelf_values (shelf.Present s) =
+abbrev pub shelf_values : Option Shelf → ShelfValues
+shelf_values None = record { present = 0; share = 0; alpha = 0; beta = 0 }
+shelf_values (Some s) =
     record { present = 1; share = pattern_of s.share; alpha = pattern_of s.alpha; beta = pattern_of s.beta }
 
 unfoldable pub weights_text : SpectrumFit → List ℕ

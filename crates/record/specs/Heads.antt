@@ -1,5 +1,5 @@
 -- What was asked, what the spectrum has, and what is refused, as lines. Definitions only. Assumes nothing.
-use Rattle.std.specs.Prelude.{ℕ, not, List, [], ◌∷◌, ◌++◌, map, ltb, leb}
+use Rattle.std.specs.Prelude.{ℕ, not, List, [], ◌∷◌, ◌++◌, map, ltb, leb, is_some, unwrap_or}
 use Rattle.std.specs.Float.Ieee.{lt, le}
 use Rattle.meaning.specs.Flags.{byte_of}
 use Rattle.routines.specs.Constants.{one}
@@ -11,7 +11,7 @@ use Rattle.listing.specs.Listing.{ascii}
 use Rattle.templates.specs.Filling.{filled_of}
 use Rattle.record.specs.Lines.{lines_of}
 use Rattle.routines.specs.Bits.{pattern_of}
-use Rattle.record.specs.Values.{error_number, genome_number}
+use Rattle.models.specs.Parts.{error_number, genome_number}
 
 -- ---- what was asked
 abbrev pub version : ℕ
@@ -33,7 +33,7 @@ options_text a =
     ∷ []))
     (version ∷ a.valley ∷ a.peak
     ∷ pattern_of a.budget ∷ pattern_of a.scale ∷ pattern_of a.hint ∷ pattern_of a.mass_limit
-    ∷ byte_of a.window_given ∷ a.window_end ∷ [])
+    ∷ byte_of (is_some a.window_end) ∷ unwrap_or a.window_end 0 ∷ [])
 
 abbrev pub seeds_text : List ℕ
 seeds_text = filled_of (lines_of ("seed.1 ~" ∷ "seed.2 ~" ∷ "seed.3 ~" ∷ [])) (map pattern_of seeds)

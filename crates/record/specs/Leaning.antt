@@ -2,7 +2,7 @@
 -- to which the cutoffs of the valid ones go. None counts as above every cutoff. An attempt without a walk has no cutoff, and
 -- agrees only with an answer without one. Definitions only. Assumes nothing.
 use Rattle.std.specs.Prelude.{ℕ, ◌+◌, Bool, true, false, cond, List, [], ◌∷◌, eqb, ltb, Float}
-use Rattle.fitter.specs.Attempts.{valid_of}
+use Rattle.fitter.specs.Attempts.{valid_of, candidate_in}
 use Rattle.fitter.specs.declared.attempts.FitAttempt.{FitAttempt}
 use Rattle.record.specs.Values.{hole_of}
 use Rattle.record.specs.declared.values.Hole.{Hole}
@@ -57,7 +57,7 @@ leant_on answer l v =
 
 unfoldable pub lean_step : Float → ℕ → Leaning → FitAttempt → Leaning
 lean_step budget answer l attempt =
-    cond (valid_of attempt) (leant_on answer l (vote_of (hole_of attempt.candidate budget))) l
+    cond (valid_of attempt) (leant_on answer l (vote_of (hole_of (candidate_in attempt) budget))) l
 
 unfoldable pub leaning_of : Float → ℕ → List FitAttempt → Leaning → Leaning
 leaning_of budget answer [] l = l

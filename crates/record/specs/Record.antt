@@ -1,11 +1,10 @@
 -- The record of a pick, and its last line. Definitions only. Assumes nothing.
-use Rattle.std.specs.Prelude.{ℕ, cond, List, [], ◌∷◌, ◌++◌, eqb, Float}
+use Rattle.std.specs.Prelude.{ℕ, cond, List, [], ◌∷◌, ◌++◌, eqb, Float, Option, None, Some}
 use Rattle.meaning.specs.Flags.{byte_of}
 use Rattle.models.specs.Cutoffs.{allowed_of}
 use Rattle.fitter.specs.Selection.{select_of}
 use Rattle.fitter.specs.declared.asking.Asked.{Asked}
 use Rattle.fitter.specs.declared.attempts.FitAttempt.{FitAttempt}
-use Rattle.fitter.specs.declared.selection.Selected.{Selected}
 use Rattle.models.specs.declared.fit.SpectrumFit.{SpectrumFit}
 use Rattle.listing.specs.Listing.{ascii}
 use Rattle.templates.specs.Cut.{end_at}
@@ -96,8 +95,9 @@ leaning_text l =
 unfoldable pub chosen_last : Asked → SpectrumFit → Last
 chosen_last asked fit = let c = cutoffs_of fit asked.budget in last_in c.hole.how (answer_of asked.valley c)
 
-unfoldable pub last_of : Asked → Selected → Last
-last_of asked s = cond s.found (chosen_last asked s.fit) NoFit
+abbrev pub last_of : Asked → Option SpectrumFit → Last
+last_of asked None = NoFit
+last_of asked (Some fit) = chosen_last asked fit
 
 unfoldable pub last_text : Last → List ℕ
 last_text l =
@@ -121,9 +121,9 @@ chosen_text budget fit x =
     fit_text fit
     ++ (found_text budget fit x.cutoffs x.answer ++ (leaning_text x.leaning ++ last_text x.last))
 
-unfoldable pub selected_text : Asked → List FitAttempt → Selected → List ℕ
-selected_text asked attempts s =
-    cond s.found (chosen_text asked.budget s.fit (chosen_of asked attempts s.fit)) (last_text NoFit)
+unfoldable pub selected_text : Asked → List FitAttempt → Option SpectrumFit → List ℕ
+selected_text asked attempts None = last_text NoFit
+selected_text asked attempts (Some fit) = chosen_text asked.budget fit (chosen_of asked attempts fit)
 
 -- ---- the whole
 -- how many bytes a record takes in so many lent ones, and its last line

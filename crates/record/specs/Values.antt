@@ -1,17 +1,10 @@
 -- The numbers that a record's marks take, for what is no number itself. Definitions only. Assumes nothing.
-use Rattle.std.specs.Prelude.{ℕ, cond, Float}
-use Rattle.std.proofs.Math.Option.{Option, none, some}
+use Rattle.std.specs.Prelude.{ℕ, ◌+◌, cond, Float, Option, None, Some}
 use Rattle.std.specs.Float.Ieee.Scale.{finite}
 use Rattle.meaning.specs.Reply.{Reply, refuse, broken, give}
 use Rattle.models.specs.Cutoffs.{Sureness, sure, not_sure, no_walk, allowed_of, hole_cutoff_sure_of}
-use Rattle.fitter.specs.declared.attempts.RejectionPart.{RejectionPart}
-use Rattle.fitter.specs.declared.attempts.RejectionPart.TheVariants as rejection
+use Rattle.fitter.specs.Validation.{reason_number}
 use Rattle.fitter.specs.declared.rejections.FitRejection.{FitRejection}
-use Rattle.fitter.specs.declared.rejections.FitRejection.TheVariants as reason
-use Rattle.models.specs.declared.families.ErrorModel.{ErrorModel}
-use Rattle.models.specs.declared.families.ErrorModel.TheVariants.{FreeSingletonWeibull, SingletonPareto}
-use Rattle.models.specs.declared.families.GenomeModel.{GenomeModel}
-use Rattle.models.specs.declared.families.GenomeModel.TheVariants.{NegativeBinomial, ShelfNegativeBinomial}
 use Rattle.models.specs.declared.fit.SpectrumFit.{SpectrumFit}
 use Rattle.record.specs.declared.values.Hole.{Hole}
 use Rattle.record.specs.declared.values.HowSure.{HowSure}
@@ -20,31 +13,10 @@ use Rattle.record.specs.declared.values.Place.{Place}
 use Rattle.record.specs.declared.values.Place.TheVariants as place
 use Rattle.record.specs.declared.values.PlaceNumbers.{PlaceNumbers}
 
-abbrev pub error_number : ErrorModel → ℕ
-error_number FreeSingletonWeibull = 0
-error_number SingletonPareto = 1
-
-abbrev pub genome_number : GenomeModel → ℕ
-genome_number NegativeBinomial = 0
-genome_number ShelfNegativeBinomial = 1
-
-abbrev pub reason_number : FitRejection → ℕ
-reason_number reason.OptimisationFailed = 1
-reason_number reason.NonFiniteLikelihood = 2
-reason_number reason.InvalidComponents = 3
-reason_number reason.InvalidWindowMass = 4
-reason_number reason.ComponentMassExceeded = 5
-reason_number reason.UnstableModeParameterisation = 6
-reason_number reason.GenomeLobeOutsideFitWindow = 7
-reason_number reason.ErrorModePastValley = 8
-reason_number reason.PrimaryModeOutsideBand = 9
-reason_number reason.RepeatModeTooEarly = 10
-reason_number reason.PositiveLogLikelihood = 11
-
--- 0 where nothing speaks against the candidate
-abbrev pub rejection_number : RejectionPart → ℕ
-rejection_number rejection.Absent = 0
-rejection_number (rejection.Present r) = reason_number r
+-- 0 where nothing speaks against the candidate, and else one more than the number of the reason
+abbrev pub rejection_number : Option FitRejection → ℕ
+rejection_number None = 0
+rejection_number (Some r) = 1 + reason_number r
 
 -- the part of `{none|#|-}`, and the count
 abbrev pub place_numbers : Place → PlaceNumbers
@@ -62,8 +34,8 @@ sure_number how.NoFit = 5
 
 -- ---- a cutoff
 abbrev pub place_in : Option ℕ → Place
-place_in none = place.Nothing
-place_in (some c) = place.At c
+place_in None = place.Nothing
+place_in (Some c) = place.At c
 
 abbrev pub crossover_place : Reply (Option ℕ) → Place
 crossover_place (refuse n) = place.Unknown

@@ -28,22 +28,19 @@ pub enum Last {
 }
 
 // The hole cutoff is the largest that keeps the budget, so a smaller one keeps it too. No cutoff is below 2.
+#[tactic(auto, unfolding(crate::specs::Answers::smaller_of))]
 fn smaller(valley: u64, hole: u64) -> u64
     ensures { result ≡ smaller_of valley hole }
 {
-    if hole < valley {
-        return if hole < 2 { 2 } else { hole };
-    }
-    if valley < 2 { 2 } else { valley }
+    valley.min(hole).max(2)
 }
 
 fn answer_place(valley: u64, hole: Place) -> Place
     ensures { result ≡ answer_place valley hole }
 {
     match hole {
-        Place::Nothing => Place::Nothing,
         Place::At(c) => Place::At(smaller(valley, c)),
-        Place::Unknown => Place::Unknown,
+        Place::Nothing | Place::Unknown => hole,
     }
 }
 
@@ -51,9 +48,8 @@ fn by_hole(valley: u64, hole: Place) -> bool
     ensures { result ≡ by_hole valley hole }
 {
     match hole {
-        Place::Nothing => true,
         Place::At(c) => c < valley,
-        Place::Unknown => true,
+        Place::Nothing | Place::Unknown => true,
     }
 }
 
@@ -61,9 +57,8 @@ fn is_under(count: u64, floor: Place) -> bool
     ensures { result ≡ is_under count floor }
 {
     match floor {
-        Place::Nothing => false,
         Place::At(f) => count < f,
-        Place::Unknown => false,
+        Place::Nothing | Place::Unknown => false,
     }
 }
 
@@ -71,23 +66,21 @@ fn is_below(answer: Place, floor: Place) -> bool
     ensures { result ≡ is_below answer floor }
 {
     match answer {
-        Place::Nothing => false,
         Place::At(c) => is_under(c, floor),
-        Place::Unknown => false,
+        Place::Nothing | Place::Unknown => false,
     }
 }
 
+#[tactic(auto, unfolding(crate::specs::Answers::answer_of))]
 pub(crate) fn answer_of(valley: u64, c: Cutoffs) -> Answer
     ensures { result ≡ answer_of valley c }
 {
-    let hole = c.hole;
-    let place = hole.place;
-    let floor = c.floor;
-    let answer = answer_place(valley, place);
+    let hole = c.hole.place;
+    let place = answer_place(valley, hole);
     Answer {
-        place: answer,
-        hole: by_hole(valley, place),
-        below: is_below(answer, floor),
+        place,
+        hole: by_hole(valley, hole),
+        below: is_below(place, c.floor),
     }
 }
 
@@ -101,6 +94,7 @@ pub(crate) fn least_removed(fit: SpectrumFit) -> f64
     none + probability(single, 1)
 }
 
+#[tactic(auto, unfolding(crate::specs::Answers::least_at))]
 fn least_at(count: u64, allowed: f64, removed: f64) -> u64
     ensures { result ≡ least_at count allowed removed }
 {
@@ -118,9 +112,8 @@ pub(crate) fn least_kind(answer: Place, allowed: f64, removed: f64) -> u64
     ensures { result ≡ least_kind answer allowed removed }
 {
     match answer {
-        Place::Nothing => 0,
         Place::At(c) => least_at(c, allowed, removed),
-        Place::Unknown => 0,
+        Place::Nothing | Place::Unknown => 0,
     }
 }
 
@@ -128,9 +121,8 @@ fn from_three(place: Place) -> bool
     ensures { result ≡ from_three place }
 {
     match place {
-        Place::Nothing => false,
         Place::At(c) => c >= 3,
-        Place::Unknown => false,
+        Place::Nothing | Place::Unknown => false,
     }
 }
 
@@ -138,14 +130,11 @@ fn from_three(place: Place) -> bool
 pub(crate) fn is_low(a: Answer) -> bool
     ensures { result ≡ is_low a }
 {
-    let place = a.place;
-    if a.below {
-        return from_three(place);
-    }
-    false
+    a.below && from_three(a.place)
 }
 
 // Of a hole that is sure.
+#[tactic(auto, unfolding(crate::specs::Answers::backed_by))]
 fn backed(a: Answer) -> Last
     ensures { result ≡ backed_by a }
 {
@@ -162,9 +151,7 @@ pub(crate) fn last_in(how: HowSure, a: Answer) -> Last
     let place = a.place;
     match how {
         HowSure::Sure => backed(a),
-        HowSure::NotFinite => Last::Unsure(place),
-        HowSure::NotProbable => Last::Unsure(place),
-        HowSure::NoWalk => Last::Unsure(place),
+        HowSure::NotFinite | HowSure::NotProbable | HowSure::NoWalk => Last::Unsure(place),
         HowSure::Refused(n) => Last::Refused(n),
         HowSure::NoFit => Last::NoFit,
     }
@@ -186,8 +173,7 @@ pub(crate) fn last_place(last: Last) -> Place
     ensures { result ≡ last_place last }
 {
     match last {
-        Last::Cutoff(place) => place,
-        Last::Unsure(place) => place,
+        Last::Cutoff(place) | Last::Unsure(place) => place,
         Last::NoFit => Place::Unknown,
         Last::Refused(n) => Place::At(n),
     }

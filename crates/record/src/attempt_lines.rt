@@ -5,12 +5,12 @@ ghost use Rattle.record.specs.Attempts.{cutoffs_of, own_cutoffs, cutoff_numbers,
 ghost use Rattle.record.specs.Attempts.{own_cutoffs_text, attempt_text};
 
 use crate::values::{
-    Hole, HowSure, Place, PlaceNumbers, crossover_of, error_number, floor_of, genome_number,
-    hole_of, place_numbers, rejection_number, sure_number,
+    Hole, HowSure, Place, PlaceNumbers, crossover_of, floor_of, hole_of, place_numbers,
+    rejection_number, sure_number,
 };
 use fitter::attempts::FitAttempt;
-use meaning::flags::byte_of;
 use models::fit::SpectrumFit;
+use models::unpacking::empty_fit;
 use routines::bits::pattern;
 use templates::filling::fill;
 
@@ -31,21 +31,20 @@ pub(crate) fn cutoffs_of(fit: SpectrumFit, budget: f64) -> Cutoffs
     }
 }
 
-// Of the attempt's own fit, where it has one.
-pub(crate) fn own_cutoffs(attempt: FitAttempt, budget: f64) -> Cutoffs
-    ensures { result ≡ own_cutoffs attempt budget }
+// Of an attempt's own fit, where it has one.
+pub(crate) fn own_cutoffs(candidate: Option<SpectrumFit>, budget: f64) -> Cutoffs
+    ensures { result ≡ own_cutoffs candidate budget }
 {
-    let fit = attempt.candidate;
-    if attempt.has_candidate {
-        return cutoffs_of(fit, budget);
-    }
-    Cutoffs {
-        hole: Hole {
-            place: Place::Unknown,
-            how: HowSure::NoFit,
+    match candidate {
+        Some(fit) => cutoffs_of(fit, budget),
+        None => Cutoffs {
+            hole: Hole {
+                place: Place::Unknown,
+                how: HowSure::NoFit,
+            },
+            crossover: Place::Unknown,
+            floor: Place::Unknown,
         },
-        crossover: Place::Unknown,
-        floor: Place::Unknown,
     }
 }
 
@@ -58,6 +57,7 @@ pub struct CutoffNumbers {
     pub floor: PlaceNumbers,
 }
 
+#[tactic(auto, unfolding(crate::specs::Attempts::cutoff_numbers))]
 pub(crate) fn cutoff_numbers(c: Cutoffs) -> CutoffNumbers
     ensures { result ≡ cutoff_numbers c }
 {
@@ -78,16 +78,13 @@ fn put_families(out: &mut [u8], at: usize, k: u64, a: FitAttempt) -> usize
     ensures value { result ≡ end_at at (families_text k a) (length out.old) }
     ensures out_after { out.new ≡ put_at at (families_text k a) out.old }
 {
-    let error = a.error_model;
-    let genome = a.genome_model;
-    let rejection = a.rejection;
     let values = [
         k,
-        error_number(error),
+        u64::from(u8::from(a.error_model)),
         k,
-        genome_number(genome),
+        u64::from(u8::from(a.genome_model)),
         k,
-        rejection_number(rejection),
+        rejection_number(a.rejection),
     ];
     fill(
         out,
@@ -105,8 +102,8 @@ fn put_costs(out: &mut [u8], at: usize, k: u64, a: FitAttempt) -> usize
     ensures value { result ≡ end_at at (costs_text k a) (length out.old) }
     ensures out_after { out.new ≡ put_at at (costs_text k a) out.old }
 {
-    let fit = a.candidate;
-    let held = byte_of(a.has_candidate) as u64;
+    let fit = a.candidate.unwrap_or(empty_fit());
+    let held = u64::from(a.candidate.is_some());
     let values = [
         k,
         held,
@@ -117,7 +114,7 @@ fn put_costs(out: &mut [u8], at: usize, k: u64, a: FitAttempt) -> usize
         k,
         a.total_iterations,
         k,
-        a.capped_starts as u64,
+        u64::from(a.capped_starts),
     ];
     fill(
         out,
@@ -131,6 +128,7 @@ attempt.#.capped_starts #
     )
 }
 
+#[tactic(auto, unfolding(crate::specs::Attempts::own_cutoffs_text))]
 fn put_own_cutoffs(out: &mut [u8], at: usize, k: u64, c: Cutoffs) -> usize
     ensures value { result ≡ end_at at (own_cutoffs_text k c) (length out.old) }
     ensures out_after { out.new ≡ put_at at (own_cutoffs_text k c) out.old }
@@ -154,11 +152,12 @@ attempt.#.error_floor {none|#|-}
 }
 
 // The lines of the k-th attempt, from a place of the lent bytes on; the answer is the place behind them.
+#[tactic(auto, using(crate::proofs::Joins::joins), unfolding(crate::specs::Attempts::attempt_text))]
 pub(crate) fn put_attempt(out: &mut [u8], at: usize, k: u64, a: FitAttempt, budget: f64) -> usize
     ensures value { result ≡ end_at at (attempt_text k a budget) (length out.old) }
     ensures out_after { out.new ≡ put_at at (attempt_text k a budget) out.old }
 {
-    let c = own_cutoffs(a, budget);
+    let c = own_cutoffs(a.candidate, budget);
     let first = put_families(out, at, k, a);
     let second = put_costs(out, first, k, a);
     put_own_cutoffs(out, second, k, c)

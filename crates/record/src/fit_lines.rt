@@ -5,9 +5,7 @@ ghost use Rattle.record.specs.Fits.{shape_values, shelf_values, weights_text, lo
 ghost use Rattle.record.specs.Fits.{kmers_text, scores_text, three_of, masses_text, totals_text, sums_text};
 ghost use Rattle.record.specs.Fits.{results_text, fit_text};
 
-use crate::values::{error_number, genome_number};
-use helpers::shelves::ShelfPart;
-use models::errors::ShapePart;
+use helpers::shelves::Shelf;
 use models::fit::SpectrumFit;
 use routines::bits::pattern;
 use templates::filling::fill;
@@ -26,32 +24,32 @@ pub struct ShelfValues {
     pub beta: u64,
 }
 
-fn shape_values(part: ShapePart) -> ShapeValues
+fn shape_values(part: Option<f64>) -> ShapeValues
     ensures { result ≡ shape_values part }
 {
     match part {
-        ShapePart::Absent => ShapeValues {
+        None => ShapeValues {
             present: 0,
             shape: 0,
         },
-        ShapePart::Present(x) => ShapeValues {
+        Some(x) => ShapeValues {
             present: 1,
             shape: pattern(x),
         },
     }
 }
 
-fn shelf_values(part: ShelfPart) -> ShelfValues
+fn shelf_values(part: Option<Shelf>) -> ShelfValues
     ensures { result ≡ shelf_values part }
 {
     match part {
-        ShelfPart::Absent => ShelfValues {
+        None => ShelfValues {
             present: 0,
             share: 0,
             alpha: 0,
             beta: 0,
         },
-        ShelfPart::Present(s) => ShelfValues {
+        Some(s) => ShelfValues {
             present: 1,
             share: pattern(s.share),
             alpha: pattern(s.alpha),
@@ -65,11 +63,9 @@ fn put_weights(out: &mut [u8], at: usize, f: SpectrumFit) -> usize
     ensures value { result ≡ end_at at (weights_text f) (length out.old) }
     ensures out_after { out.new ≡ put_at at (weights_text f) out.old }
 {
-    let error = f.error_model;
-    let genome = f.genome_model;
     let values = [
-        error_number(error),
-        genome_number(genome),
+        u64::from(u8::from(f.error_model)),
+        u64::from(u8::from(f.genome_model)),
         pattern(f.w_error),
         pattern(f.w_single),
         pattern(f.w_repeat),
@@ -201,6 +197,7 @@ fit.best_iterations #
     )
 }
 
+#[tactic(auto, unfolding(crate::specs::Fits::three_of))]
 fn three(x: [f64; 3]) -> [u64; 3]
     ensures { result ≡ three_of x }
 {
@@ -241,6 +238,7 @@ fit.component_log_totals.2 ~
     )
 }
 
+#[tactic(auto, unfolding(crate::specs::Fits::sums_text))]
 fn put_sums(out: &mut [u8], at: usize, f: SpectrumFit) -> usize
     ensures value { result ≡ end_at at (sums_text f) (length out.old) }
     ensures out_after { out.new ≡ put_at at (sums_text f) out.old }
@@ -256,6 +254,7 @@ fit.full_distinct_total ~
     )
 }
 
+#[tactic(auto, using(crate::proofs::Joins::joins), unfolding(crate::specs::Fits::results_text))]
 fn put_results(out: &mut [u8], at: usize, f: SpectrumFit) -> usize
     ensures value { result ≡ end_at at (results_text f) (length out.old) }
     ensures out_after { out.new ≡ put_at at (results_text f) out.old }
@@ -267,6 +266,7 @@ fn put_results(out: &mut [u8], at: usize, f: SpectrumFit) -> usize
     put_sums(out, totals, f)
 }
 
+#[tactic(auto, using(crate::proofs::Joins::joins), unfolding(crate::specs::Fits::fit_text))]
 pub(crate) fn put_fit(out: &mut [u8], at: usize, f: SpectrumFit) -> usize
     ensures value { result ≡ end_at at (fit_text f) (length out.old) }
     ensures out_after { out.new ≡ put_at at (fit_text f) out.old }

@@ -5,9 +5,7 @@ ghost use Rattle.record.specs.Heads.{window_number, options_text, seeds_text, sh
 ghost use Rattle.record.specs.Heads.{configurations_text, odd_of, warnings_text, asked_text, spectrum_text};
 ghost use Rattle.record.specs.Heads.{refusal_text, place_text};
 
-use crate::values::{error_number, genome_number};
 use fitter::asking::{Asked, SEEDS, SHAPES, WindowKind, configuration, window_end_of, window_kind};
-use meaning::flags::byte_of;
 use routines::bits::pattern;
 use templates::filling::fill;
 
@@ -37,8 +35,8 @@ fn put_options(out: &mut [u8], at: usize, a: Asked) -> usize
         pattern(a.scale),
         pattern(a.hint),
         pattern(a.mass_limit),
-        byte_of(a.window_given) as u64,
-        a.window_end as u64,
+        u64::from(a.window_end.is_some()),
+        a.window_end.unwrap_or(0) as u64,
     ];
     fill(
         out,
@@ -102,9 +100,11 @@ fn put_configuration(out: &mut [u8], at: usize, k: u64) -> usize
     ensures out_after { out.new ≡ put_at at (configuration_text k) out.old }
 {
     let families = configuration(k);
-    let error = families.error;
-    let genome = families.genome;
-    let values = [k, error_number(error), genome_number(genome)];
+    let values = [
+        k,
+        u64::from(u8::from(families.error)),
+        u64::from(u8::from(families.genome)),
+    ];
     fill(
         out,
         at,
@@ -114,6 +114,7 @@ fn put_configuration(out: &mut [u8], at: usize, k: u64) -> usize
     )
 }
 
+#[tactic(auto, using(crate::proofs::Joins::joins), unfolding(crate::specs::Heads::configurations_text))]
 fn put_configurations(out: &mut [u8], at: usize) -> usize
     ensures value { result ≡ end_at at configurations_text (length out.old) }
     ensures out_after { out.new ≡ put_at at configurations_text out.old }
@@ -125,13 +126,14 @@ fn put_configurations(out: &mut [u8], at: usize) -> usize
 }
 
 // What is odd in what was asked: the valley, the scale, the hint.
+#[tactic(auto, unfolding(crate::specs::Heads::odd_of))]
 fn odd(a: Asked) -> [u64; 3]
     ensures { result ≡ odd_of a }
 {
     [
-        byte_of(a.peak <= a.valley) as u64,
-        byte_of(!(a.scale >= 1.0)) as u64,
-        byte_of(!(a.hint > 1.0)) as u64,
+        u64::from(a.peak <= a.valley),
+        u64::from(!(a.scale >= 1.0)),
+        u64::from(!(a.hint > 1.0)),
     ]
 }
 
@@ -151,6 +153,7 @@ fn put_warnings(out: &mut [u8], at: usize, a: Asked) -> usize
     )
 }
 
+#[tactic(auto, using(crate::proofs::Joins::joins), unfolding(crate::specs::Heads::asked_text))]
 pub(crate) fn put_asked(out: &mut [u8], at: usize, a: Asked) -> usize
     ensures value { result ≡ end_at at (asked_text a) (length out.old) }
     ensures out_after { out.new ≡ put_at at (asked_text a) out.old }
@@ -171,7 +174,7 @@ pub(crate) fn put_spectrum(out: &mut [u8], at: usize, a: Asked, bins: usize) -> 
         bins as u64,
         end as u64,
         window_number(window_kind(a, bins)),
-        byte_of(end < a.peak) as u64,
+        u64::from(end < a.peak),
     ];
     fill(
         out,
@@ -189,7 +192,7 @@ pub(crate) fn put_refusal(out: &mut [u8], at: usize, n: u8) -> usize
     ensures value { result ≡ end_at at (refusal_text n) (length out.old) }
     ensures out_after { out.new ≡ put_at at (refusal_text n) out.old }
 {
-    let values = [n as u64, n as u64];
+    let values = [u64::from(n); 2];
     fill(
         out,
         at,

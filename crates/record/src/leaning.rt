@@ -22,27 +22,20 @@ pub struct Leaning {
 fn is_walked(how: HowSure) -> bool
     ensures { result ≡ is_walked how }
 {
-    match how {
-        HowSure::Sure => true,
-        HowSure::NotFinite => true,
-        HowSure::NotProbable => true,
-        HowSure::NoWalk => false,
-        HowSure::Refused(_) => true,
-        HowSure::NoFit => true,
-    }
+    !matches!(how, HowSure::NoWalk)
 }
 
 fn count_vote(place: Place) -> u64
     ensures { result ≡ count_vote place }
 {
     match place {
-        Place::Nothing => NONE,
         Place::At(c) => c,
-        Place::Unknown => NONE,
+        Place::Nothing | Place::Unknown => NONE,
     }
 }
 
 // What an attempt says of the hole cutoff.
+#[tactic(auto, unfolding(crate::specs::Leaning::vote_of))]
 pub(crate) fn vote(h: Hole) -> u64
     ensures { result ≡ vote_of h }
 {
@@ -54,58 +47,43 @@ pub(crate) fn vote(h: Hole) -> u64
     NO_WALK
 }
 
+#[tactic(auto, unfolding(crate::specs::Leaning::least_of))]
 fn least(a: u64, b: u64) -> u64
     ensures { result ≡ least_of a b }
 {
-    if b < a {
-        return b;
-    }
-    a
+    a.min(b)
 }
 
+#[tactic(auto, unfolding(crate::specs::Leaning::largest_of))]
 fn largest(a: u64, b: u64) -> u64
     ensures { result ≡ largest_of a b }
 {
-    if a < b {
-        if b == NO_WALK {
-            return a;
-        }
-        return b;
-    }
-    a
+    if a < b && b != NO_WALK { b } else { a }
 }
 
+#[tactic(auto, unfolding(crate::specs::Leaning::leant_on))]
 fn lean_on(answer: u64, l: Leaning, v: u64) -> Leaning
     requires { (l.valid < 4) × (l.same < 4) }
     ensures { result ≡ leant_on answer l v }
 {
-    let low = least(l.least, v);
-    let high = largest(l.largest, v);
-    if v == answer {
-        return Leaning {
-            valid: l.valid + 1,
-            same: l.same + 1,
-            least: low,
-            largest: high,
-        };
-    }
+    let same = if v == answer { l.same + 1 } else { l.same };
     Leaning {
         valid: l.valid + 1,
-        same: l.same,
-        least: low,
-        largest: high,
+        same,
+        least: least(l.least, v),
+        largest: largest(l.largest, v),
     }
 }
 
+#[tactic(auto, unfolding(crate::specs::Leaning::lean_step, fitter::specs::Attempts::valid_of))]
 fn lean(budget: f64, answer: u64, l: Leaning, attempt: FitAttempt) -> Leaning
     requires { (l.valid < 4) × (l.same < 4) }
     ensures { result ≡ lean_step budget answer l attempt }
 {
-    let fit = attempt.candidate;
-    if is_valid(attempt) {
-        return lean_on(answer, l, vote(hole_of(fit, budget)));
+    match attempt.candidate {
+        Some(fit) if is_valid(attempt) => lean_on(answer, l, vote(hole_of(fit, budget))),
+        _ => l,
     }
-    l
 }
 
 // Over four attempts, beside the answer's vote.

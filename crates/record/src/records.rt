@@ -16,8 +16,8 @@ use crate::leaning::{Leaning, NO_WALK, NONE, leaning_of, vote};
 use crate::values::{HowSure, Place, place_numbers, sure_number};
 use fitter::asking::Asked;
 use fitter::attempts::FitAttempt;
-use fitter::selection::{Selected, select_fit};
-use meaning::flags::byte_of;
+use fitter::selection::select_fit;
+use meaning::refusals::Refusal;
 use models::fit::SpectrumFit;
 use routines::bits::pattern;
 use templates::filling::fill;
@@ -46,15 +46,17 @@ pub struct Recorded {
 }
 
 // 0 for a count, 1 for none, 2 where no valid attempt has a walk.
+#[tactic(auto, unfolding(crate::specs::Record::end_part))]
 fn end_part(l: Leaning, v: u64) -> u64
     ensures { result ≡ end_part l v }
 {
     if l.least == NO_WALK {
         return 2;
     }
-    byte_of(v == NONE) as u64
+    u64::from(v == NONE)
 }
 
+#[tactic(auto, unfolding(crate::specs::Record::cutoff_text))]
 fn put_cutoffs(out: &mut [u8], at: usize, share: f64, c: Cutoffs) -> usize
     ensures value { result ≡ end_at at (cutoff_text share c) (length out.old) }
     ensures out_after { out.new ≡ put_at at (cutoff_text share c) out.old }
@@ -85,6 +87,7 @@ error_floor {none|#|-}
     )
 }
 
+#[tactic(auto, unfolding(crate::specs::Record::least_numbers))]
 fn least_numbers(fit: SpectrumFit, budget: f64, answer: Place) -> LeastNumbers
     ensures { result ≡ least_numbers fit budget answer }
 {
@@ -103,8 +106,8 @@ fn put_answer(out: &mut [u8], at: usize, fit: SpectrumFit, budget: f64, a: Answe
     let place = a.place;
     let least = least_numbers(fit, budget, place);
     let values = [
-        byte_of(a.hole) as u64,
-        byte_of(a.below) as u64,
+        u64::from(a.hole),
+        u64::from(a.below),
         least.kind,
         least.times,
     ];
@@ -120,11 +123,12 @@ least_cutoff broken ~}
     )
 }
 
+#[tactic(auto, unfolding(crate::specs::Record::doubts_text))]
 fn put_doubts(out: &mut [u8], at: usize, how: HowSure, a: Answer) -> usize
     ensures value { result ≡ end_at at (doubts_text how a) (length out.old) }
     ensures out_after { out.new ≡ put_at at (doubts_text how a) out.old }
 {
-    let values = [sure_number(how), byte_of(is_low(a)) as u64];
+    let values = [sure_number(how), u64::from(is_low(a))];
     fill(
         out,
         at,
@@ -137,13 +141,14 @@ fn put_doubts(out: &mut [u8], at: usize, how: HowSure, a: Answer) -> usize
     )
 }
 
+#[tactic(auto, unfolding(crate::specs::Record::leaning_text))]
 fn put_leaning(out: &mut [u8], at: usize, l: Leaning) -> usize
     ensures value { result ≡ end_at at (leaning_text l) (length out.old) }
     ensures out_after { out.new ≡ put_at at (leaning_text l) out.old }
 {
     let values = [
-        l.valid as u64,
-        l.same as u64,
+        u64::from(l.valid),
+        u64::from(l.same),
         end_part(l, l.least),
         l.least,
         end_part(l, l.largest),
@@ -161,6 +166,7 @@ largest_hole {#|none|-}
     )
 }
 
+#[tactic(auto, unfolding(crate::specs::Record::last_text))]
 fn put_last(out: &mut [u8], at: usize, l: Last) -> usize
     ensures value { result ≡ end_at at (last_text l) (length out.old) }
     ensures out_after { out.new ≡ put_at at (last_text l) out.old }
@@ -199,6 +205,7 @@ fn choose(
     }
 }
 
+#[tactic(auto, using(crate::proofs::Joins::joins), unfolding(crate::specs::Record::found_text))]
 fn put_found(
     out: &mut [u8],
     at: usize,
@@ -218,6 +225,7 @@ fn put_found(
 }
 
 // Every line of the selected fit.
+#[tactic(auto, using(crate::proofs::Joins::joins), unfolding(crate::specs::Record::chosen_text))]
 fn put_chosen(out: &mut [u8], at: usize, budget: f64, fit: SpectrumFit, x: Chosen) -> usize
     ensures value { result ≡ end_at at (chosen_text budget fit x) (length out.old) }
     ensures out_after { out.new ≡ put_at at (chosen_text budget fit x) out.old }
@@ -229,6 +237,7 @@ fn put_chosen(out: &mut [u8], at: usize, budget: f64, fit: SpectrumFit, x: Chose
     put_last(out, third, last)
 }
 
+#[tactic(auto, unfolding(crate::specs::Record::selected_text, crate::specs::Record::chosen_of))]
 fn put_selected(
     out: &mut [u8],
     at: usize,
@@ -237,27 +246,28 @@ fn put_selected(
     b: FitAttempt,
     c: FitAttempt,
     d: FitAttempt,
-    s: Selected,
+    selected: Option<SpectrumFit>,
 ) -> Recorded
-    ensures size_value { result.size ≡ end_at at (selected_text asked (a ∷ b ∷ c ∷ d ∷ []) s) (length out.old) }
-    ensures out_after { out.new ≡ put_at at (selected_text asked (a ∷ b ∷ c ∷ d ∷ []) s) out.old }
-    ensures last_value { result.last ≡ last_of asked s }
+    ensures size_value { result.size ≡ end_at at (selected_text asked (a ∷ b ∷ c ∷ d ∷ []) selected) (length out.old) }
+    ensures out_after { out.new ≡ put_at at (selected_text asked (a ∷ b ∷ c ∷ d ∷ []) selected) out.old }
+    ensures last_value { result.last ≡ last_of asked selected }
 {
-    let fit = s.fit;
-    if s.found {
-        let chosen = choose(asked, a, b, c, d, fit);
-        let last = chosen.last;
-        return Recorded {
-            size: put_chosen(out, at, asked.budget, fit, chosen),
-            last,
-        };
-    }
-    Recorded {
-        size: put_last(out, at, Last::NoFit),
-        last: Last::NoFit,
+    match selected {
+        Some(fit) => {
+            let chosen = choose(asked, a, b, c, d, fit);
+            Recorded {
+                size: put_chosen(out, at, asked.budget, fit, chosen),
+                last: chosen.last,
+            }
+        }
+        None => Recorded {
+            size: put_last(out, at, Last::NoFit),
+            last: Last::NoFit,
+        },
     }
 }
 
+#[tactic(auto, using(crate::proofs::Joins::joins), unfolding(crate::specs::Record::attempts_text))]
 fn put_attempts(
     out: &mut [u8],
     at: usize,
@@ -276,6 +286,7 @@ fn put_attempts(
     put_attempt(out, third, 4, d, budget)
 }
 
+#[tactic(auto, using(crate::proofs::Joins::joins), unfolding(crate::specs::Record::head_text))]
 fn put_head(out: &mut [u8], at: usize, asked: Asked, bins: usize) -> usize
     ensures value { result ≡ end_at at (head_text asked bins) (length out.old) }
     ensures out_after { out.new ≡ put_at at (head_text asked bins) out.old }
@@ -306,12 +317,13 @@ pub fn write_record(
     put_selected(out, second, asked, a, b, c, d, selected)
 }
 
-// The record of a spectrum that is refused by number.
+// The record of a spectrum that is refused. The number is a u8: a `Refusal` would ask more of who calls it.
+#[tactic(auto, using(crate::proofs::Joins::joins), unfolding(crate::specs::Record::refused_of))]
 pub fn write_refused(asked: Asked, bins: usize, n: u8, out: &mut [u8]) -> Recorded
     ensures value { result ≡ recorded_of (refused_of asked bins n) (Last.Refused n) (length out.old) }
     ensures out_after { out.new ≡ put_at 0 (refused_of asked bins n) out.old }
 {
-    let last = Last::Refused(n as u64);
+    let last = Last::Refused(u64::from(n));
     let first = put_head(out, 0, asked, bins);
     let second = put_refusal(out, first, n);
     Recorded {
@@ -321,13 +333,14 @@ pub fn write_refused(asked: Asked, bins: usize, n: u8, out: &mut [u8]) -> Record
 }
 
 // The record of a file that is refused at a place.
+#[tactic(auto, using(crate::proofs::Joins::joins), unfolding(crate::specs::Record::broken_of))]
 pub fn write_broken(asked: Asked, place: usize, out: &mut [u8]) -> Recorded
     ensures value { result ≡ recorded_of (broken_of asked place) (Last.Refused 3) (length out.old) }
     ensures out_after { out.new ≡ put_at 0 (broken_of asked place) out.old }
 {
     let last = Last::Refused(3);
     let first = put_asked(out, 0, asked);
-    let second = put_refusal(out, first, 3);
+    let second = put_refusal(out, first, u8::from(Refusal::BrokenFile));
     let third = put_place(out, second, place);
     Recorded {
         size: put_last(out, third, last),

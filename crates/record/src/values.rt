@@ -1,20 +1,17 @@
 // The numbers that a record's marks take, for what is no number itself.
-ghost use Rattle.std.specs.Prelude.{◌≡◌};
-ghost use Rattle.std.proofs.Math.Option.{some};
-ghost use Rattle.models.specs.Cutoffs.{allowed_of, cutoff_says, sure_says};
-ghost use Rattle.models.specs.HeightCutoffs.{crossover_of, error_floor_of, floor_says};
-ghost use Rattle.models.specs.Walk.{part_says};
-ghost use Rattle.record.specs.Values.{error_number, genome_number, reason_number, rejection_number};
+ghost use Rattle.std.specs.Prelude.{◌≡◌, Some};
+ghost use Rattle.models.specs.Cutoffs.{allowed_of, sure_says};
+ghost use Rattle.models.specs.HeightCutoffs.{crossover_of, error_floor_of};
+ghost use Rattle.record.specs.Values.{rejection_number};
 ghost use Rattle.record.specs.Values.{place_numbers, sure_number, place_in, crossover_place, floor_place, why_not};
 ghost use Rattle.record.specs.Values.{hole_in, hole_of};
+ghost use Rattle.meaning.specs.Answers.{reply_as};
 
-use fitter::attempts::RejectionPart;
 use fitter::rejections::FitRejection;
-use models::cutoffs::{Cutoff, SureCutoff, hole_cutoff_sure};
-use models::families::{ErrorModel, GenomeModel};
+use meaning::refusals::Refusal;
+use models::cutoffs::{SureCutoff, hole_cutoff_sure};
 use models::fit::SpectrumFit;
-use models::height_cutoffs::{FloorAnswer, crossover, error_floor_cutoff};
-use models::walk::CutoffPart;
+use models::height_cutoffs::{crossover, error_floor_cutoff};
 use routines::pick::is_finite;
 
 // A cutoff: none, a count, or unknown, where there is no fit to ask, or it is refused.
@@ -51,48 +48,12 @@ pub struct PlaceNumbers {
     pub at: u64,
 }
 
-pub(crate) fn error_number(error: ErrorModel) -> u64
-    ensures { result ≡ error_number error }
-{
-    match error {
-        ErrorModel::FreeSingletonWeibull => 0,
-        ErrorModel::SingletonPareto => 1,
-    }
-}
-
-pub(crate) fn genome_number(genome: GenomeModel) -> u64
-    ensures { result ≡ genome_number genome }
-{
-    match genome {
-        GenomeModel::NegativeBinomial => 0,
-        GenomeModel::ShelfNegativeBinomial => 1,
-    }
-}
-
-fn reason_number(reason: FitRejection) -> u64
-    ensures { result ≡ reason_number reason }
-{
-    match reason {
-        FitRejection::OptimisationFailed => 1,
-        FitRejection::NonFiniteLikelihood => 2,
-        FitRejection::InvalidComponents => 3,
-        FitRejection::InvalidWindowMass => 4,
-        FitRejection::ComponentMassExceeded => 5,
-        FitRejection::UnstableModeParameterisation => 6,
-        FitRejection::GenomeLobeOutsideFitWindow => 7,
-        FitRejection::ErrorModePastValley => 8,
-        FitRejection::PrimaryModeOutsideBand => 9,
-        FitRejection::RepeatModeTooEarly => 10,
-        FitRejection::PositiveLogLikelihood => 11,
-    }
-}
-
-pub(crate) fn rejection_number(rejection: RejectionPart) -> u64
+pub(crate) fn rejection_number(rejection: Option<FitRejection>) -> u64
     ensures { result ≡ rejection_number rejection }
 {
     match rejection {
-        RejectionPart::Absent => 0,
-        RejectionPart::Present(reason) => reason_number(reason),
+        None => 0,
+        Some(reason) => 1 + u64::from(u8::from(reason)),
     }
 }
 
@@ -119,35 +80,17 @@ pub(crate) fn sure_number(how: HowSure) -> u64
     }
 }
 
-fn place_in(found: CutoffPart) -> Place
-    ensures { result ≡ place_in (part_says found) }
+fn place_in(found: Option<u16>) -> Place
+    ensures { result ≡ place_in found }
 {
     match found {
-        CutoffPart::Absent => Place::Nothing,
-        CutoffPart::Present(c) => Place::At(c as u64),
-    }
-}
-
-fn crossover_in(answer: Cutoff) -> Place
-    ensures { result ≡ crossover_place (cutoff_says answer) }
-{
-    match answer {
-        Cutoff::At(c) => Place::At(c as u64),
-        Cutoff::Nothing => Place::Nothing,
-        Cutoff::Refused(_) => Place::Unknown,
-    }
-}
-
-fn floor_in(answer: FloorAnswer) -> Place
-    ensures { result ≡ floor_place (floor_says answer) }
-{
-    match answer {
-        FloorAnswer::At(c) => Place::At(c as u64),
-        FloorAnswer::Refused(_) => Place::Unknown,
+        None => Place::Nothing,
+        Some(c) => Place::At(u64::from(c)),
     }
 }
 
 // Why a hole cutoff is not sure, where there is a walk.
+#[tactic(auto, unfolding(crate::specs::Values::why_not))]
 fn why_not(allowed: f64) -> HowSure
     ensures { result ≡ why_not allowed }
 {
@@ -157,25 +100,25 @@ fn why_not(allowed: f64) -> HowSure
     HowSure::NotFinite
 }
 
-fn hole_in(why: HowSure, answer: SureCutoff) -> Hole
-    ensures { result ≡ hole_in why (sure_says answer) }
+fn hole_in(why: HowSure, answer: Result<SureCutoff, Refusal>) -> Hole
+    ensures { result ≡ hole_in why (reply_as sure_says answer) }
 {
     match answer {
-        SureCutoff::Sure(found) => Hole {
+        Ok(SureCutoff::Sure(found)) => Hole {
             place: place_in(found),
             how: HowSure::Sure,
         },
-        SureCutoff::NotSure(found) => Hole {
+        Ok(SureCutoff::NotSure(found)) => Hole {
             place: place_in(found),
             how: why,
         },
-        SureCutoff::NoWalk => Hole {
+        Ok(SureCutoff::NoWalk) => Hole {
             place: Place::Nothing,
             how: HowSure::NoWalk,
         },
-        SureCutoff::Refused(n) => Hole {
+        Err(refusal) => Hole {
             place: Place::Unknown,
-            how: HowSure::Refused(n as u64),
+            how: HowSure::Refused(u64::from(u8::from(refusal))),
         },
     }
 }
@@ -190,11 +133,17 @@ pub(crate) fn hole_of(fit: SpectrumFit, budget: f64) -> Hole
 pub(crate) fn crossover_of(fit: SpectrumFit) -> Place
     ensures { result ≡ crossover_place (crossover_of fit) }
 {
-    crossover_in(crossover(fit))
+    match crossover(fit) {
+        Ok(found) => place_in(found),
+        Err(_) => Place::Unknown,
+    }
 }
 
 pub(crate) fn floor_of(fit: SpectrumFit) -> Place
     ensures { result ≡ floor_place (error_floor_of fit) }
 {
-    floor_in(error_floor_cutoff(fit))
+    match error_floor_cutoff(fit) {
+        Ok(c) => Place::At(u64::from(c)),
+        Err(_) => Place::Unknown,
+    }
 }

@@ -4,12 +4,12 @@ use crate::parts::{error, genome};
 use crate::puts::*;
 use crate::slices::{bins, flags, floats, places};
 use crate::words::*;
-use fitter::attempts::RejectionPart;
-use fitter::rejections::{FitRejection, reason_number};
-use fitter::validation::Verdict;
-use meaning::wholes::least;
-use models::parts::{error_number, genome_number};
+use fitter::attempts::{FitAttempt, is_valid, make_attempt};
+use fitter::rejections::FitRejection;
+use meaning::refusals::Refusal;
+use models::fit::SpectrumFit;
 use models::problems::Problem;
+use models::unpacking::empty_fit;
 
 // ---- reasons by their numbers
 
@@ -29,13 +29,17 @@ fn reason_of(n: u64) -> FitRejection {
     }
 }
 
+fn reason_word(why: FitRejection) -> u64 {
+    u64::from(u8::from(why))
+}
+
 // ---- the validator: a fit, the limit, the valley and the peak
 
-fn put_verdict(out: &mut [u64], at: usize, got: Verdict) -> usize {
-    match got {
-        Verdict::Valid => put_two(out, at, 0, 0),
-        Verdict::Rejected(why) => put_two(out, at, 0, reason_number(why) as u64),
-        Verdict::Refused(n) => put_two(out, at, n as u64, 0),
+// 0 stands for a valid fit.
+fn verdict_word(rejection: Option<FitRejection>) -> u64 {
+    match rejection {
+        None => 0,
+        Some(why) => reason_word(why),
     }
 }
 
@@ -45,25 +49,31 @@ pub(crate) fn judged(row: &[u64], out: &mut [u64]) -> usize {
     let peak = size(row, 36);
     let limit = number(row, 34);
     let got = fitter::validation::validate_fit(f, valley, peak, limit);
-    put_verdict(out, 37, got)
+    put_answer(out, 37, got, verdict_word)
 }
 
 // ---- an attempt: 7 words and its candidate's 33
 
-fn rejection(present: u64, n: u64) -> RejectionPart {
+fn rejection(present: u64, n: u64) -> Option<FitRejection> {
     if present == 0 {
-        return RejectionPart::Absent;
+        return None;
     }
-    RejectionPart::Present(reason_of(n))
+    Some(reason_of(n))
 }
 
-fn attempt(row: &[u64], i: usize) -> fitter::attempts::FitAttempt {
+fn candidate(present: u64, w: &[u64]) -> Option<SpectrumFit> {
+    if present == 0 {
+        return None;
+    }
+    Some(fit(w))
+}
+
+fn attempt(row: &[u64], i: usize) -> FitAttempt {
     let w = from(row, i);
-    fitter::attempts::make_attempt(
+    make_attempt(
         error(w, 0),
         genome(w, 1),
-        word(w, 2) != 0,
-        fit(from(w, 7)),
+        candidate(word(w, 2), from(w, 7)),
         rejection(word(w, 3), word(w, 4)),
         word(w, 5),
         bin(word(w, 6)),
@@ -71,7 +81,7 @@ fn attempt(row: &[u64], i: usize) -> fitter::attempts::FitAttempt {
 }
 
 pub(crate) fn valid(row: &[u64], out: &mut [u64]) -> usize {
-    put_flag(out, 41, fitter::attempts::is_valid(attempt(row, 1)))
+    put_flag(out, 41, is_valid(attempt(row, 1)))
 }
 
 pub(crate) fn selected(row: &[u64], out: &mut [u64]) -> usize {
@@ -80,8 +90,8 @@ pub(crate) fn selected(row: &[u64], out: &mut [u64]) -> usize {
     let third = attempt(row, 81);
     let fourth = attempt(row, 121);
     let got = fitter::selection::select_fit([first, second, third, fourth]);
-    let n = put_flag(out, 161, got.found);
-    put_fit(out, n, got.fit)
+    let n = put_flag(out, 161, got.is_some());
+    put_fit(out, n, got.unwrap_or(empty_fit()))
 }
 
 // ---- one over a run table: scale, valley, limit, window end, peak and families; then lists, bins, the shelf's table,
@@ -99,41 +109,40 @@ fn problem(row: &[u64]) -> Problem {
     }
 }
 
-fn put_rejection(out: &mut [u64], at: usize, rejection: RejectionPart) -> usize {
+fn put_rejection(out: &mut [u64], at: usize, rejection: Option<FitRejection>) -> usize {
     match rejection {
-        RejectionPart::Absent => put_two(out, at, 0, 0),
-        RejectionPart::Present(why) => put_two(out, at, 1, reason_number(why) as u64),
+        None => put_two(out, at, 0, 0),
+        Some(why) => put_two(out, at, 1, reason_word(why)),
     }
 }
 
-// The number, the families, whether there is a candidate, the rejection, the iterations, the capped runs and the fit.
-fn attempt_words(got: fitter::settling::AttemptAnswer) -> [u64; 41] {
+// The families, whether there is a candidate, the rejection, the iterations, the capped runs and the fit.
+fn put_attempt(words: &mut [u64], a: FitAttempt) {
+    let error = u8::from(a.error_model);
+    let genome = u8::from(a.genome_model);
+    put_two(words, 1, u64::from(error), u64::from(genome));
+    put_flag(words, 3, a.candidate.is_some());
+    put_rejection(words, 4, a.rejection);
+    put_two(words, 6, a.total_iterations, u64::from(a.capped_starts));
+    put_fit(words, 8, a.candidate.unwrap_or(empty_fit()));
+}
+
+// The number, and the attempt; beside a refusal's number everything is 0.
+fn attempt_words(got: Result<FitAttempt, Refusal>) -> [u64; 41] {
     let mut words = [0u64; 41];
-    let a = got.attempt;
-    let candidate = a.candidate;
-    let error = a.error_model;
-    let genome = a.genome_model;
-    let why = a.rejection;
-    put(&mut words, 0, got.number as u64);
-    put_two(
-        &mut words,
-        1,
-        error_number(error) as u64,
-        genome_number(genome) as u64,
-    );
-    put_flag(&mut words, 3, a.has_candidate);
-    put_rejection(&mut words, 4, why);
-    put_two(&mut words, 6, a.total_iterations, a.capped_starts as u64);
-    put_fit(&mut words, 8, candidate);
+    match got {
+        Ok(a) => put_attempt(&mut words, a),
+        Err(refusal) => words[0] = refused(refusal),
+    }
     words
 }
 
 // The shelf's table from where on it stands as it was.
-fn put_rest(out: &mut [u64], at: usize, row: &[u64], number: u8, table: &[f64]) -> usize {
-    if number != 0 || word(row, 7) == 0 {
+fn put_rest(out: &mut [u64], at: usize, row: &[u64], refused: bool, table: &[f64]) -> usize {
+    if refused || word(row, 7) == 0 {
         return put_floats(out, at, table);
     }
-    let start = least(1 + least(size(row, 4), MOST), table.len());
+    let start = (1 + size(row, 4).min(MOST)).min(table.len());
     put_floats(out, at, &table[start..])
 }
 
@@ -163,7 +172,7 @@ fn runs(row: &[u64], counts: &[u32], lists: &[f64], table: &mut [f64], out: &mut
         table,
     );
     let n = put_words(out, nth(row, 8, 9), &attempt_words(got));
-    put_rest(out, n, row, got.number, table)
+    put_rest(out, n, row, got.is_err(), table)
 }
 
 pub(crate) fn attempted(row: &[u64], out: &mut [u64]) -> usize {

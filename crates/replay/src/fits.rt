@@ -3,28 +3,13 @@ use crate::puts::*;
 use crate::words::*;
 use models::fit::SpectrumFit;
 use models::fit_words::{FitWords, fit_of_words, fit_words};
-
-fn read_floats(w: &[u64], room: &mut [f64]) {
-    let mut i = 0;
-    while i < room.len() {
-        room[i] = number(w, i);
-        i += 1;
-    }
-}
+use std::array;
 
 pub(crate) fn fit(w: &[u64]) -> SpectrumFit {
-    let mut floats = [0.0; 27];
-    read_floats(from(w, 6), &mut floats);
+    let behind = from(w, 6);
     fit_of_words(FitWords {
-        wholes: [
-            word(w, 0),
-            word(w, 1),
-            word(w, 2),
-            word(w, 3),
-            word(w, 4),
-            word(w, 5),
-        ],
-        floats,
+        wholes: array::from_fn(|i| word(w, i)),
+        floats: array::from_fn(|i| number(behind, i)),
     })
 }
 

@@ -22,12 +22,12 @@ fn log(i: u64, out: &mut [u64]) -> usize {
 // Behind the last start the row holds 0.
 fn pareto(i: usize) -> f64 {
     let starts = routines::tables::pareto_starts();
-    if i < 6 { starts[i] } else { 0.0 }
+    starts.get(i).copied().unwrap_or(0.0)
 }
 
 fn weibull(i: usize) -> f64 {
     let starts = routines::tables::weibull_starts();
-    if i < 9 { starts[i] } else { 0.0 }
+    starts.get(i).copied().unwrap_or(0.0)
 }
 
 pub(crate) fn answer(row: &[u64], out: &mut [u64]) -> usize {
@@ -45,7 +45,7 @@ pub(crate) fn answer(row: &[u64], out: &mut [u64]) -> usize {
         8 => put_float(out, 3, routines::pick::min(x, y)),
         9 => put_flag(out, 2, routines::pick::is_finite(x)),
         10 => put(out, 2, routines::casts::to_u64(x)),
-        11 => put(out, 2, routines::casts::to_u32(x) as u64),
+        11 => put(out, 2, u64::from(routines::casts::to_u32(x))),
         12 => put_float(out, 2, routines::casts::from_u64(n)),
         13 => put_float(out, 3, routines::held::at_least(x, y)),
         14 => put_float(out, 3, routines::held::at_most(x, y)),

@@ -4,11 +4,12 @@ use crate::parts::{error, errors, genome, shape_words, shelf, shelf_words};
 use crate::puts::*;
 use crate::slices::{bins, floats};
 use crate::words::*;
-use models::cutoffs::{Cutoff, SureCutoff};
-use models::height_cutoffs::FloorAnswer;
-use models::heights::HeightsAnswer;
-use models::params::ParamsAnswer;
-use models::walk::CutoffPart;
+use meaning::refusals::Refusal;
+use models::cutoffs::SureCutoff;
+use models::fit::SpectrumFit;
+use models::height_terms::Heights;
+use models::params::Params;
+use models::unpacking::empty_fit;
 
 // ---- a problem: window end, peak and families, and then list, bins and the shelf's table
 
@@ -33,6 +34,20 @@ fn cost(row: &[u64], out: &mut [u64]) -> usize {
     put_floats(out, behind, table)
 }
 
+// The number and the fit, the empty one beside a refusal's.
+fn put_unpacked(out: &mut [u64], at: usize, got: Result<SpectrumFit, Refusal>) -> usize {
+    match got {
+        Ok(f) => {
+            let n = put(out, at, 0);
+            put_fit(out, n, f)
+        }
+        Err(refusal) => {
+            let n = put(out, at, refused(refusal));
+            put_fit(out, n, empty_fit())
+        }
+    }
+}
+
 fn unpacked(row: &[u64], out: &mut [u64]) -> usize {
     let mut list = [0.0; MOST];
     let mut spectrum = [0u32; MOST];
@@ -52,20 +67,17 @@ fn unpacked(row: &[u64], out: &mut [u64]) -> usize {
         word(row, 3),
         table,
     );
-    let n = put(out, nth(row, 8, 3), got.number as u64);
-    let behind = put_fit(out, n, got.fit);
+    let behind = put_unpacked(out, nth(row, 8, 3), got);
     put_floats(out, behind, table)
 }
 
 // ---- a list
 
 // The number and two presences, then the floats.
-fn put_params(out: &mut [u64], at: usize, p: models::params::Params) -> usize {
+fn put_params(out: &mut [u64], at: usize, p: Params) -> usize {
     let e = p.error_params;
-    let weibull = e.weibull_shape;
-    let under = p.shelf;
-    let shape = shape_words(weibull);
-    let part = shelf_words(under);
+    let shape = shape_words(e.weibull_shape);
+    let part = shelf_words(p.shelf);
     let weights = put_words(out, at, &[0, shape[0], part[0]]);
     let mode = put_floats(out, weights, &[p.ln_error, p.ln_single, p.ln_repeat]);
     let tail = put_floats(out, mode, &[p.target_mode, p.mean, p.dispersion]);
@@ -75,11 +87,11 @@ fn put_params(out: &mut [u64], at: usize, p: models::params::Params) -> usize {
 }
 
 // Beside a refusal's number everything is 0.
-fn put_list(out: &mut [u64], at: usize, got: ParamsAnswer) -> usize {
+fn put_list(out: &mut [u64], at: usize, got: Result<Params, Refusal>) -> usize {
     match got {
-        ParamsAnswer::At(p) => put_params(out, at, p),
-        ParamsAnswer::Refused(n) => {
-            let rest = put(out, at, n as u64);
+        Ok(p) => put_params(out, at, p),
+        Err(refusal) => {
+            let rest = put(out, at, refused(refusal));
             put_words(out, rest, &[0u64; 15])
         }
     }
@@ -94,46 +106,40 @@ fn params(row: &[u64], out: &mut [u64]) -> usize {
 
 // ---- what is read off a fit, and its cutoffs
 
-fn put_heights(out: &mut [u64], at: usize, answer: HeightsAnswer) -> usize {
+fn put_heights(out: &mut [u64], at: usize, answer: Result<Heights, Refusal>) -> usize {
     match answer {
-        HeightsAnswer::At(h) => {
+        Ok(h) => {
             let n = put(out, at, 0);
             put_floats(out, n, &[h.error, h.single, h.repeat])
         }
-        HeightsAnswer::Refused(n) => put_words(out, at, &[n as u64, 0, 0, 0]),
+        Err(refusal) => put_words(out, at, &[refused(refusal), 0, 0, 0]),
     }
 }
 
 // 0 stands for none.
-fn put_cutoff(out: &mut [u64], at: usize, answer: Cutoff) -> usize {
-    match answer {
-        Cutoff::At(c) => put_two(out, at, 0, c as u64),
-        Cutoff::Nothing => put_two(out, at, 0, 0),
-        Cutoff::Refused(n) => put_two(out, at, n as u64, 0),
-    }
+fn cutoff_word(part: Option<u16>) -> u64 {
+    u64::from(part.unwrap_or(0))
 }
 
-fn put_floor(out: &mut [u64], at: usize, answer: FloorAnswer) -> usize {
-    match answer {
-        FloorAnswer::At(c) => put_two(out, at, 0, c as u64),
-        FloorAnswer::Refused(n) => put_two(out, at, n as u64, 0),
-    }
+fn put_cutoff(out: &mut [u64], at: usize, answer: Result<Option<u16>, Refusal>) -> usize {
+    put_answer(out, at, answer, cutoff_word)
+}
+
+fn put_floor(out: &mut [u64], at: usize, answer: Result<u16, Refusal>) -> usize {
+    put_answer(out, at, answer, |cutoff| u64::from(cutoff))
 }
 
 // Number, whether the walk started, whether it is sure, and the cutoff.
-fn put_walked(out: &mut [u64], at: usize, sure: u64, part: CutoffPart) -> usize {
-    match part {
-        CutoffPart::Absent => put_words(out, at, &[0, 1, sure, 0]),
-        CutoffPart::Present(c) => put_words(out, at, &[0, 1, sure, c as u64]),
-    }
+fn put_walked(out: &mut [u64], at: usize, sure: u64, part: Option<u16>) -> usize {
+    put_words(out, at, &[0, 1, sure, cutoff_word(part)])
 }
 
-fn put_sure(out: &mut [u64], at: usize, answer: SureCutoff) -> usize {
+fn put_sure(out: &mut [u64], at: usize, answer: Result<SureCutoff, Refusal>) -> usize {
     match answer {
-        SureCutoff::Sure(part) => put_walked(out, at, 1, part),
-        SureCutoff::NotSure(part) => put_walked(out, at, 0, part),
-        SureCutoff::NoWalk => put_words(out, at, &[0, 0, 0, 0]),
-        SureCutoff::Refused(n) => put_words(out, at, &[n as u64, 0, 0, 0]),
+        Ok(SureCutoff::Sure(part)) => put_walked(out, at, 1, part),
+        Ok(SureCutoff::NotSure(part)) => put_walked(out, at, 0, part),
+        Ok(SureCutoff::NoWalk) => put_words(out, at, &[0, 0, 0, 0]),
+        Err(refusal) => put_words(out, at, &[refused(refusal), 0, 0, 0]),
     }
 }
 

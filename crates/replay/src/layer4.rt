@@ -4,6 +4,7 @@ use crate::parts::{error, genome};
 use crate::puts::*;
 use crate::slices::{bins, floats};
 use crate::words::*;
+use fitter::starts::start_tables_refusal;
 
 // ---- a spectrum
 
@@ -78,7 +79,10 @@ fn starts_lent<'a>(
 
 fn tables<'a>(row: &[u64], a: &'a [f64], b: &'a [f64], at: usize, out: &mut [u64]) -> usize {
     if word(row, 0) == 98 {
-        return put(out, at, fitter::starts::start_tables_refusal(a, b) as u64);
+        return match start_tables_refusal(a, b) {
+            Ok(()) => put(out, at, 0),
+            Err(refusal) => put(out, at, refused(refusal)),
+        };
     }
     starts_lent(row, a, b, at, out)
 }

@@ -17,7 +17,7 @@ mod words;
 use rows::Replay;
 use std::io;
 use std::io::Read;
-use streams::input::{Input, read_input};
+use streams::input::read_input;
 use words::MOST;
 
 // Bytes that are read at a time.
@@ -26,11 +26,8 @@ const MANY: usize = 65536;
 // One read, and each byte of it taken in turn; whether to go on.
 fn read_some<R: Read>(from: &mut R, words: &mut [u64], replay: Replay) -> io::Result<Replay> {
     let mut buffer = [0u8; MANY];
-    let input = read_input(from, &mut buffer);
-    match input {
-        Input::Bytes(n) => Ok(rows::take_all(words, replay, &buffer[..n])),
-        Input::Failed(e) => Err(e),
-    }
+    let n = read_input(from, &mut buffer)?;
+    Ok(rows::take_all(words, replay, &buffer[..n]))
 }
 
 // A proved loop has to end, and nothing says that the input does: so the turns are counted.

@@ -1,10 +1,10 @@
 // Families, shapes and shelves as words and back. The places are those of oracle/src/words.rs: what is absent is 0.
 use crate::words::*;
-use helpers::shelves::{Shelf, ShelfPart};
+use helpers::shelves::Shelf;
 use meaning::flags::byte_of;
-use models::errors::{ErrorParams, ShapePart};
+use models::errors::ErrorParams;
 use models::families::{ErrorModel, GenomeModel};
-use models::parts::{error_of, genome_of, shape_of, shelf_from};
+use models::parts::{shape_of, shelf_from};
 use routines::bits::pattern;
 
 // ---- read at a place
@@ -15,11 +15,11 @@ fn bit(word: u64) -> u8 {
 }
 
 pub(crate) fn error(row: &[u64], i: usize) -> ErrorModel {
-    error_of(bit(word(row, i)))
+    ErrorModel::from(bit(word(row, i)))
 }
 
 pub(crate) fn genome(row: &[u64], i: usize) -> GenomeModel {
-    genome_of(bit(word(row, i)))
+    GenomeModel::from(bit(word(row, i)))
 }
 
 // Share, alpha and beta.
@@ -33,7 +33,7 @@ pub(crate) fn shelf(row: &[u64], i: usize) -> Shelf {
 }
 
 // Its presence, and the shelf behind it.
-pub(crate) fn shelf_part(row: &[u64], i: usize) -> ShelfPart {
+pub(crate) fn shelf_part(row: &[u64], i: usize) -> Option<Shelf> {
     let w = from(row, i);
     shelf_from(bit(word(w, 0)), shelf(w, 1))
 }
@@ -51,17 +51,17 @@ pub(crate) fn errors(present: u64, row: &[u64], i: usize) -> ErrorParams {
 // ---- as words
 
 // The presence, and the shape.
-pub(crate) fn shape_words(s: ShapePart) -> [u64; 2] {
+pub(crate) fn shape_words(s: Option<f64>) -> [u64; 2] {
     match s {
-        ShapePart::Absent => [0, 0],
-        ShapePart::Present(x) => [1, pattern(x)],
+        None => [0, 0],
+        Some(x) => [1, pattern(x)],
     }
 }
 
 // The presence, and the shelf.
-pub(crate) fn shelf_words(p: ShelfPart) -> [u64; 4] {
+pub(crate) fn shelf_words(p: Option<Shelf>) -> [u64; 4] {
     match p {
-        ShelfPart::Absent => [0, 0, 0, 0],
-        ShelfPart::Present(s) => [1, pattern(s.share), pattern(s.alpha), pattern(s.beta)],
+        None => [0, 0, 0, 0],
+        Some(s) => [1, pattern(s.share), pattern(s.alpha), pattern(s.beta)],
     }
 }

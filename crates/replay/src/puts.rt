@@ -1,8 +1,5 @@
 // An answer's words, written one behind the other: each writer gives the place behind its last.
-use helpers::answers::{Count, Number};
-use meaning::answers::Written;
-use meaning::flags::byte_of;
-use meaning::wholes::wide;
+use meaning::refusals::Refusal;
 use routines::bits::pattern;
 
 // Where a word finds no room the answer has no end, and agrees with no row.
@@ -17,7 +14,7 @@ pub(crate) fn put(out: &mut [u64], at: usize, word: u64) -> usize {
 }
 
 pub(crate) fn put_flag(out: &mut [u64], at: usize, flag: bool) -> usize {
-    put(out, at, byte_of(flag) as u64)
+    put(out, at, u64::from(flag))
 }
 
 pub(crate) fn put_two(out: &mut [u64], at: usize, first: u64, second: u64) -> usize {
@@ -25,24 +22,23 @@ pub(crate) fn put_two(out: &mut [u64], at: usize, first: u64, second: u64) -> us
     put(out, next, second)
 }
 
-pub(crate) fn put_words(out: &mut [u64], at: usize, words: &[u64]) -> usize {
+// Each item as the word that it is.
+fn put_each<T: Copy, F: Fn(T) -> u64>(out: &mut [u64], at: usize, items: &[T], as_word: F) -> usize
+    requires { F.IsAlwaysCallable as_word }
+{
     let mut n = at;
-    let mut i = 0;
-    while i < words.len() {
-        n = put(out, n, words[i]);
-        i += 1;
+    for item in items {
+        n = put(out, n, as_word(*item));
     }
     n
 }
 
+pub(crate) fn put_words(out: &mut [u64], at: usize, words: &[u64]) -> usize {
+    put_each(out, at, words, |word| word)
+}
+
 pub(crate) fn put_bins(out: &mut [u64], at: usize, bins: &[u32]) -> usize {
-    let mut n = at;
-    let mut i = 0;
-    while i < bins.len() {
-        n = put(out, n, wide(bins[i]));
-        i += 1;
-    }
-    n
+    put_each(out, at, bins, |bin| u64::from(bin))
 }
 
 // ---- floats
@@ -56,40 +52,48 @@ pub(crate) fn put_pair(out: &mut [u64], at: usize, x: f64, y: f64) -> usize {
 }
 
 pub(crate) fn put_floats(out: &mut [u64], at: usize, floats: &[f64]) -> usize {
-    let mut n = at;
-    let mut i = 0;
-    while i < floats.len() {
-        n = put_float(out, n, floats[i]);
-        i += 1;
-    }
-    n
+    put_each(out, at, floats, pattern)
 }
 
 // ---- what may be refused: 0 and the answer, or the number and 0
 
-pub(crate) fn put_number(out: &mut [u64], at: usize, answer: Number) -> usize {
+pub(crate) fn refused(refusal: Refusal) -> u64 {
+    u64::from(u8::from(refusal))
+}
+
+pub(crate) fn put_answer<T, F: Fn(T) -> u64>(
+    out: &mut [u64],
+    at: usize,
+    answer: Result<T, Refusal>,
+    as_word: F,
+) -> usize
+    requires { F.IsAlwaysCallable as_word }
+{
     match answer {
-        Number::Value(x) => put_two(out, at, 0, pattern(x)),
-        Number::Refused(n) => put_two(out, at, n as u64, 0),
+        Ok(x) => put_two(out, at, 0, as_word(x)),
+        Err(refusal) => put_two(out, at, refused(refusal), 0),
     }
 }
 
-pub(crate) fn put_count(out: &mut [u64], at: usize, answer: Count) -> usize {
-    match answer {
-        Count::Whole(c) => put_two(out, at, 0, c),
-        Count::Refused(n) => put_two(out, at, n as u64, 0),
-    }
+pub(crate) fn put_number(out: &mut [u64], at: usize, answer: Result<f64, Refusal>) -> usize {
+    put_answer(out, at, answer, pattern)
 }
 
-pub(crate) fn put_written(out: &mut [u64], at: usize, answer: Written) -> usize {
-    match answer {
-        Written::Items(c) => put_two(out, at, 0, c as u64),
-        Written::Refused(n) => put_two(out, at, n as u64, 0),
-    }
+pub(crate) fn put_count(out: &mut [u64], at: usize, answer: Result<u64, Refusal>) -> usize {
+    put_answer(out, at, answer, |count| count)
+}
+
+pub(crate) fn put_written(out: &mut [u64], at: usize, answer: Result<usize, Refusal>) -> usize {
+    put_answer(out, at, answer, |count| count as u64)
 }
 
 // What stands in a lent slice comes behind the answer.
-pub(crate) fn put_lent(out: &mut [u64], at: usize, answer: Written, lent: &[f64]) -> usize {
+pub(crate) fn put_lent(
+    out: &mut [u64],
+    at: usize,
+    answer: Result<usize, Refusal>,
+    lent: &[f64],
+) -> usize {
     let n = put_written(out, at, answer);
     put_floats(out, n, lent)
 }

@@ -46,36 +46,27 @@ fn holds(row: &[u64]) -> bool {
 
 // The same of the words up to the one at `place`.
 fn holds_to(words: &[u64], place: usize) -> bool {
-    if place < words.len() {
-        return holds(first(words, place + 1));
-    }
-    false
+    place < words.len() && holds(first(words, place + 1))
 }
 
-// A hexadecimal digit's value, and 16 for any other byte.
-fn digit(b: u8) -> u64 {
-    if b >= b'0' && b <= b'9' {
-        return (b - b'0') as u64;
+// A hexadecimal digit's value. A row has no capitals.
+fn digit(b: u8) -> Option<u64> {
+    match b {
+        b'0'..=b'9' => Some(u64::from(b - b'0')),
+        b'a'..=b'f' => Some(u64::from(b - b'a') + 10),
+        _ => None,
     }
-    if b >= b'a' && b <= b'f' {
-        return (b - b'a') as u64 + 10;
-    }
-    16
-}
-
-// One more, up to the largest.
-fn next(n: u64) -> u64 {
-    if n < u64::MAX { n + 1 } else { n }
 }
 
 fn end_row(words: &[u64], r: Replay) -> Replay {
     if r.comment {
         return begin(r.rows, r.differences);
     }
-    if !holds_to(words, r.place) {
-        return begin(next(r.rows), next(r.differences));
-    }
-    begin(next(r.rows), r.differences)
+    let differs = !holds_to(words, r.place);
+    begin(
+        r.rows.saturating_add(1),
+        r.differences.saturating_add(u64::from(differs)),
+    )
 }
 
 fn start_word(words: &mut [u64], place: usize) {
@@ -93,15 +84,10 @@ fn end_word(words: &mut [u64], r: Replay) -> Replay {
     next
 }
 
-fn take_digit(words: &mut [u64], r: Replay, d: u64) -> Replay {
-    let mut next = r;
-    let place = r.place;
-    if d > 15 {
-        next.place = words.len();
-    } else if place < words.len() {
-        words[place] = words[place] % 0x1000_0000_0000_0000 * 16 + d;
+fn take_digit(words: &mut [u64], place: usize, d: u64) {
+    if place < words.len() {
+        words[place] = words[place] << 4 | d;
     }
-    next
 }
 
 fn take(words: &mut [u64], r: Replay, b: u8) -> Replay {
@@ -114,24 +100,29 @@ fn take(words: &mut [u64], r: Replay, b: u8) -> Replay {
         return r;
     }
     if b == b'#' {
-        let mut next = r;
-        next.comment = true;
-        return next;
+        return Replay { comment: true, ..r };
     }
     if b == b' ' {
         return end_word(words, r);
     }
-    take_digit(words, r, digit(b))
+    match digit(b) {
+        Some(d) => {
+            take_digit(words, r.place, d);
+            r
+        }
+        None => Replay {
+            place: words.len(),
+            ..r
+        },
+    }
 }
 
 // Each byte in turn. No byte at all is the end.
 pub(crate) fn take_all(words: &mut [u64], start: Replay, bytes: &[u8]) -> Replay {
     let mut r = start;
-    r.open = bytes.len() > 0;
-    let mut i = 0;
-    while i < bytes.len() {
-        r = take(words, r, bytes[i]);
-        i += 1;
+    r.open = !bytes.is_empty();
+    for b in bytes {
+        r = take(words, r, *b);
     }
     r
 }

@@ -1,28 +1,30 @@
 // Slices for a call that takes them. Each is the one whose length is word `at`, its entries at the front of `room`, or
 // as many of them as there is room for.
 use crate::words::*;
-use meaning::wholes::least;
+use templates::floats::float;
 
-pub(crate) fn floats<'a>(row: &[u64], at: usize, room: &'a mut [f64]) -> &'a mut [f64] {
+fn lent<'a, T: Copy, F: Fn(u64) -> T>(
+    row: &[u64],
+    at: usize,
+    room: &'a mut [T],
+    of_word: F,
+) -> &'a mut [T]
+    requires { F.IsAlwaysCallable of_word }
+{
     let words = entries(row, at);
-    let end = least(size(row, at), room.len());
-    let mut i = 0;
-    while i < end {
-        room[i] = number(words, i);
-        i += 1;
+    let end = size(row, at).min(room.len());
+    for (i, entry) in room[..end].iter_mut().enumerate() {
+        *entry = of_word(word(words, i));
     }
     &mut room[..end]
 }
 
+pub(crate) fn floats<'a>(row: &[u64], at: usize, room: &'a mut [f64]) -> &'a mut [f64] {
+    lent(row, at, room, float)
+}
+
 pub(crate) fn bins<'a>(row: &[u64], at: usize, room: &'a mut [u32]) -> &'a mut [u32] {
-    let words = entries(row, at);
-    let end = least(size(row, at), room.len());
-    let mut i = 0;
-    while i < end {
-        room[i] = bin(word(words, i));
-        i += 1;
-    }
-    &mut room[..end]
+    lent(row, at, room, bin)
 }
 
 // A word as a byte; 255 for one that is none.
@@ -31,23 +33,9 @@ fn byte(n: u64) -> u8 {
 }
 
 pub(crate) fn flags<'a>(row: &[u64], at: usize, room: &'a mut [u8]) -> &'a mut [u8] {
-    let words = entries(row, at);
-    let end = least(size(row, at), room.len());
-    let mut i = 0;
-    while i < end {
-        room[i] = byte(word(words, i));
-        i += 1;
-    }
-    &mut room[..end]
+    lent(row, at, room, byte)
 }
 
 pub(crate) fn places<'a>(row: &[u64], at: usize, room: &'a mut [usize]) -> &'a mut [usize] {
-    let words = entries(row, at);
-    let end = least(size(row, at), room.len());
-    let mut i = 0;
-    while i < end {
-        room[i] = size(words, i);
-        i += 1;
-    }
-    &mut room[..end]
+    lent(row, at, room, |n| n as usize)
 }

@@ -5,10 +5,9 @@ ghost use Rattle.std.specs.Float.{binary64};
 ghost use Rattle.std.specs.Float.Ieee.{of_bits};
 ghost use Rattle.replay.specs.Agree.{Same, Agree};
 
-use meaning::wholes::least;
 use templates::floats::float;
 
-// The most words that a row has.
+// The most words that a row has. What a call lends has room for as many: the project has no heap.
 pub(crate) const MOST: usize = 640;
 // The pattern of every NaN that is an answer, as oracle/src/words.rs has it.
 const NAN: u64 = 0x7ff8_0000_0000_0000;
@@ -16,7 +15,7 @@ const NAN: u64 = 0x7ff8_0000_0000_0000;
 pub(crate) fn word(row: &[u64], i: usize) -> u64
     ensures { result ≡ get_or row.now i 0 }
 {
-    if i < row.len() { row[i] } else { 0 }
+    row.get(i).copied().unwrap_or(0)
 }
 
 pub(crate) fn number(row: &[u64], i: usize) -> f64 {
@@ -34,13 +33,12 @@ pub(crate) fn bin(n: u64) -> u32 {
 
 // The words from number i on.
 pub(crate) fn from(row: &[u64], i: usize) -> &[u64] {
-    let start = least(i, row.len());
-    &row[start..]
+    &row[i.min(row.len())..]
 }
 
 // The first n words, or all where there are fewer.
 pub(crate) fn first(words: &[u64], n: usize) -> &[u64] {
-    if n < words.len() { &words[..n] } else { words }
+    &words[..n.min(words.len())]
 }
 
 // The entries of the slice whose length is word i, and what lies behind the length.
@@ -50,16 +48,14 @@ pub(crate) fn entries(row: &[u64], i: usize) -> &[u64] {
 
 // The place behind that slice; no row reaches further than the last.
 pub(crate) fn past(row: &[u64], i: usize) -> usize {
-    least(i, MOST) + 1 + least(size(row, i), MOST)
+    i.min(MOST) + 1 + size(row, i).min(MOST)
 }
 
 // Where the nth slice behind the one at `first` stands, or what follows the last.
 pub(crate) fn nth(row: &[u64], first: usize, n: usize) -> usize {
     let mut at = first;
-    let mut i = 0;
-    while i < n {
+    for _ in 0..n {
         at = past(row, at);
-        i += 1;
     }
     at
 }
@@ -84,12 +80,10 @@ pub(crate) fn agrees(ours: &[u64], end: usize, row: &[u64]) -> bool
     if end != row.len() {
         return false;
     }
-    let mut i = 0;
-    while i < end {
-        if !same(word(ours, i), row[i]) {
+    for (i, theirs) in row.iter().enumerate() {
+        if !same(word(ours, i), *theirs) {
             return false;
         }
-        i += 1;
     }
     true
 }

@@ -1,7 +1,6 @@
 -- What the functions' proofs and the crates above cite, on plain values.
 pub mod Tests
 pub mod Picks
-pub mod Saturates
 pub mod Sizes
 pub mod Ranges
 pub mod Exact

@@ -7,23 +7,14 @@ ghost use Rattle.std.specs.Float.{binary64};
 pub fn to_u64(x: f64) -> u64
     ensures { result ≡ Ieee.to_unsigned 64 x }
 {
-    if x > -1.0 {
-        if x < 18446744073709551616.0 {
-            std::num::truncating_f64_to_u64(x)
-        } else {
-            18446744073709551615
-        }
-    } else {
-        0
-    }
+    std::num::saturating_f64_to_u64(x)
 }
 
 // Rust's `x as u32`.
 pub fn to_u32(x: f64) -> u32
     ensures { result ≡ Ieee.to_unsigned 32 x }
 {
-    let n = to_u64(x);
-    if n < 4294967296 { n as u32 } else { 4294967295 }
+    std::num::saturating_f64_to_u32(x)
 }
 
 // Rust's `n as f64`: the nearest `f64`, the even one of two.

@@ -36,6 +36,7 @@ const C5: f64 = 0.008333365764865052;
 const C6: f64 = 0.0013888939342807632;
 
 // e^r - 1 - r for |r| at most about ln2/64.
+#[tactic(auto, unfolding(crate::specs::Exp::exp_tail))]
 pub fn tail(r: f64) -> f64
     ensures { result ≡ exp_tail r }
 {
@@ -45,6 +46,7 @@ pub fn tail(r: f64) -> f64
 
 // Steps 3 to 7: e^x from t. The power of two is put on in two parts, so that only the last product can underflow or
 // overflow. The row has T[i] and D[i], and 0x10_0000_0000_0000 is 2^52.
+#[tactic(auto, unfolding(crate::specs::Exp::scaled_up, crate::specs::Exp::reduced, crate::specs::Exp::scaled_by))]
 fn scaled_up(x: f64, t: f64) -> f64
     requires { T (not (is_nan t)) }
     ensures { result ≡ scaled_up x t }
@@ -62,6 +64,7 @@ fn scaled_up(x: f64, t: f64) -> f64
 
 // Step 8: v on the side of 1 where e^x lies, and never below 0. It changes no value (`step-8-changes-nothing`); it
 // makes the rule hold by its form.
+#[tactic(auto, unfolding(crate::specs::Exp::beside_one))]
 fn beside_one(x: f64, v: f64) -> f64
     ensures { result ≡ beside_one x v }
 {
@@ -73,19 +76,21 @@ fn beside_one(x: f64, v: f64) -> f64
 }
 
 // Step 2: x too far out for the table, or a NaN.
+#[tactic(auto, unfolding(crate::specs::Exp::out_of_range))]
 fn out_of_range(x: f64) -> f64
     ensures { result ≡ out_of_range x }
 {
     if x < 0.0 {
         0.0
     } else if x >= 0.0 {
-        1.0 / 0.0
+        f64::INFINITY
     } else {
         x
     }
 }
 
 // e^x.
+#[tactic(auto, unfolding(crate::specs::Exp::exp_of, crate::specs::Exp::tee))]
 pub fn exp(x: f64) -> f64
     ensures { result ≡ exp_of x }
 {

@@ -19,6 +19,7 @@ const MOST: f64 = 6755399441090240.0;
 
 // Steps 4 to 9: e^x - 1 from t. `big` and `small` are the power of two and its correction; less + g is big - 1, and s +
 // e is less + y, both exactly. The row has T[i] and D[i], and 0x10_0000_0000_0000 is 2^52.
+#[tactic(auto, unfolding(crate::specs::Expm1::less_one))]
 fn less_one(x: f64, t: f64) -> f64
     requires { T (not (is_nan t)) }
     ensures { result ≡ less_one x t }
@@ -43,6 +44,7 @@ fn less_one(x: f64, t: f64) -> f64
 
 // Step 10: below 0, v held to -1 .. 0; above 0, to 0 and above. No value was ever met that needs it; it makes the rule
 // hold by its form.
+#[tactic(auto, unfolding(crate::specs::Expm1::beside_minus_one))]
 fn beside_minus_one(x: f64, v: f64) -> f64
     ensures { result ≡ beside_minus_one x v }
 {
@@ -54,6 +56,7 @@ fn beside_minus_one(x: f64, v: f64) -> f64
 }
 
 // Step 3: x more than 55 octaves out, where 1 is lost in e^x or e^x in 1; or a NaN.
+#[tactic(auto, unfolding(crate::specs::Expm1::far_out))]
 fn far_out(x: f64) -> f64
     ensures { result ≡ far_out x }
 {
@@ -67,6 +70,7 @@ fn far_out(x: f64) -> f64
 }
 
 // e^x - 1.
+#[tactic(auto, unfolding(crate::specs::Expm1::expm1_of, crate::specs::Expm1::tee_m))]
 pub fn expm1(x: f64) -> f64
     ensures { result ≡ expm1_of x }
 {

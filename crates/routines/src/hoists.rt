@@ -5,6 +5,7 @@ ghost use Rattle.routines.specs.Hoists.{lgamma_with};
 use crate::lgamma::{lgamma, stirling};
 
 // ln |Gamma(x)| from x and, from 4 on, its logarithm.
+#[tactic(auto, unfolding(crate::specs::Hoists::lgamma_with))]
 pub fn lgamma_with(x: f64, log: f64) -> f64
     ensures { result ≡ lgamma_with x log }
 {

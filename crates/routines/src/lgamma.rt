@@ -30,6 +30,7 @@ const S6: f64 = 0.0027324238438044194;
 const STIRLING_CONSTANT: f64 = 0.4189385332046727;
 
 // ln Gamma(x) for x from 4 on, from x and its logarithm.
+#[tactic(auto, unfolding(crate::specs::Lgamma::stirling_with))]
 pub(crate) fn stirling(x: f64, log: f64) -> f64
     ensures { result ≡ stirling_with x log }
 {
@@ -41,6 +42,7 @@ pub(crate) fn stirling(x: f64, log: f64) -> f64
 }
 
 // ln Gamma(x) for x above 0; a NaN and +inf go through.
+#[tactic(auto, unfolding(crate::specs::Lgamma::above_zero, crate::specs::Lgamma::four_up))]
 fn above_zero(x: f64) -> f64
     ensures { result ≡ above_zero x }
 {
@@ -58,19 +60,21 @@ fn above_zero(x: f64) -> f64
 }
 
 // Steps 2 to 4: ln |Gamma(x)| for x at or below 0.
+#[tactic(auto, unfolding(crate::specs::Lgamma::below_zero, crate::specs::Lgamma::reflected))]
 fn below_zero(x: f64) -> f64
     ensures { result ≡ below_zero x }
 {
     let a = -x;
     let n = floor(a);
     if n == a {
-        return 1.0 / 0.0;
+        return f64::INFINITY;
     }
     let f = a - n;
     (above_zero(f) + above_zero(1.0 - f)) - above_zero(1.0 + a)
 }
 
 // ln |Gamma(x)|.
+#[tactic(auto, unfolding(crate::specs::Lgamma::lgamma_of))]
 pub fn lgamma(x: f64) -> f64
     ensures { result ≡ lgamma_of x }
 {

@@ -44,6 +44,7 @@ const B4: f64 = 0.16667155552646487;
 const B5: f64 = 0.14286322620881653;
 
 // The fourth power and up of ln(1 + r) for |r| below 1/200, from t = r * r.
+#[tactic(auto, unfolding(crate::specs::Ln::ln_tail))]
 fn tail(r: f64, t: f64) -> f64
     ensures { result ≡ ln_tail r t }
 {
@@ -53,6 +54,7 @@ fn tail(r: f64, t: f64) -> f64
 // Steps 3 to 8: ln w from a normal w and the offset that goes with it. The piece has C[i] and B[i], and the log H[i]
 // and L[i]; 0x10_0000_0000_0000 is 2^52, and 0x2000_0000_0000 is 2^45. The signs in the last step keep LLVM from
 // packing its terms in pairs, which is slower.
+#[tactic(auto, unfolding(crate::specs::Ln::ln_core))]
 fn core(w: f64, offset: u64) -> f64
     requires fact_1 { T (not (is_nan w)) }
     requires fact_2 { offset ≤ OFFSET }
@@ -74,6 +76,7 @@ fn core(w: f64, offset: u64) -> f64
 
 // Step 9: v where v * x is above it, so that v lies on the side of 0 where ln x lies, and otherwise +0. 1 is the
 // only x that was ever met that needs it; it makes the rule hold by its form.
+#[tactic(auto, unfolding(crate::specs::Ln::beside_zero))]
 fn beside_zero(x: f64, v: f64) -> f64
     ensures { result ≡ beside_zero x v }
 {
@@ -84,10 +87,15 @@ fn beside_zero(x: f64, v: f64) -> f64
 fn not_above_zero(x: f64) -> f64
     ensures { result ≡ not_above_zero x }
 {
-    if x == 0.0 { -1.0 / 0.0 } else { 0.0 / 0.0 }
+    if x == 0.0 {
+        f64::NEG_INFINITY
+    } else {
+        f64::NAN
+    }
 }
 
 // The natural logarithm of x.
+#[tactic(auto, unfolding(crate::specs::Ln::ln_of))]
 pub fn ln(x: f64) -> f64
     ensures { result ≡ ln_of x }
 {

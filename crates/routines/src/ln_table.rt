@@ -12,6 +12,7 @@ pub struct Piece(pub f64, pub f64);
 pub struct LogOfPiece(pub f64, pub f64);
 
 // Piece i, counted modulo 128.
+#[tactic(auto, unfolding(entries::specs::LnTable::ln_rows))]
 pub fn piece_at(i: u64) -> Piece
     ensures { piece_parts result ≡ piece_of (i % 128) }
 {
@@ -149,6 +150,7 @@ pub fn piece_at(i: u64) -> Piece
 }
 
 // The logarithm of piece i, counted modulo 128.
+#[tactic(auto, using(crate::proofs::Rows::negative), unfolding(entries::specs::LnTable::ln_rows))]
 pub fn log_at(i: u64) -> LogOfPiece
     ensures { log_parts result ≡ log_of (i % 128) }
 {

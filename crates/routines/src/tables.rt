@@ -12,6 +12,7 @@ pub struct Power {
 
 // Row i of the table, counted modulo 32. It is a `match` and no array: an array in a `const` is copied to the stack at
 // each call.
+#[tactic(auto, using(crate::proofs::Rows::negative), unfolding(entries::specs::ExpTable::rows))]
 pub fn power_at(i: u64) -> Power
     ensures { result ≡ power_of (i % 32) }
 {
@@ -187,7 +188,7 @@ const WEIBULL: [Start; 3] = [
     },
 ];
 
-// Row behind row, as a lent table has them.
+// Row behind row, as a lent table has them. Two functions: no const parameter says an array of 3 n numbers.
 pub fn pareto_starts() -> [f64; 6]
     ensures { result ≡ pareto_starts }
 {

@@ -14,7 +14,7 @@ use Rattle.routines.specs.Ops.{◌⊘◌, of_count}
 use Rattle.search.specs.Points.{moved, centroid_of}
 use Rattle.search.specs.Vertices.{Vertex, vertex_at, point_in, rows_in}
 use Rattle.search.specs.declared.points.Move.TheVariants.{Sum}
-use Rattle.search.proofs.RowLaws.{rows-length, point_at}
+use Rattle.search.proofs.RowLaws.{point_at}
 
 -- a turn of the loop
 abbrev pub added : List Vertex → ℕ → List Float → List Float
@@ -26,21 +26,14 @@ sum-ends f z n {i = i} s h =
     let u : 1 ≤ i = s.from in
     ends f z 1 (1 + (n - 1)) s (omega arith) ∙ fold-reach f 1 n z
 
-module _ (w : ℕ) (xs : List Float) (f : length xs ≡ w * w) where
-  pub first-lent : 0 < w → mid_of 1 (w - 1) xs ≡ point_in (vertex_at (rows_in w w xs) 0)
-  first-lent p =
-      let e : 1 ≡ 0 * w + 1 = omega arith in
-      ap (λ (k : ℕ). take (w - 1) (drop k xs)) e ∙ sym (point_at w w xs 0 p (omega arith) p)
+pub point-lent : (w : ℕ) (xs : List Float) → length xs ≡ w * w → (i : ℕ) → i < w → mid_of (i * w + 1) (i * w + 1 + (w - 1) - (i * w + 1)) xs ≡ point_in (vertex_at (rows_in w w xs) i)
+point-lent w xs f i h =
+    let e : i * w + 1 + (w - 1) - (i * w + 1) ≡ w - 1 = omega arith in
+    ap (λ (k : ℕ). take k (drop (i * w + 1) xs)) e ∙ sym (point_at w w xs i h (omega arith) (omega arith))
 
-  pub point-lent : (i : ℕ) → i < w → mid_of (i * w + 1) (i * w + 1 + (w - 1) - (i * w + 1)) xs ≡ point_in (vertex_at (rows_in w w xs) i)
-  point-lent i h =
-      let e : i * w + 1 + (w - 1) - (i * w + 1) ≡ w - 1 = omega arith in
-      ap (λ (k : ℕ). take k (drop (i * w + 1) xs)) e ∙ sym (point_at w w xs i h (omega arith) (omega arith))
-
-  pub centroid-is : (total : List Float) → total ≡ fold (added (rows_in w w xs)) 1 (w - 1) (point_in (vertex_at (rows_in w w xs) 0)) → map (λ (x : Float). x ⊘ of_count (w - 1)) total ≡ centroid_of (rows_in w w xs)
-  unfolding centroid_of
-  centroid-is total e =
-      let vs = rows_in w w xs in
-      ap (map (λ (x : Float). x ⊘ of_count (w - 1))) e
-      ∙ ap (λ (n : ℕ). map (λ (x : Float). x ⊘ of_count (n - 1)) (fold (added vs) 1 (n - 1) (point_in (vertex_at vs 0))))
-      (sym (rows-length w w xs))
+pub centroid-is : (vs : List Vertex) (w : ℕ) → length vs ≡ w → (total : List Float) → total ≡ fold (added vs) 1 (w - 1) (point_in (vertex_at vs 0)) → map (λ (x : Float). x ⊘ of_count (w - 1)) total ≡ centroid_of vs
+unfolding centroid_of
+centroid-is vs w long total e =
+    ap (map (λ (x : Float). x ⊘ of_count (w - 1))) e
+    ∙ ap (λ (n : ℕ). map (λ (x : Float). x ⊘ of_count (n - 1)) (fold (added vs) 1 (n - 1) (point_in (vertex_at vs 0))))
+    (sym long)

@@ -2,11 +2,11 @@
 -- Assumes nothing.
 use Prim.Native.Nat.{ℕ, zero, suc, ◌+◌, ◌-◌, ◌≤◌, ◌<◌, zero-le, suc-le-suc}
 use mathlib.Core.Path.{◌≡◌, refl, sym, ap, ◌∙◌}
-use mathlib.Core.List.{List, ◌++◌}
+use mathlib.Core.List.{List, ◌∷◌, ◌++◌}
 use mathlib.Core.Logic.{⊎_elim, ◌⊎◌, inl, inr}
 use native.Mathlib.Nat.{not-suc-le-zero, le_of_suc-le-suc}
 use native.Mathlib.Omega.{arith}
-use lib.ListN.{length, drop, get_or, get_or-append}
+use lib.ListN.{length, drop, replicate, get_or, get_or-append}
 use lib.Seq.{ext_get_or, get_or-append-add, get_or-drop}
 use Rattle.meaning.specs.Over.{over}
 use Rattle.meaning.proofs.Overs.{over-length}
@@ -72,3 +72,16 @@ done-front {A} f d found now j s =
 
     at : (i : ℕ) → i < length now → get_or now i d ≡ get_or (over front found) i d
     at i h = by i (split i j)
+
+-- a front that is filled with zeros
+zeros-are : (n : ℕ) → list_of {A = ℕ} (λ (i : ℕ). 0) n ≡ replicate n 0
+unfolding list_of
+zeros-are zero = refl
+zeros-are (suc n) = ap (λ (l : List ℕ). 0 ∷ l) (zeros-are n)
+
+pub zeros-over : (n : ℕ) (held front : List ℕ) → n ≤ length held → front ≡ replicate n 0
+    → front ++ drop n held ≡ over (list_of {A = ℕ} (λ (i : ℕ). 0) n) held
+unfolding over
+zeros-over n held front h e =
+    ap (λ (l : List ℕ). l ++ drop n held) (e ∙ sym (zeros-are n))
+    ∙ ap (λ (k : ℕ). list_of {A = ℕ} (λ (i : ℕ). 0) n ++ drop k held) (sym (list_length {A = ℕ} (λ (i : ℕ). 0) n))

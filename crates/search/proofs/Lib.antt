@@ -4,6 +4,7 @@ pub mod Fronts
 pub mod Moved
 pub mod RowLaws
 pub mod RowParts
+pub mod SameSimplex
 pub mod Blocks
 pub mod Centroids
 -- ---- the order
@@ -14,6 +15,7 @@ pub mod Costs
 -- ---- the iteration
 pub mod Widths
 pub mod Stands
+pub mod PricesKept
 pub mod Stepped
 pub mod Shrinks
 pub mod FirstRows
@@ -35,6 +37,7 @@ pub mod Begun
 pub mod Slices
 -- ---- the report
 pub mod Reported
+pub mod LentBack
 pub mod ShortOnes
 pub mod ReportSaid
 pub mod BestLists

@@ -1,17 +1,13 @@
--- What a run has come to: the loop that looks for the cheapest row, where that row lies, and the tests of a stopped run
--- and of one that came to its cap. Assumes nothing.
+-- What a run has come to: the loop that looks for the cheapest row, and where that row lies. Assumes nothing.
 use Prim.Native.Nat.{ℕ, ◌+◌, ◌*◌, ◌≤◌, ◌<◌}
-use mathlib.Core.Path.{◌≡◌, refl, sym, ap, ◌∙◌}
-use mathlib.Core.Bool.{Bool, true, false, not, cond, ◌&&◌, true≢false}
+use mathlib.Core.Path.{◌≡◌, sym, ap, ◌∙◌}
+use mathlib.Core.Bool.{Bool, true, false, cond}
 use mathlib.Core.List.{List}
 use native.Mathlib.Omega.{arith}
-use lib.Dec.{leb}
 use lib.Ieee.{Float, nan, lt}
-use lib.Ieee.Scale.{finite}
 use lib.ListN.{length, get_or}
 use Rattle.meaning.specs.Fold.{fold}
 use Rattle.meaning.proofs.Folds.{fold-keeps}
-use Rattle.routines.specs.Constants as float
 use Rattle.search.specs.Reporting.{least_place, converged_at, capped_at, found_of}
 use Rattle.search.specs.Vertices.{Vertex, vertex_at, cost_in, rows_in}
 use Rattle.search.specs.declared.reporting.Found.{Found}
@@ -51,40 +47,6 @@ module _ (w : ℕ) (xs : List Float) where
         ap (λ (t : Bool). cond t i least) (sym e)
         ∙ ap (λ (x : Float). cond (lt x (get_or xs (least * w) nan)) i least) (sym (cost-in w xs fits i h))
         ∙ ap (λ (x : Float). cond (lt (cost_in (vertex_at (rows_in w w xs) i)) x) i least) (sym (cost-in w xs fits least k))
-
--- ---- the tests
-module _ (cost : Float) where
-  pub not_stopped : (stopped : Bool) → not stopped ≡ true → false ≡ converged_at stopped cost
-  unfolding converged_at
-  not_stopped true e = absurd (true≢false (sym e))
-  not_stopped false e = refl
-
-  pub not_finite : (stopped : Bool) → not (finite cost) ≡ true → false ≡ converged_at stopped cost
-  unfolding converged_at
-  not_finite false e = refl
-  not_finite true e = by (finite cost) e
-    where
-      by : (b : Bool) → not b ≡ true → false ≡ b && lt float.zero cost
-      by true e = absurd (true≢false (sym e))
-      by false e = refl
-
-  pub stopped-well : (stopped : Bool) → not stopped ≡ false → not (finite cost) ≡ false → lt float.zero cost ≡ converged_at stopped cost
-  unfolding converged_at
-  stopped-well false e f = absurd (true≢false e)
-  stopped-well true e f = by (finite cost) f
-    where
-      by : (b : Bool) → not b ≡ false → lt float.zero cost ≡ b && lt float.zero cost
-      by true e = refl
-      by false e = absurd (true≢false e)
-
-module _ (cap iterations : ℕ) where
-  pub stopped-first : (stopped : Bool) → stopped ≡ true → false ≡ capped_at cap iterations stopped
-  unfolding capped_at
-  stopped-first stopped e = rw e
-
-  pub runs_on : (stopped : Bool) → stopped ≡ false → leb cap iterations ≡ capped_at cap iterations stopped
-  unfolding capped_at
-  runs_on stopped e = rw e
 
 -- ---- out of what stands in the slice: k is the cheapest row
 module _ (w cap : ℕ) (xs : List Float) (fits : length xs ≡ w * w) (some : 0 < w) (from iterations : ℕ) (stopped : Bool) (k : ℕ)

@@ -1,5 +1,6 @@
 pub mod Lists
 pub mod Vertices
+pub mod Simplex
 pub mod Order
 pub mod Ordered
 pub mod Points
@@ -8,9 +9,11 @@ pub mod Rule
 pub mod Firsts
 pub mod Turns
 pub mod Prices
+pub mod Priced
 pub mod Progress
 pub mod Claims
 pub mod Refusing
 pub mod Reporting
+pub mod Tables
 pub mod Searches
 pub mod Beginning

@@ -1,64 +1,52 @@
 // The runs of many starts, as they begin, in the lent slices that `run_searches` goes on with.
 ghost use Rattle.std.specs.Prelude.{◌≡◌, ◌*◌, ◌-◌, ◌<◌, ◌≤◌, length, drop};
-ghost use Rattle.meaning.specs.Answers.{written_says};
 ghost use Rattle.meaning.specs.Lent.{on_give};
 ghost use Rattle.meaning.specs.Rows.{most};
 ghost use Rattle.search.specs.Beginning.{simplexes_begun, iterations_begun, stopped_begun, begin_searches_of, size_of};
 ghost use Rattle.search.specs.Beginning.{runs_in};
-ghost use Rattle.search.specs.Prices.{ready_price_of, price_of, stands_from};
+ghost use Rattle.search.specs.Priced.{price_in, IsKept};
+ghost use Rattle.search.specs.Prices.{price_of};
 ghost use Rattle.search.specs.Searches.{lent_of, stood_from, ready_after};
+ghost use Rattle.meaning.specs.Answers.{reply_of};
 
 use crate::firsts::first_simplex;
-use crate::prices::width;
+use crate::prices::{Prices, width};
 use crate::refusing::{Lent, search_refusal};
-use meaning::answers::Written;
+use meaning::refusals::Refusal;
 use models::prepared::prepare_window;
 use models::problems::Problem;
 
 // Each run begins at its start.
 fn begin_all(
-    bins: &[u32],
-    problem: Problem,
+    prices: &mut Prices<'_>,
     w: usize,
     runs: usize,
     starts: &[f64],
     simplexes: &mut [f64],
     iterations: &mut [u64],
     stopped: &mut [u8],
-    ready: &[f64],
-    table: &mut [f64],
 )
     requires { (1 < w) × (w ≤ 12) × (runs ≤ most) × (runs * (w - 1) ≤ length starts.now)
         × (runs * (w * w) ≤ length simplexes.old) × (runs ≤ length iterations.old)
         × (runs ≤ length stopped.old) }
     ensures simplexes_after { simplexes.new
-        ≡ simplexes_begun (ready_price_of bins.now problem ready.now (length table.old))
+        ≡ simplexes_begun (price_in prices.old)
         (w - 1) starts.now runs simplexes.old }
     ensures iterations_after { iterations.new ≡ iterations_begun runs iterations.old }
     ensures stopped_after { stopped.new ≡ stopped_begun runs stopped.old }
-    ensures table_unchanged { drop (stands_from problem) table.new ≡ drop (stands_from problem) table.old }
+    ensures kept { IsKept prices.old prices.new }
 {
     let d = w - 1;
     let size = w * w;
-    let mut i: usize = 0;
-    while i < runs {
+    for i in 0..runs {
         let begin = i * d;
         let end = begin + d;
         let from = i * size;
         let to = from + size;
-        first_simplex(
-            bins,
-            problem,
-            w,
-            &starts[begin..end],
-            &mut simplexes[from..to],
-            ready,
-            table,
-        );
-        iterations[i] = 0;
-        stopped[i] = 0;
-        i += 1;
+        first_simplex(prices, w, &starts[begin..end], &mut simplexes[from..to]);
     }
+    iterations[..runs].fill(0);
+    stopped[..runs].fill(0);
 }
 
 // One run for each start, a list of numbers one behind the other, and the answer is how many runs there are; 1, 2, 4,
@@ -73,8 +61,8 @@ pub fn begin_searches(
     stopped: &mut [u8],
     ready: &mut [f64],
     table: &mut [f64],
-) -> Written
-    ensures result_value { written_says result
+) -> Result<usize, Refusal>
+    ensures result_value { reply_of result
         ≡ begin_searches_of bins.now problem starts.now (lent_of simplexes.old
         iterations.old stopped.old ready.old table.old) }
     ensures simplexes_after { simplexes.new
@@ -112,13 +100,14 @@ pub fn begin_searches(
     let d = w - 1;
     let runs = starts.len() / d;
     let wrong = starts.len() % d != 0;
-    let refused = search_refusal(bins, problem, runs, wrong, lent);
-    if refused != 0 {
-        return Written::Refused(refused);
-    }
-    prepare_window(problem.window_end, ready);
-    begin_all(
-        bins, problem, w, runs, starts, simplexes, iterations, stopped, ready, table,
-    );
-    Written::Items(runs)
+    search_refusal(bins, problem, runs, wrong, lent)?;
+    prepare_window(problem.window_end, ready)?;
+    let mut prices = Prices {
+        bins,
+        problem,
+        ready,
+        table,
+    };
+    begin_all(&mut prices, w, runs, starts, simplexes, iterations, stopped);
+    Ok(runs)
 }

@@ -1,36 +1,34 @@
-// The rows in the order of their costs, the earlier first on ties.
-ghost use Rattle.std.specs.Prelude.{◌≡◌, ◌++◌, suc, ◌*◌, ◌<◌, ◌≤◌, length, take, drop};
+// The vertices in the order of their costs, the earlier first on ties.
+ghost use Rattle.std.specs.Prelude.{◌≡◌, ◌++◌, suc, ◌<◌, take, drop};
 ghost use Rattle.search.specs.Order.{insert, ordered};
-ghost use Rattle.search.specs.Vertices.{rows_in, vertex_at};
+ghost use Rattle.search.specs.Simplex.{vertices_in, IsSame};
+ghost use Rattle.search.specs.Vertices.{vertex_at};
 
-use crate::rows::swap_next;
+use crate::rows::Simplex;
 
-// A row goes behind those after it that cost less, which are in order.
-fn sink(rows: &mut [f64], w: usize, i: usize)
-    requires { (length rows.old ≡ w * w) × (w ≤ 12) × (i < w) }
-    ensures { rows_in w w rows.new
-        ≡ take i (rows_in w w rows.old) ++ insert (vertex_at (rows_in w w rows.old) i)
-        (drop (suc i) (rows_in w w rows.old)) }
+// A vertex goes behind those after it that cost less, which are in order.
+fn sink(simplex: &mut Simplex<'_>, i: usize)
+    requires { i < simplex.old.w }
+    ensures vertices_after { vertices_in simplex.new
+        ≡ take i (vertices_in simplex.old) ++ insert (vertex_at (vertices_in simplex.old) i)
+        (drop (suc i) (vertices_in simplex.old)) }
+    ensures same { IsSame simplex.old simplex.new }
 {
-    let mut k = i;
-    while k + 1 < w {
-        let this = k * w;
-        let next = this + w;
-        if !(rows[next] < rows[this]) {
+    let last = simplex.w - 1;
+    for k in i..last {
+        if !(simplex.cost(k + 1) < simplex.cost(k)) {
             return;
         }
-        swap_next(rows, w, k);
-        k += 1;
+        simplex.swap_next(k);
     }
 }
 
-pub(crate) fn order(rows: &mut [f64], w: usize)
-    requires { (length rows.old ≡ w * w) × (w ≤ 12) }
-    ensures { rows_in w w rows.new ≡ ordered (rows_in w w rows.old) }
+pub(crate) fn order(simplex: &mut Simplex<'_>)
+    ensures vertices_after { vertices_in simplex.new ≡ ordered (vertices_in simplex.old) }
+    ensures same { IsSame simplex.old simplex.new }
 {
-    let mut i = w;
-    while i > 0 {
-        i -= 1;
-        sink(rows, w, i);
+    let w = simplex.w;
+    for i in (0..w).rev() {
+        sink(simplex, i);
     }
 }

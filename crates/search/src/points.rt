@@ -1,10 +1,13 @@
 // Points, coordinate by coordinate.
-ghost use Rattle.std.specs.Prelude.{◌≡◌, map, ◌+◌, ◌*◌, ◌<◌, length, Float};
+ghost use Rattle.std.specs.Prelude.{◌≡◌, map, ◌+◌, length, Float};
 ghost use Rattle.routines.specs.Ops.{◌⊘◌};
 ghost use Rattle.search.specs.Points.{moved_of, moved, centroid_of};
-ghost use Rattle.search.specs.Vertices.{rows_in};
+ghost use Rattle.search.specs.Simplex.{vertices_in};
+
+use crate::rows::Simplex;
 
 // What is made of a coordinate with the same one of another point.
+// An enum and no closure: the definition of an iteration names each move (`moved`, specs/Points.antt).
 #[derive(Clone, Copy)]
 pub enum Move {
     Sum,
@@ -28,47 +31,28 @@ pub(crate) fn move_point(point: &mut [f64], other: &[f64], how: Move)
     requires { length point.old ≡ length other.now }
     ensures { point.new ≡ moved how point.old other.now }
 {
-    let mut j: usize = 0;
-    while j < point.len() {
-        point[j] = moved_by(how, point[j], other[j]);
-        j += 1;
-    }
-}
-
-pub(crate) fn copy(to: &mut [f64], from: &[f64])
-    requires { length to.old ≡ length from.now }
-    ensures { to.new ≡ from.now }
-{
-    let mut j: usize = 0;
-    while j < to.len() {
-        to[j] = from[j];
-        j += 1;
+    for (j, x) in point.iter_mut().enumerate() {
+        *x = moved_by(how, *x, other[j]);
     }
 }
 
 fn divide(point: &mut [f64], by: f64)
     ensures { point.new ≡ map (λ (x : Float). x ⊘ by) point.old }
 {
-    let mut j: usize = 0;
-    while j < point.len() {
-        point[j] = point[j] / by;
-        j += 1;
+    for x in point.iter_mut() {
+        *x = *x / by;
     }
 }
 
-// The centroid of all rows but the last. There are as many rows as numbers in one.
-pub(crate) fn centroid(rows: &[f64], w: usize, point: &mut [f64])
-    requires { (length rows.now ≡ w * w) × (length point.old + 1 ≡ w) }
-    ensures { point.new ≡ centroid_of (rows_in w w rows.now) }
+// The centroid of all vertices but the last.
+pub(crate) fn centroid(simplex: &Simplex<'_>, point: &mut [f64])
+    requires { length point.old + 1 ≡ simplex.now.w }
+    ensures { point.new ≡ centroid_of (vertices_in simplex.now) }
 {
-    copy(point, &rows[1..w]);
-    let n = w - 1;
-    let mut i: usize = 1;
-    while i < n {
-        let from = i * w + 1;
-        let to = from + n;
-        move_point(point, &rows[from..to], Move::Sum);
-        i += 1;
+    point.copy_from_slice(simplex.point(0));
+    let n = simplex.w - 1;
+    for i in 1..n {
+        move_point(point, simplex.point(i), Move::Sum);
     }
     divide(point, n as f64);
 }

@@ -1,48 +1,42 @@
 // The cost of a list, as the search asks for it.
-ghost use Rattle.std.specs.Prelude.{◌≡◌, length, drop};
-ghost use Rattle.helpers.specs.Answers.{number_says};
-ghost use Rattle.search.specs.Prices.{price_said, ready_price_of, cap_of, width_of, stands_from};
+ghost use Rattle.std.specs.Prelude.{◌≡◌};
+ghost use Rattle.search.specs.Priced.{price_in, IsKept};
+ghost use Rattle.search.specs.Prices.{cap_of, width_of};
 
-use helpers::answers::Number;
 use models::costs::cost_prepared;
 use models::families::{ErrorModel, GenomeModel, list_length};
 use models::problems::Problem;
 
-fn price_said(answer: Number) -> f64
-    ensures { result ≡ price_said (number_says answer) }
-{
-    match answer {
-        Number::Value(cost) => cost,
-        Number::Refused(_) => 1.0 / 0.0,
-    }
+// What costs are worked out of: the spectrum, the problem, the slice of ln n and lgamma(n + 1), and the shelf's table.
+#[derive(Drop)]
+pub(crate) struct Prices<'a> {
+    pub(crate) bins: &'a [u32],
+    pub(crate) problem: Problem,
+    pub(crate) ready: &'a [f64],
+    pub(crate) table: &'a mut [f64],
 }
 
-pub(crate) fn price(
-    bins: &[u32],
-    problem: Problem,
-    list: &[f64],
-    ready: &[f64],
-    table: &mut [f64],
-) -> f64
-    ensures value { result
-        ≡ ready_price_of bins.now problem ready.now (length table.old)
-        list.now }
-    ensures table_unchanged { drop (stands_from problem) table.new ≡ drop (stands_from problem) table.old }
-{
-    let error = problem.error;
-    let genome = problem.genome;
-    let answer = cost_prepared(
-        bins,
-        problem.scale,
-        problem.window_end,
-        problem.peak,
-        error,
-        genome,
-        list,
-        ready,
-        table,
-    );
-    price_said(answer)
+impl Prices<'_> {
+    pub(crate) fn price(&mut self, list: &[f64]) -> f64
+        ensures value { result ≡ price_in self.old list.now }
+        ensures kept { IsKept self.old self.new }
+    {
+        let problem = self.problem;
+        // A `let`, since the proof covers no second loan of the table within the call.
+        let table = &mut *self.table;
+        cost_prepared(
+            self.bins,
+            problem.scale,
+            problem.window_end,
+            problem.peak,
+            problem.error,
+            problem.genome,
+            list,
+            self.ready,
+            table,
+        )
+        .unwrap_or(f64::INFINITY)
+    }
 }
 
 // The most iterations of a run.

@@ -1,12 +1,13 @@
 // What the calls of the search refuse, lowest number first.
 ghost use Rattle.std.specs.Prelude.{◌≡◌, ◌≤◌};
+ghost use Rattle.meaning.specs.Answers.{number_in};
 ghost use Rattle.meaning.specs.Reply.{first_of};
 ghost use Rattle.meaning.specs.Rows.{most};
 ghost use Rattle.search.specs.Refusing.{short_runs, search_tests};
 
 use crate::prices::width;
 use meaning::limits::MOST;
-use meaning::refusals::{TOO_LARGE, TOO_SHORT, TOO_SMALL, WRONG_LENGTH};
+use meaning::refusals::Refusal;
 use models::problems::Problem;
 use models::refusals::{spectrum_refusal, table_refusal};
 
@@ -20,56 +21,50 @@ pub(crate) struct Lent {
     pub table: usize,
 }
 
-// 10 where a slice that every run has a part in is too short, and 0 for none.
+// 10 where a slice that every run has a part in is too short, or none.
 #[tactic(auto, unfolding(crate::specs::Refusing::short_runs))]
-fn runs_refusal(problem: Problem, runs: usize, lent: Lent) -> u8
+fn runs_refusal(problem: Problem, runs: usize, lent: Lent) -> Result<(), Refusal>
     requires { runs ≤ most }
-    ensures { result ≡ first_of (short_runs problem runs lent) }
+    ensures { number_in result ≡ first_of (short_runs problem runs lent) }
 {
     let w = width(problem);
     if lent.simplexes < runs * (w * w) {
-        return TOO_SHORT;
+        return Err(Refusal::TooShort);
     }
     if lent.iterations < runs {
-        return TOO_SHORT;
+        return Err(Refusal::TooShort);
     }
     if lent.stopped < runs {
-        return TOO_SHORT;
+        return Err(Refusal::TooShort);
     }
-    0
+    Ok(())
 }
 
-// The first number of 1, 2, 4, 5, 6, 7, 10 that applies, and 0 for none.
-#[tactic(auto, unfolding(crate::specs::Refusing::search_tests, models::specs::Refusals::bins_tests, models::specs::Refusals::spectrum_tests))]
+// The first number of 1, 2, 4, 5, 6, 7, 10 that applies, or none.
+#[tactic(auto, unfolding(crate::specs::Refusing::search_tests))]
 pub(crate) fn search_refusal(
     bins: &[u32],
     problem: Problem,
     runs: usize,
     wrong: bool,
     lent: Lent,
-) -> u8
-    ensures { result ≡ first_of (search_tests bins.now problem runs wrong lent) }
+) -> Result<(), Refusal>
+    ensures { number_in result ≡ first_of (search_tests bins.now problem runs wrong lent) }
 {
     let genome = problem.genome;
     if problem.peak < 2 || bins.len() < 2 {
-        return TOO_SMALL;
+        return Err(Refusal::TooSmall);
     }
     if bins.len() > MOST || problem.peak > MOST || problem.window_end > MOST || runs > MOST {
-        return TOO_LARGE;
+        return Err(Refusal::TooLarge);
     }
-    let spectrum = spectrum_refusal(bins, problem.scale, problem.window_end);
-    if spectrum != 0 {
-        return spectrum;
-    }
+    spectrum_refusal(bins, problem.scale, problem.window_end)?;
     if wrong {
-        return WRONG_LENGTH;
+        return Err(Refusal::WrongLength);
     }
-    let table = table_refusal(genome, problem.window_end, lent.table);
-    if table != 0 {
-        return table;
-    }
+    table_refusal(genome, problem.window_end, lent.table)?;
     if lent.ready < 2 * (problem.window_end + 2) {
-        return TOO_SHORT;
+        return Err(Refusal::TooShort);
     }
     runs_refusal(problem, runs, lent)
 }

@@ -1,7 +1,6 @@
 // The runs of a search as a run table: five of the columns that `fitter::attempting::attempt_from_numbers` takes. The
 // sixth is the search's own `iterations`, and `simplexes` are the `lists` that the places speak of.
 ghost use Rattle.std.specs.Prelude.{◌≡◌, ℕ, ◌-◌, ◌*◌, ◌<◌, ◌≤◌, length};
-ghost use Rattle.meaning.specs.Answers.{written_says};
 ghost use Rattle.meaning.specs.Flags.{byte_of};
 ghost use Rattle.meaning.specs.Lent.{on_give};
 ghost use Rattle.meaning.specs.Over.{over};
@@ -9,25 +8,45 @@ ghost use Rattle.meaning.specs.Reply.{first_of};
 ghost use Rattle.meaning.specs.Rows.{most};
 ghost use Rattle.models.specs.Families.{list_length_of};
 ghost use Rattle.search.specs.Lists.{list_of};
-ghost use Rattle.search.specs.Reporting.{least_place, converged_at, capped_at, found_of, found_at, reported_at};
+ghost use Rattle.search.specs.Reporting.{least_place, converged_at, capped_at, found_of, reported_at};
 ghost use Rattle.search.specs.Reporting.{report_tests, columns_of, report_of};
+ghost use Rattle.search.specs.Tables.{found_in, IsLent};
 ghost use Rattle.search.specs.Vertices.{rows_in};
+ghost use Rattle.meaning.specs.Answers.{reply_of, number_in};
 
 use crate::prices::iteration_cap;
-use meaning::answers::Written;
 use meaning::flags::{byte_of, is_set};
 use meaning::limits::MOST;
-use meaning::refusals::{TOO_LARGE, TOO_SHORT};
+use meaning::refusals::Refusal;
 use models::families::{ErrorModel, GenomeModel, list_length};
 use routines::pick::is_finite;
 
-// What a run has come to: its best cost, and where the list with that cost lies.
+// What a run has come to: its best cost, and where the list with that cost lies; the flags as the columns have them,
+// which are C's.
 #[derive(Clone, Copy)]
 pub struct Found {
     pub converged: bool,
     pub cost: f64,
     pub place: usize,
     pub hit_cap: bool,
+}
+
+// What stands of many runs, one behind the other.
+#[derive(Drop)]
+struct Stored<'a> {
+    simplexes: &'a [f64],
+    iterations: &'a [u64],
+    stopped: &'a [u8],
+}
+
+// The columns that are written.
+#[derive(Drop)]
+struct Table<'a> {
+    converged: &'a mut [u8],
+    costs: &'a mut [f64],
+    places: &'a mut [usize],
+    lengths: &'a mut [usize],
+    caps: &'a mut [u8],
 }
 
 // The lengths of what is lent.
@@ -43,41 +62,32 @@ pub struct Columns {
     pub caps: usize,
 }
 
-// The row that costs least, the earlier on ties.
+// The row that costs least, the earlier on ties. The rows are lent for reading alone, and so are no `Simplex`.
 fn least_row(rows: &[f64], w: usize) -> usize
     requires { (length rows.now ≡ w * w) × (0 < w) }
     ensures { result ≡ least_place (rows_in w w rows.now) }
 {
     let mut least: usize = 0;
-    let mut i: usize = 1;
-    while i < w {
+    for i in 1..w {
         if rows[i * w] < rows[least * w] {
             least = i;
         }
-        i += 1;
     }
     least
 }
 
+#[tactic(auto, unfolding(crate::specs::Reporting::converged_at))]
 fn has_converged(stopped: bool, cost: f64) -> bool
     ensures { result ≡ converged_at stopped cost }
 {
-    if !stopped {
-        return false;
-    }
-    if !is_finite(cost) {
-        return false;
-    }
-    0.0 < cost
+    stopped && is_finite(cost) && 0.0 < cost
 }
 
+#[tactic(auto, unfolding(crate::specs::Reporting::capped_at))]
 fn is_capped(cap: u64, iterations: u64, stopped: bool) -> bool
     ensures { result ≡ capped_at cap iterations stopped }
 {
-    if stopped {
-        return false;
-    }
-    cap <= iterations
+    !stopped && cap <= iterations
 }
 
 // Out of a run's rows, which begin at a place of the slice.
@@ -95,82 +105,65 @@ fn find(w: usize, cap: u64, rows: &[f64], from: usize, iterations: u64, stopped:
     }
 }
 
-fn write_found(
-    w: usize,
-    cap: u64,
-    runs: usize,
-    simplexes: &[f64],
-    iterations: &[u64],
-    stopped: &[u8],
-    converged: &mut [u8],
-    costs: &mut [f64],
-    places: &mut [usize],
-    lengths: &mut [usize],
-    caps: &mut [u8],
-)
+fn write_found(w: usize, cap: u64, runs: usize, stored: &Stored<'_>, table: &mut Table<'_>)
     requires w_nonzero { (0 < w) × (w ≤ 12) × (runs ≤ most) }
-    requires w_in_bounds { (runs * (w * w) ≤ length simplexes.now) × (runs ≤ length iterations.now)
-        × (runs ≤ length stopped.now) }
-    requires runs_in_bounds { (runs ≤ length converged.old) × (runs ≤ length costs.old) × (runs ≤ length places.old)
-        × (runs ≤ length lengths.old) × (runs ≤ length caps.old) }
-    ensures converged_after { converged.new
-        ≡ over (list_of (λ (i : ℕ). byte_of
-        (found_at w cap runs simplexes.now iterations.now stopped.now i).converged)
-        runs) converged.old }
-    ensures costs_after { costs.new
-        ≡ over (list_of (λ (i : ℕ). (found_at w cap runs simplexes.now iterations.now
-        stopped.now i).cost) runs) costs.old }
-    ensures places_after { places.new
-        ≡ over (list_of (λ (i : ℕ). (found_at w cap runs simplexes.now iterations.now
-        stopped.now i).place) runs) places.old }
-    ensures lengths_after { lengths.new ≡ over (list_of (λ (i : ℕ). w - 1) runs) lengths.old }
-    ensures caps_after { caps.new
-        ≡ over (list_of (λ (i : ℕ). byte_of
-        (found_at w cap runs simplexes.now iterations.now stopped.now i).hit_cap)
-        runs) caps.old }
+    requires w_in_bounds { (runs * (w * w) ≤ length stored.now.simplexes.now)
+        × (runs ≤ length stored.now.iterations.now) × (runs ≤ length stored.now.stopped.now) }
+    requires runs_in_bounds { (runs ≤ length table.old.converged.now) × (runs ≤ length table.old.costs.now)
+        × (runs ≤ length table.old.places.now) × (runs ≤ length table.old.lengths.now)
+        × (runs ≤ length table.old.caps.now) }
+    ensures converged_after { table.new.converged.now
+        ≡ over (list_of (λ (i : ℕ). byte_of (found_in w cap runs stored.now i).converged) runs)
+        table.old.converged.now }
+    ensures costs_after { table.new.costs.now
+        ≡ over (list_of (λ (i : ℕ). (found_in w cap runs stored.now i).cost) runs) table.old.costs.now }
+    ensures places_after { table.new.places.now
+        ≡ over (list_of (λ (i : ℕ). (found_in w cap runs stored.now i).place) runs) table.old.places.now }
+    ensures lengths_after { table.new.lengths.now ≡ over (list_of (λ (i : ℕ). w - 1) runs) table.old.lengths.now }
+    ensures caps_after { table.new.caps.now
+        ≡ over (list_of (λ (i : ℕ). byte_of (found_in w cap runs stored.now i).hit_cap) runs) table.old.caps.now }
+    ensures lent { IsLent table.old table.new }
 {
     let square = w * w;
     let length = w - 1;
-    let mut i: usize = 0;
-    while i < runs {
+    for i in 0..runs {
         let from = i * square;
         let to = from + square;
         let found = find(
             w,
             cap,
-            &simplexes[from..to],
+            &stored.simplexes[from..to],
             from,
-            iterations[i],
-            is_set(stopped[i]),
+            stored.iterations[i],
+            is_set(stored.stopped[i]),
         );
-        converged[i] = byte_of(found.converged);
-        costs[i] = found.cost;
-        places[i] = found.place;
-        lengths[i] = length;
-        caps[i] = byte_of(found.hit_cap);
-        i += 1;
+        table.converged[i] = byte_of(found.converged);
+        table.costs[i] = found.cost;
+        table.places[i] = found.place;
+        table.lengths[i] = length;
+        table.caps[i] = byte_of(found.hit_cap);
     }
 }
 
-// 2 or 10, and 0 for none.
+// 2 or 10, or none.
 #[tactic(auto, unfolding(crate::specs::Reporting::report_tests))]
-fn report_refusal(w: usize, runs: usize, lent: Columns) -> u8
+fn report_refusal(w: usize, runs: usize, lent: Columns) -> Result<(), Refusal>
     requires { w ≤ 12 }
-    ensures { result ≡ first_of (report_tests w runs lent) }
+    ensures { number_in result ≡ first_of (report_tests w runs lent) }
 {
     if runs > MOST {
-        return TOO_LARGE;
+        return Err(Refusal::TooLarge);
     }
     if lent.simplexes < runs * (w * w) {
-        return TOO_SHORT;
+        return Err(Refusal::TooShort);
     }
     if lent.iterations < runs || lent.stopped < runs || lent.converged < runs {
-        return TOO_SHORT;
+        return Err(Refusal::TooShort);
     }
     if lent.costs < runs || lent.places < runs || lent.lengths < runs || lent.caps < runs {
-        return TOO_SHORT;
+        return Err(Refusal::TooShort);
     }
-    0
+    Ok(())
 }
 
 // The number of runs, each with its row of the run table; or 2 for more than 65,535, or 10 where a slice is too short.
@@ -187,8 +180,8 @@ pub fn report_searches(
     places: &mut [usize],
     lengths: &mut [usize],
     caps: &mut [u8],
-) -> Written
-    ensures result_value { written_says result
+) -> Result<usize, Refusal>
+    ensures result_value { reply_of result
         ≡ report_of error genome runs (columns_of simplexes.now iterations.now
         stopped.now converged.old costs.old places.old
         lengths.old caps.old) }
@@ -218,7 +211,7 @@ pub fn report_searches(
         iterations.now stopped.now i).hit_cap) runs) caps.old) caps.old }
 {
     let w = list_length(error, genome) + 1;
-    let number = report_refusal(
+    report_refusal(
         w,
         runs,
         Columns {
@@ -231,13 +224,20 @@ pub fn report_searches(
             lengths: lengths.len(),
             caps: caps.len(),
         },
-    );
-    if number != 0 {
-        return Written::Refused(number);
-    }
+    )?;
     let cap = iteration_cap(genome);
-    write_found(
-        w, cap, runs, simplexes, iterations, stopped, converged, costs, places, lengths, caps,
-    );
-    Written::Items(runs)
+    let stored = Stored {
+        simplexes,
+        iterations,
+        stopped,
+    };
+    let mut table = Table {
+        converged,
+        costs,
+        places,
+        lengths,
+        caps,
+    };
+    write_found(w, cap, runs, &stored, &mut table);
+    Ok(runs)
 }

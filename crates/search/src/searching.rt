@@ -1,25 +1,25 @@
 // Many runs of the search at once, in lent slices: for each its rows, its iterations, and whether the test stopped it.
 // That is all that is to be stored of a run that is to go on later.
 ghost use Rattle.std.specs.Prelude.{◌≡◌, ◌*◌, ◌<◌, ◌≤◌, length, drop};
-ghost use Rattle.meaning.specs.Answers.{written_says};
 ghost use Rattle.meaning.specs.Lent.{on_give};
 ghost use Rattle.meaning.specs.Rows.{most};
-ghost use Rattle.search.specs.Prices.{ready_price_of, price_of, cap_of, width_of, stands_from};
+ghost use Rattle.search.specs.Priced.{price_in, IsKept};
+ghost use Rattle.search.specs.Prices.{price_of, cap_of, width_of};
 ghost use Rattle.search.specs.Searches.{simplexes_after, iterations_after, stopped_after, lent_of, run_searches_of};
 ghost use Rattle.search.specs.Searches.{stood_from, ready_after};
+ghost use Rattle.meaning.specs.Answers.{reply_of};
 
-use crate::prices::{iteration_cap, width};
+use crate::prices::{Prices, iteration_cap, width};
 use crate::refusing::{Lent, search_refusal};
 use crate::turns::{Progress, run};
-use meaning::answers::Written;
 use meaning::flags::{byte_of, is_set};
+use meaning::refusals::Refusal;
 use models::prepared::prepare_window;
 use models::problems::Problem;
 
 // Each run goes on for at most `limit` turns.
 fn run_all(
-    bins: &[u32],
-    problem: Problem,
+    prices: &mut Prices<'_>,
     w: usize,
     cap: u64,
     runs: usize,
@@ -27,45 +27,31 @@ fn run_all(
     simplexes: &mut [f64],
     iterations: &mut [u64],
     stopped: &mut [u8],
-    ready: &[f64],
-    table: &mut [f64],
 )
     requires { (1 < w) × (w ≤ 12) × (cap ≤ 2000) × (runs ≤ most) × (runs * (w * w) ≤ length simplexes.old)
         × (runs ≤ length iterations.old) × (runs ≤ length stopped.old) }
     ensures simplexes_after { simplexes.new
         ≡ simplexes_after w simplexes.old iterations.old stopped.old runs
-        (ready_price_of bins.now problem ready.now (length table.old)) cap limit }
+        (price_in prices.old) cap limit }
     ensures iterations_after { iterations.new
         ≡ iterations_after w simplexes.old iterations.old stopped.old runs
-        (ready_price_of bins.now problem ready.now (length table.old)) cap limit }
+        (price_in prices.old) cap limit }
     ensures stopped_after { stopped.new
         ≡ stopped_after w simplexes.old iterations.old stopped.old runs
-        (ready_price_of bins.now problem ready.now (length table.old)) cap limit }
-    ensures table_unchanged { drop (stands_from problem) table.new ≡ drop (stands_from problem) table.old }
+        (price_in prices.old) cap limit }
+    ensures kept { IsKept prices.old prices.new }
 {
     let size = w * w;
-    let mut i: usize = 0;
-    while i < runs {
+    for i in 0..runs {
         let from = i * size;
         let to = from + size;
         let before = Progress {
             iterations: iterations[i],
             stopped: is_set(stopped[i]),
         };
-        let after = run(
-            bins,
-            problem,
-            w,
-            cap,
-            limit,
-            before,
-            &mut simplexes[from..to],
-            ready,
-            table,
-        );
+        let after = run(prices, w, cap, limit, before, &mut simplexes[from..to]);
         iterations[i] = after.iterations;
         stopped[i] = byte_of(after.stopped);
-        i += 1;
     }
 }
 
@@ -82,8 +68,8 @@ pub fn run_searches(
     stopped: &mut [u8],
     ready: &mut [f64],
     table: &mut [f64],
-) -> Written
-    ensures result_value { written_says result
+) -> Result<usize, Refusal>
+    ensures result_value { reply_of result
         ≡ run_searches_of bins.now problem runs (lent_of simplexes.old iterations.old
         stopped.old ready.old table.old) }
     ensures simplexes_after { simplexes.new
@@ -116,16 +102,26 @@ pub fn run_searches(
         ready: ready.len(),
         table: table.len(),
     };
-    let refused = search_refusal(bins, problem, runs, false, lent);
-    if refused != 0 {
-        return Written::Refused(refused);
-    }
-    prepare_window(problem.window_end, ready);
+    search_refusal(bins, problem, runs, false, lent)?;
+    prepare_window(problem.window_end, ready)?;
     let genome = problem.genome;
     let cap = iteration_cap(genome);
     let w = width(problem);
+    let mut prices = Prices {
+        bins,
+        problem,
+        ready,
+        table,
+    };
     run_all(
-        bins, problem, w, cap, runs, limit, simplexes, iterations, stopped, ready, table,
+        &mut prices,
+        w,
+        cap,
+        runs,
+        limit,
+        simplexes,
+        iterations,
+        stopped,
     );
-    Written::Items(runs)
+    Ok(runs)
 }

@@ -1,49 +1,48 @@
 // Whether the costs of a simplex have come together.
-ghost use Rattle.std.specs.Prelude.{◌≡◌, ◌*◌, ◌<◌, length};
+ghost use Rattle.std.specs.Prelude.{◌≡◌, ◌<◌};
+ghost use Rattle.search.specs.Simplex.{vertices_in};
 ghost use Rattle.search.specs.Spread.{mean_of, square_at, deviation_of, settled};
-ghost use Rattle.search.specs.Vertices.{rows_in};
+
+use crate::rows::Simplex;
 
 // The square of the standard deviation at which argmin stopped, 1e-4.
 pub const TOLERANCE: f64 = 1e-8;
 
-fn mean_cost(rows: &[f64], w: usize) -> f64
-    requires { (length rows.now ≡ w * w) × (0 < w) }
-    ensures { result ≡ mean_of (rows_in w w rows.now) }
+fn mean_cost(simplex: &Simplex<'_>) -> f64
+    ensures { result ≡ mean_of (vertices_in simplex.now) }
 {
-    let mut sum = rows[0];
-    let mut i: usize = 1;
-    while i < w {
-        sum = sum + rows[i * w];
-        i += 1;
+    let w = simplex.w;
+    let mut sum = simplex.cost(0);
+    for i in 1..w {
+        sum = sum + simplex.cost(i);
     }
     sum / (w as f64)
 }
 
-fn square_at(rows: &[f64], w: usize, mean: f64, i: usize) -> f64
-    requires { (length rows.now ≡ w * w) × (i < w) }
-    ensures { result ≡ square_at (rows_in w w rows.now) mean i }
+#[tactic(auto, unfolding(crate::specs::Spread::square_at))]
+fn square_at(simplex: &Simplex<'_>, mean: f64, i: usize) -> f64
+    requires { i < simplex.now.w }
+    ensures { result ≡ square_at (vertices_in simplex.now) mean i }
 {
-    let off = rows[i * w] - mean;
+    let off = simplex.cost(i) - mean;
     off * off
 }
 
-fn deviation(rows: &[f64], w: usize) -> f64
-    requires { (length rows.now ≡ w * w) × (0 < w) }
-    ensures { result ≡ deviation_of (rows_in w w rows.now) }
+fn deviation(simplex: &Simplex<'_>) -> f64
+    ensures { result ≡ deviation_of (vertices_in simplex.now) }
 {
-    let mean = mean_cost(rows, w);
-    let mut sum = square_at(rows, w, mean, 0);
-    let mut i: usize = 1;
-    while i < w {
-        sum = sum + square_at(rows, w, mean, i);
-        i += 1;
+    let w = simplex.w;
+    let mean = mean_cost(simplex);
+    let mut sum = square_at(simplex, mean, 0);
+    for i in 1..w {
+        sum = sum + square_at(simplex, mean, i);
     }
     sum / (w as f64)
 }
 
-pub(crate) fn is_settled(rows: &[f64], w: usize) -> bool
-    requires { (length rows.now ≡ w * w) × (0 < w) }
-    ensures { result ≡ settled (rows_in w w rows.now) }
+#[tactic(auto, unfolding(crate::specs::Spread::settled))]
+pub(crate) fn is_settled(simplex: &Simplex<'_>) -> bool
+    ensures { result ≡ settled (vertices_in simplex.now) }
 {
-    deviation(rows, w) < TOLERANCE
+    deviation(simplex) < TOLERANCE
 }

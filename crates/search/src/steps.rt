@@ -1,266 +1,170 @@
 // An iteration of the search.
-ghost use Rattle.std.specs.Prelude.{◌≡◌, ◌∷◌, ◌+◌, ◌*◌, ◌<◌, ◌≤◌, length, drop};
+ghost use Rattle.std.specs.Prelude.{◌≡◌, ◌∷◌, ◌+◌, length};
 ghost use Rattle.search.specs.Points.{moved};
-ghost use Rattle.search.specs.Prices.{ready_price_of, stands_from};
+ghost use Rattle.search.specs.Priced.{price_in, IsKept};
 ghost use Rattle.search.specs.Rule.{shrunk, expanded, contracted_out, contracted_in, stepped};
-ghost use Rattle.search.specs.Vertices.{rows_in};
+ghost use Rattle.search.specs.Simplex.{vertices_in, IsSame};
 
-use crate::points::{Move, centroid, copy, move_point};
-use crate::prices::price;
-use crate::rows::put;
-use models::problems::Problem;
+use crate::points::{Move, centroid, move_point};
+use crate::prices::Prices;
+use crate::rows::Simplex;
 
 // The most coordinates of a point.
 pub const MOST_COORDINATES: usize = 11;
 
 // A point out of two, and what it costs.
 pub(crate) fn try_point(
-    bins: &[u32],
-    problem: Problem,
+    prices: &mut Prices<'_>,
     from: &[f64],
     other: &[f64],
     how: Move,
     point: &mut [f64],
-    ready: &[f64],
-    table: &mut [f64],
 ) -> f64
     requires { (length point.old ≡ length from.now) × (length point.old ≡ length other.now) }
     ensures point_after { point.new ≡ moved how from.now other.now }
     ensures value { result
-        ≡ ready_price_of bins.now problem ready.now (length table.old)
+        ≡ price_in prices.old
         (moved how from.now other.now) }
-    ensures table_unchanged { drop (stands_from problem) table.new ≡ drop (stands_from problem) table.old }
+    ensures kept { IsKept prices.old prices.new }
 {
-    copy(point, from);
+    point.copy_from_slice(from);
     move_point(point, other, how);
-    price(bins, problem, point, ready, table)
+    prices.price(point)
 }
 
-// Every row but the first goes half the way to it.
-fn shrink(
-    bins: &[u32],
-    problem: Problem,
-    w: usize,
-    best: &mut [f64],
-    point: &mut [f64],
-    rows: &mut [f64],
-    ready: &[f64],
-    table: &mut [f64],
-)
-    requires { (length rows.old ≡ w * w) × (length best.old + 1 ≡ w) × (length point.old + 1 ≡ w) }
-    ensures rows_after { rows_in w w rows.new
-        ≡ shrunk (ready_price_of bins.now problem ready.now (length table.old))
-        (rows_in w w rows.old) }
-    ensures table_unchanged { drop (stands_from problem) table.new ≡ drop (stands_from problem) table.old }
+// Every vertex but the first goes half the way to it.
+fn shrink(prices: &mut Prices<'_>, best: &mut [f64], point: &mut [f64], simplex: &mut Simplex<'_>)
+    requires { (length best.old + 1 ≡ simplex.old.w) × (length point.old + 1 ≡ simplex.old.w) }
+    ensures vertices_after { vertices_in simplex.new ≡ shrunk (price_in prices.old) (vertices_in simplex.old) }
+    ensures same { IsSame simplex.old simplex.new }
+    ensures kept { IsKept prices.old prices.new }
 {
-    copy(best, &rows[1..w]);
-    let n = w - 1;
-    let mut i: usize = 1;
-    while i < w {
-        let from = i * w + 1;
-        let to = from + n;
-        let cost = try_point(
-            bins,
-            problem,
-            &rows[from..to],
-            best,
-            Move::Half,
-            point,
-            ready,
-            table,
-        );
-        put(rows, w, i, cost, point);
-        i += 1;
+    let w = simplex.w;
+    best.copy_from_slice(simplex.point(0));
+    for i in 1..w {
+        let cost = try_point(prices, simplex.point(i), best, Move::Half, point);
+        simplex.put(i, cost, point);
     }
 }
 
 // The cheaper of the point reflected and one twice as far, in the worst one's row.
 fn expand(
-    bins: &[u32],
-    problem: Problem,
-    w: usize,
+    prices: &mut Prices<'_>,
     centre: &[f64],
     reflected: f64,
     point: &[f64],
     far: &mut [f64],
-    rows: &mut [f64],
-    ready: &[f64],
-    table: &mut [f64],
+    simplex: &mut Simplex<'_>,
 )
-    requires { (length rows.old ≡ w * w) × (length centre.now + 1 ≡ w) × (length point.now + 1 ≡ w)
-        × (length far.old + 1 ≡ w) }
-    ensures rows_after { rows_in w w rows.new
-        ≡ expanded (ready_price_of bins.now problem ready.now (length table.old))
-        (rows_in w w rows.old) centre.now (reflected ∷ point.now) }
-    ensures table_unchanged { drop (stands_from problem) table.new ≡ drop (stands_from problem) table.old }
+    requires { (length centre.now + 1 ≡ simplex.old.w) × (length point.now + 1 ≡ simplex.old.w)
+        × (length far.old + 1 ≡ simplex.old.w) }
+    ensures vertices_after { vertices_in simplex.new
+        ≡ expanded (price_in prices.old) (vertices_in simplex.old) centre.now (reflected ∷ point.now) }
+    ensures same { IsSame simplex.old simplex.new }
+    ensures kept { IsKept prices.old prices.new }
 {
-    let n = w - 1;
-    let from = n * w + 1;
-    let to = from + n;
-    let cost = try_point(
-        bins,
-        problem,
-        centre,
-        &rows[from..to],
-        Move::Expand,
-        far,
-        ready,
-        table,
-    );
+    let worst = simplex.w - 1;
+    let cost = try_point(prices, centre, simplex.point(worst), Move::Expand, far);
     if cost < reflected {
-        put(rows, w, n, cost, far);
+        simplex.put(worst, cost, far);
         return;
     }
-    put(rows, w, n, reflected, point);
+    simplex.put(worst, reflected, point);
 }
 
 // Half the way from the centroid to the point reflected, where that costs at most as much as it.
 fn contract_out(
-    bins: &[u32],
-    problem: Problem,
-    w: usize,
+    prices: &mut Prices<'_>,
     centre: &mut [f64],
     reflected: f64,
     point: &[f64],
     near: &mut [f64],
-    rows: &mut [f64],
-    ready: &[f64],
-    table: &mut [f64],
+    simplex: &mut Simplex<'_>,
 )
-    requires { (length rows.old ≡ w * w) × (length centre.old + 1 ≡ w) × (length point.now + 1 ≡ w)
-        × (length near.old + 1 ≡ w) }
-    ensures rows_after { rows_in w w rows.new
-        ≡ contracted_out (ready_price_of bins.now problem ready.now (length table.old))
-        (rows_in w w rows.old) centre.old (reflected ∷ point.now) }
-    ensures table_unchanged { drop (stands_from problem) table.new ≡ drop (stands_from problem) table.old }
+    requires { (length centre.old + 1 ≡ simplex.old.w) × (length point.now + 1 ≡ simplex.old.w)
+        × (length near.old + 1 ≡ simplex.old.w) }
+    ensures vertices_after { vertices_in simplex.new
+        ≡ contracted_out (price_in prices.old) (vertices_in simplex.old) centre.old (reflected ∷ point.now) }
+    ensures same { IsSame simplex.old simplex.new }
+    ensures kept { IsKept prices.old prices.new }
 {
-    let cost = try_point(bins, problem, centre, point, Move::Half, near, ready, table);
+    let worst = simplex.w - 1;
+    let cost = try_point(prices, centre, point, Move::Half, near);
     if cost <= reflected {
-        put(rows, w, w - 1, cost, near);
+        simplex.put(worst, cost, near);
         return;
     }
-    shrink(bins, problem, w, centre, near, rows, ready, table);
+    shrink(prices, centre, near, simplex);
 }
 
 // Half the way from the centroid to the worst, where that is cheaper than the worst.
 fn contract_in(
-    bins: &[u32],
-    problem: Problem,
-    w: usize,
+    prices: &mut Prices<'_>,
     centre: &mut [f64],
     near: &mut [f64],
-    rows: &mut [f64],
-    ready: &[f64],
-    table: &mut [f64],
+    simplex: &mut Simplex<'_>,
 )
-    requires { (length rows.old ≡ w * w) × (length centre.old + 1 ≡ w) × (length near.old + 1 ≡ w) }
-    ensures rows_after { rows_in w w rows.new
-        ≡ contracted_in (ready_price_of bins.now problem ready.now (length table.old))
-        (rows_in w w rows.old) centre.old }
-    ensures table_unchanged { drop (stands_from problem) table.new ≡ drop (stands_from problem) table.old }
+    requires { (length centre.old + 1 ≡ simplex.old.w) × (length near.old + 1 ≡ simplex.old.w) }
+    ensures vertices_after { vertices_in simplex.new
+        ≡ contracted_in (price_in prices.old) (vertices_in simplex.old) centre.old }
+    ensures same { IsSame simplex.old simplex.new }
+    ensures kept { IsKept prices.old prices.new }
 {
-    let n = w - 1;
-    let worst = n * w;
-    let from = worst + 1;
-    let to = from + n;
-    let cost = try_point(
-        bins,
-        problem,
-        centre,
-        &rows[from..to],
-        Move::Half,
-        near,
-        ready,
-        table,
-    );
-    if cost < rows[worst] {
-        put(rows, w, n, cost, near);
+    let worst = simplex.w - 1;
+    let cost = try_point(prices, centre, simplex.point(worst), Move::Half, near);
+    if cost < simplex.cost(worst) {
+        simplex.put(worst, cost, near);
         return;
     }
-    shrink(bins, problem, w, centre, near, rows, ready, table);
+    shrink(prices, centre, near, simplex);
 }
 
-// One iteration over rows that are in order. The first three slices may hold anything.
+// One iteration over vertices that are in order. The three slices may hold anything.
 fn step_with(
-    bins: &[u32],
-    problem: Problem,
-    w: usize,
+    prices: &mut Prices<'_>,
     centre: &mut [f64],
     point: &mut [f64],
     other: &mut [f64],
-    rows: &mut [f64],
-    ready: &[f64],
-    table: &mut [f64],
+    simplex: &mut Simplex<'_>,
 )
-    requires { (length rows.old ≡ w * w) × (1 < w) × (length centre.old + 1 ≡ w) × (length point.old + 1 ≡ w)
-        × (length other.old + 1 ≡ w) }
-    ensures rows_after { rows_in w w rows.new
-        ≡ stepped (ready_price_of bins.now problem ready.now (length table.old))
-        (rows_in w w rows.old) }
-    ensures table_unchanged { drop (stands_from problem) table.new ≡ drop (stands_from problem) table.old }
+    requires { (length centre.old + 1 ≡ simplex.old.w) × (length point.old + 1 ≡ simplex.old.w)
+        × (length other.old + 1 ≡ simplex.old.w) }
+    ensures vertices_after { vertices_in simplex.new ≡ stepped (price_in prices.old) (vertices_in simplex.old) }
+    ensures same { IsSame simplex.old simplex.new }
+    ensures kept { IsKept prices.old prices.new }
 {
-    let n = w - 1;
-    let worst = n * w;
-    let second = worst - w;
-    let from = worst + 1;
-    let to = from + n;
-    centroid(rows, w, centre);
-    let cost = try_point(
-        bins,
-        problem,
-        centre,
-        &rows[from..to],
-        Move::Reflect,
-        point,
-        ready,
-        table,
-    );
-    if cost < rows[0] {
-        expand(
-            bins, problem, w, centre, cost, point, other, rows, ready, table,
-        );
+    let worst = simplex.w - 1;
+    centroid(simplex, centre);
+    let cost = try_point(prices, centre, simplex.point(worst), Move::Reflect, point);
+    if cost < simplex.cost(0) {
+        expand(prices, centre, cost, point, other, simplex);
         return;
     }
-    if cost < rows[second] {
-        put(rows, w, n, cost, point);
+    if cost < simplex.cost(worst - 1) {
+        simplex.put(worst, cost, point);
         return;
     }
-    if cost < rows[worst] {
-        contract_out(
-            bins, problem, w, centre, cost, point, other, rows, ready, table,
-        );
+    if cost < simplex.cost(worst) {
+        contract_out(prices, centre, cost, point, other, simplex);
         return;
     }
-    contract_in(bins, problem, w, centre, other, rows, ready, table);
+    contract_in(prices, centre, other, simplex);
 }
 
-pub(crate) fn step(
-    bins: &[u32],
-    problem: Problem,
-    w: usize,
-    rows: &mut [f64],
-    ready: &[f64],
-    table: &mut [f64],
-)
-    requires { (length rows.old ≡ w * w) × (1 < w) × (w ≤ 12) }
-    ensures rows_after { rows_in w w rows.new
-        ≡ stepped (ready_price_of bins.now problem ready.now (length table.old))
-        (rows_in w w rows.old) }
-    ensures table_unchanged { drop (stands_from problem) table.new ≡ drop (stands_from problem) table.old }
+pub(crate) fn step(prices: &mut Prices<'_>, simplex: &mut Simplex<'_>)
+    ensures vertices_after { vertices_in simplex.new ≡ stepped (price_in prices.old) (vertices_in simplex.old) }
+    ensures same { IsSame simplex.old simplex.new }
+    ensures kept { IsKept prices.old prices.new }
 {
-    let n = w - 1;
+    let n = simplex.w - 1;
     let mut centre = [0.0; MOST_COORDINATES];
     let mut point = [0.0; MOST_COORDINATES];
     let mut other = [0.0; MOST_COORDINATES];
     step_with(
-        bins,
-        problem,
-        w,
+        prices,
         &mut centre[0..n],
         &mut point[0..n],
         &mut other[0..n],
-        rows,
-        ready,
-        table,
+        simplex,
     );
 }

@@ -21,12 +21,10 @@ pub struct State {
 fn value_at(values: &[u64], at: usize) -> u64
     ensures { result ≡ get_or values.now at 0 }
 {
-    if at < values.len() {
-        return values[at];
-    }
-    0
+    values.get(at).copied().unwrap_or(0)
 }
 
+#[tactic(auto, unfolding(crate::specs::Filling::next_place))]
 fn next_place(values: &[u64], s: State) -> usize
     ensures { result ≡ next_place values.now s }
 {
@@ -37,6 +35,7 @@ fn next_place(values: &[u64], s: State) -> usize
     next
 }
 
+#[tactic(auto, unfolding(crate::specs::Filling::after_bar))]
 fn after_bar(ahead: u64) -> u64
     ensures { result ≡ after_bar ahead }
 {
@@ -46,24 +45,21 @@ fn after_bar(ahead: u64) -> u64
     ahead - 1
 }
 
+#[tactic(auto, unfolding(crate::specs::Filling::takes_value))]
 fn takes_value(c: u8) -> bool
     ensures { result ≡ takes_value c }
 {
     c == b'#' || c == b'~'
 }
 
+#[tactic(auto, unfolding(crate::specs::Filling::is_bracket))]
 fn is_bracket(c: u8) -> bool
     ensures { result ≡ is_bracket c }
 {
-    if c == b'{' {
-        return true;
-    }
-    if c == b'|' {
-        return true;
-    }
-    c == b'}'
+    c == b'{' || c == b'|' || c == b'}'
 }
 
+#[tactic(auto, unfolding(crate::specs::Filling::after))]
 fn state_after(values: &[u64], s: State, c: u8) -> State
     ensures { result ≡ after values.now s c }
 {
@@ -122,18 +118,16 @@ fn put_shown(out: &mut [u8], at: usize, values: &[u64], s: State, c: u8) -> usiz
 
 // The template with its values, from a place of the lent bytes on, as far as there is room. The answer is the place
 // behind it: the end of the lent bytes says that not all of it may be there.
+#[tactic(auto, unfolding(crate::specs::Filling::filled_of))]
 pub fn fill(out: &mut [u8], at: usize, template: &[u8], values: &[u64]) -> usize
     ensures value { result ≡ end_at at (filled_of template.now values.now) (length out.old) }
     ensures out_after { out.new ≡ put_at at (filled_of template.now values.now) out.old }
 {
     let mut s = State { ahead: 0, next: 0 };
     let mut end = at;
-    let mut k: usize = 0;
-    while k < template.len() {
-        let c = template[k];
-        end = put_shown(out, end, values, s, c);
-        s = state_after(values, s, c);
-        k += 1;
+    for c in template {
+        end = put_shown(out, end, values, s, *c);
+        s = state_after(values, s, *c);
     }
     end
 }

@@ -76,6 +76,7 @@ fn put_places(out: &mut [u8], at: usize, t: f64) -> usize
     put_text(out, behind, &tail)
 }
 
+#[tactic(auto, unfolding(crate::specs::Floats::size_of))]
 fn size(x: f64) -> f64
     ensures { result ≡ size_of x }
 {
@@ -105,7 +106,7 @@ pub fn float(bits: u64) -> f64
     ensures { result ≡ of_bits binary64 bits }
 {
     if bits % SIGN > INFINITE {
-        return 0.0 / 0.0;
+        return f64::NAN;
     }
     f64::from_bits(bits)
 }

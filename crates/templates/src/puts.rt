@@ -8,14 +8,12 @@ pub(crate) fn put_text(out: &mut [u8], at: usize, text: &[u8]) -> usize
     ensures out_after { out.new ≡ put_at at text.now out.old }
 {
     let mut end = at;
-    let mut k: usize = 0;
-    while k < text.len() {
+    for byte in text {
         if end >= out.len() {
             return end;
         }
-        out[end] = text[k];
+        out[end] = *byte;
         end += 1;
-        k += 1;
     }
     end
 }

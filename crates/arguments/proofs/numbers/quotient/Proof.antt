@@ -3,7 +3,6 @@ use Prim.Native.Nat.{ℕ, ◌+◌, ◌≤◌}
 use mathlib.Core.Path.{◌≡◌, refl, sym, ap, ◌∙◌}
 use mathlib.Core.Bool.{true}
 use mathlib.Core.List.{List, ◌++◌}
-use mathlib.Core.Option.{some}
 use native.Mathlib.Omega.{arith}
 use lib.ListN.{length, length-append}
 use borrow.Author.Rules.{rules}
@@ -15,6 +14,7 @@ use Rattle.arguments.proofs.Values.{digits-front, value-join, value-small}
 use Rattle.arguments.proofs.Quotients.{refused, number_of, quotient_is}
 use Rattle.arguments.proofs.numbers.quotient.Statement.{statement}
 use Rattle.arguments.proofs.numbers.quotient.Tie as tie
+use Rattle.std.specs.Prelude.{Some}
 
 abbrev whole : tie.After-is_few → List ℕ
 whole c = c.args.whole.now
@@ -96,7 +96,7 @@ returns-4 c =
     let n = w.value_of-value.ensures ∙ ap (λ (n : ℕ). value_of n b) v.value_of.ensures ∙ sym (value-join 0 a b) in
     let over = u.from_u64.ensures ∙ ap of_count n in
     let under = c.from_u64-2.ensures ∙ ap of_count p.power_of_ten.ensures in
-    (λ i. some (over i ⊘ under i)) ∙ sym (quotient_is a b (number e))
+    (λ i. Some (over i ⊘ under i)) ∙ sym (quotient_is a b (number e))
 
 pub quotient_spec : {M : Type 1} → statement M
 quotient_spec =

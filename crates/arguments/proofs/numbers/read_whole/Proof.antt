@@ -2,7 +2,6 @@
 use mathlib.Core.Path.{◌≡◌, sym, ap, ◌∙◌}
 use mathlib.Core.Bool.{true, ◌&&◌}
 use mathlib.Core.List.{List}
-use mathlib.Core.Option.{some}
 use Prim.Native.Nat.{ℕ}
 use lib.ListN.{length}
 use borrow.Author.Rules.{rules}
@@ -12,6 +11,7 @@ use Rattle.arguments.proofs.Values.{value-small}
 use Rattle.arguments.proofs.Quotients.{number_is, not-whole, whole_is}
 use Rattle.arguments.proofs.numbers.read_whole.Statement.{statement}
 use Rattle.arguments.proofs.numbers.read_whole.Tie as tie
+use Rattle.std.specs.Prelude.{Some}
 
 abbrev word : tie.After-is_few → List ℕ
 word c = c.args.word.now
@@ -47,7 +47,7 @@ value-of-requires c κs =
 returns-3 : tie.Need-returns
 returns-3 c =
     let e = c.before in
-    ap some c.value_of.ensures ∙ sym (whole_is (word e.before.before.before) (number e))
+    ap Some c.value_of.ensures ∙ sym (whole_is (word e.before.before.before) (number e))
 
 pub read_whole_spec : {M : Type 1} → statement M
 read_whole_spec =

@@ -2,7 +2,7 @@
 use mathlib.Core.Path.{refl, sym, ap, ◌∙◌}
 use Prim.Native.Nat.{ℕ, ◌-◌, min}
 use native.Mathlib.Omega.{arith}
-use lib.Ieee.{neg, of_bits}
+use lib.Ieee.{Float, neg, of_bits}
 use Rattle.routines.specs.Constants.{zero}
 use Rattle.routines.specs.Ops.{◌⊕◌, of_count}
 use Rattle.meaning.specs.Fold.{fold}
@@ -13,27 +13,16 @@ use Rattle.fitter.specs.Shares.{mass_step, mass_of}
 use Rattle.fitter.proofs.Recovered.{recovered-length, recovered-at}
 use Rattle.fitter.proofs.shares.mass.Goals as goal
 
-pub overflow_sub-i : goal.overflow_sub-i
-overflow_sub-i c = omega arith
-
 pub loop-i-init : goal.loop-i-init
 unfolding neg of_bits
 loop-i-init c = begins _ _ _ _ _ (omega arith) refl
-
-pub bounds-bins-i : goal.bounds-bins-i
-bounds-bins-i c = omega arith
-
-pub overflow_add-i : goal.overflow_add-i
-overflow_add-i c = omega arith
-
-pub loop-i-smaller : goal.loop-i-smaller
-loop-i-smaller c = omega arith
 
 pub loop-i-preserved : goal.loop-i-preserved
 loop-i-preserved c =
     let a = c.args in
     goes_on _ _ _ _ c.loop-i.invariant _ (omega arith)
-    (ap (λ (n : ℕ). c.loop-i.total ⊕ of_count n)
+    (ap (λ (x : Float). c.loop-i.total ⊕ x) c.from-total.ensures
+    ∙ ap (λ (n : ℕ). c.loop-i.total ⊕ of_count n)
     (c.rounded_quotient.ensures ∙ recovered-at a.used a.bins.now c.loop-i.i (omega arith)))
 
 pub returns : goal.returns
@@ -41,7 +30,7 @@ unfolding mass_of
 returns c =
     let a = c.args in
     let step = mass_step (recovered a.used a.bins.now) in
-    let end = c.reach-end.ensures ∙ ap (min a.to) (sym (recovered-length a.used a.bins.now)) in
+    let end = c.min-end.ensures ∙ ap (min a.to) (sym (recovered-length a.used a.bins.now)) in
     ends _ _ _ _ c.loop-i.invariant (omega arith)
-    ∙ fold-reach step (a.from - 1) c.reach-end.result (neg zero)
+    ∙ fold-reach step (a.from - 1) c.min-end.result (neg zero)
     ∙ ap (λ (n : ℕ). fold step (a.from - 1) n (neg zero)) end

@@ -10,6 +10,3 @@ use Rattle.fitter.proofs.shares.mass.Given as goal
 abbrev pub invariant-loop-i : goal.invariant-loop-i
 invariant-loop-i l =
     Folded (mass_step (recovered l.used l.bins)) (neg zero) (l.from - 1) (l.from - 1 + (l.end - (l.from - 1))) l.total l.i
-
-abbrev pub decreases-loop-i : goal.decreases-loop-i
-decreases-loop-i l = l.end - l.i

@@ -1,27 +1,17 @@
 -- `fitter::surveys::add_capped` meets its contract. Assumes nothing.
-use Prim.Native.Nat.{ℕ, ◌+◌, ◌≤◌}
-use mathlib.Core.Path.{◌≡◌, ap, ◌∙◌}
-use native.Mathlib.Omega.{arith}
-use borrow.Author.Rules.{rules}
-use Rattle.fitter.specs.Runs.{at_most, top32}
-use Rattle.fitter.proofs.Totals.{within, beyond}
+use Prim.Native.Nat.{ℕ, ◌+◌}
+use mathlib.Core.Bool.{Bool, true, false}
+use mathlib.Core.Path.{◌≡◌, refl, ap, ◌∙◌}
+use mir.Val.{bool_byte}
+use Rattle.fitter.specs.Runs.{at_most, top32, one_if}
+use Rattle.fitter.proofs.Totals.{stopped}
 use Rattle.fitter.proofs.surveys.add_capped.Goals as goal
 
-full : (n : ℕ) → n ≤ top32 → top32 ≤ n → n ≡ at_most top32 (n + 1)
-full n h k =
-    let e : n ≡ top32 = omega arith in
-    e ∙ beyond top32 (n + 1) (omega arith)
-
-none : (n : ℕ) → n ≤ top32 → n ≡ at_most top32 (n + 0)
-none n h =
-    let e : n ≡ n + 0 = omega arith in
-    within top32 n h ∙ ap (at_most top32) e
-
-pub returns-then-total-lt4294967295 : goal.returns-then-total-lt4294967295
-returns-then-total-lt4294967295 c = rw c.if-hit.true (within top32 _ (omega (arith, c.if-total-lt4294967295.true)))
-
-pub returns-then-hit : goal.returns-then-hit
-returns-then-hit c = rw c.if-hit.true (full _ (search rules) c.if-total-lt4294967295.false)
+one-if-so : (hit : Bool) → bool_byte hit ≡ one_if hit
+one-if-so true = refl
+one-if-so false = refl
 
 pub returns : goal.returns
-returns c = rw c.if-hit.false (none _ (search rules))
+returns c =
+    c.saturating_add.ensures ∙ stopped top32 _
+    ∙ ap (λ (n : ℕ). at_most top32 (c.args.total + n)) (c.from.ensures ∙ one-if-so c.args.hit)

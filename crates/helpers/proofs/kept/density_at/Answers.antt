@@ -1,18 +1,9 @@
 -- `helpers::kept::density_at` meets its contract. Assumes nothing.
 use mathlib.Core.Path.{sym, ap, ◌∙◌}
-use lib.Ieee.{nan}
 use lib.ListN.{get_or-eq_default}
-use Rattle.meaning.proofs.Overs.{get_d_any}
-use Rattle.helpers.specs.Kept.{growth_of, density_from, growth_at}
+use Rattle.helpers.specs.Kept.{density_from, growth_at}
 use Rattle.helpers.proofs.Growths.{density-from-is}
 use Rattle.helpers.proofs.kept.density_at.Goals as goal
-
-pub returns-then-i-kept : goal.returns-then-i-kept
-unfolding growth_at
-returns-then-i-kept c =
-    let a = c.args in
-    c.density_from.ensures
-    ∙ ap (density_from a.lobe a.x a.gamma) (get_d_any a.kept.now a.i nan (growth_of a.lobe a.x) c.if-i-kept.true)
 
 pub returns : goal.returns
 unfolding growth_at

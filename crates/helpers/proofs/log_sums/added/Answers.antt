@@ -7,6 +7,3 @@ use Rattle.helpers.proofs.log_sums.added.Goals as goal
 pub returns-then-d : goal.returns-then-d
 unfolding neg of_bits
 returns-then-d c = absorbs _ _ (yes c.well_formed.0.1) (yes c.well_formed.1.0.1) c.if-d.true c.requires
-
-pub returns-else-d : goal.returns-else-d
-returns-else-d c = rw c.exp.ensures

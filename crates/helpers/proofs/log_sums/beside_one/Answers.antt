@@ -7,6 +7,3 @@ use Rattle.helpers.proofs.log_sums.beside_one.Goals as goal
 pub returns-then-y : goal.returns-then-y
 unfolding neg of_bits
 returns-then-y c = absorbs-two _ _ (yes c.well_formed.0.1) (yes c.well_formed.1.0.1) c.if-x.true c.if-y.true
-
-pub returns : goal.returns
-returns c = rw (c.exp-2.ensures, c.exp.ensures)

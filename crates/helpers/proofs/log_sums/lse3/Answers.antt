@@ -33,9 +33,3 @@ returns-then-is_finite c =
     let same = max-of-two _ _ _ _ _ c.max.ensures c.max-m.ensures known c.if-c-m.false in
     rw (sym c.max.ensures, sym c.max-m.ensures, known)
     (rw (c.with_log-then-is_finite.ensures, c.added.ensures, c.weights.ensures, sym same))
-
-pub returns : goal.returns
-unfolding lse3_of
-returns c =
-    let known = sym c.is_finite.ensures ∙ c.if-is_finite.false in
-    rw (sym c.max.ensures, sym c.max-m.ensures, known)

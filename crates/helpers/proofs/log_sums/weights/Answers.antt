@@ -1,13 +1,7 @@
 -- `helpers::log_sums::weights` meets its contract. Assumes nothing.
 use mathlib.Core.Path.{◌∙◌}
-use Rattle.helpers.proofs.Weights.{one-least, first-weight, second-weight}
+use Rattle.helpers.proofs.Weights.{first-weight, second-weight}
 use Rattle.helpers.proofs.log_sums.weights.Goals as goal
-
-pub added-requires : goal.added-requires
-added-requires c = one-least
-
-pub added-requires-else-a-b : goal.added-requires-else-a-b
-added-requires-else-a-b c = one-least
 
 pub returns-then-a-b : goal.returns-then-a-b
 returns-then-a-b c = c.added.ensures ∙ second-weight _ _ c.requires c.if-a-b.true

@@ -5,6 +5,3 @@ use Rattle.helpers.proofs.log_sums.with_log.Goals as goal
 
 pub returns-then-s : goal.returns-then-s
 returns-then-s c = log-of-one _ _ (yes c.well_formed.1.0.1) c.if-s.true
-
-pub returns-else-s : goal.returns-else-s
-returns-else-s c = rw c.ln.ensures

@@ -13,16 +13,7 @@ use Rattle.helpers.proofs.masses.log_shelf_mass.Goals as goal
 
 pub loop-i-init : goal.loop-i-init
 unfolding div neg of_bits
-loop-i-init c = (omega arith, inl refl, c.least-end.ensures, shelf-begins c.args.table.now)
-
-pub bounds-table-i : goal.bounds-table-i
-bounds-table-i c = omega arith
-
-pub overflow_add-i : goal.overflow_add-i
-overflow_add-i c = omega arith
-
-pub loop-i-smaller : goal.loop-i-smaller
-loop-i-smaller c = omega arith
+loop-i-init c = (omega arith, inl refl, c.min-end.ensures, shelf-begins c.args.table.now)
 
 pub loop-i-preserved : goal.loop-i-preserved
 loop-i-preserved c =
@@ -39,4 +30,4 @@ unfolding shelf_mass_of
 returns c =
     let inv = c.loop-i.invariant in
     let table = c.args.table.now in
-    inv.3 ∙ shelf-ends table c.loop-i.i c.least-end.result inv.0 inv.1 (omega arith) ∙ ap (λ (n : ℕ). fold (shelf_step table) 1 n (inf true)) inv.2
+    inv.3 ∙ shelf-ends table c.loop-i.i c.min-end.result inv.0 inv.1 (omega arith) ∙ ap (λ (n : ℕ). fold (shelf_step table) 1 n (inf true)) inv.2

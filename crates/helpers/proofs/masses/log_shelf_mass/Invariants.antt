@@ -3,7 +3,7 @@
 use mathlib.Core.Path.{◌≡◌}
 use mathlib.Core.Bool.{true}
 use mathlib.Core.Logic.{◌⊎◌}
-use Prim.Native.Nat.{◌+◌, ◌-◌, ◌≤◌, min}
+use Prim.Native.Nat.{◌+◌, ◌≤◌, min}
 use lib.ListN.{length}
 use lib.Ieee.{inf}
 use Rattle.meaning.specs.Fold.{fold}
@@ -13,6 +13,3 @@ use Rattle.helpers.proofs.masses.log_shelf_mass.Given as goal
 abbrev pub invariant-loop-i : goal.invariant-loop-i
 invariant-loop-i l =
     (1 ≤ l.i) × ((l.i ≡ 1) ⊎ (l.i ≤ l.end)) × (l.end ≡ min (length l.table) (l.top + 1)) × (l.total ≡ fold (shelf_step l.table) 1 l.i (inf true))
-
-abbrev pub decreases-loop-i : goal.decreases-loop-i
-decreases-loop-i l = l.end - l.i

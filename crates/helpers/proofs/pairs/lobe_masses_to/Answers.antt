@@ -14,24 +14,6 @@ unfolding div neg of_bits
 loop-count-init c =
     (sum-begins _ _ _ _ _ refl c.density-term.ensures, sum-begins _ _ _ _ _ refl c.density-other_term.ensures, begins _ _ 1 _ _ (omega arith) refl, refl)
 
-pub overflow_add-count : goal.overflow_add-count
-overflow_add-count c = omega arith
-
-pub overflow_mul-count : goal.overflow_mul-count
-overflow_mul-count c = omega arith
-
-pub overflow_mul-count-in-loop-count : goal.overflow_mul-count-in-loop-count
-overflow_mul-count-in-loop-count c = omega arith
-
-pub overflow_add-count-in-loop-count : goal.overflow_add-count-in-loop-count
-overflow_add-count-in-loop-count c = omega arith
-
-pub overflow_add-count-in-loop-count-2 : goal.overflow_add-count-in-loop-count-2
-overflow_add-count-in-loop-count-2 c = omega arith
-
-pub loop-count-smaller : goal.loop-count-smaller
-loop-count-smaller c = omega arith
-
 pub loop-count-preserved : goal.loop-count-preserved
 loop-count-preserved c =
     let turn = c.loop-count in
@@ -44,9 +26,6 @@ loop-count-preserved c =
           (rw (c.keep-in-loop-count.ensures, c.keep.ensures, c.growth_of-growth.ensures, c.growth_of-other_growth.ensures)),
       c.keep-in-loop-count.auto.kept ∙ c.keep.auto.kept ∙ inv.3,
     )
-
-pub shape_of-kept : goal.shape_of-kept
-shape_of-kept c = c.loop-count.invariant.3
 
 pub returns : goal.returns
 unfolding lobe_mass_of kept_after

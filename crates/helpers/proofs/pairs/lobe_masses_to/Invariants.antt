@@ -1,7 +1,7 @@
 -- `helpers::pairs::lobe_masses_to` meets its contract: the terms of both lobes are added up side by side, and their
 -- growths are kept. Assumes nothing.
 use mathlib.Core.Path.{◌≡◌}
-use Prim.Native.Nat.{◌+◌, ◌-◌}
+use Prim.Native.Nat.{◌+◌}
 use lib.ListN.{length}
 use Rattle.meaning.proofs.Loops.{Folded}
 use Rattle.routines.specs.Constants.{one}
@@ -17,7 +17,3 @@ invariant-loop-count l =
     × Summed (lobe_ratio l.second l.ready) (density_of l.second one) l.top l.other_total l.other_term l.count
     × Folded (keep_step l.first l.second) l.initial.kept 1 (l.top + 1) l.kept l.count
     × (length l.kept ≡ length l.initial.kept)
-
-abbrev pub decreases-loop-count : goal.decreases-loop-count
-decreases-loop-count l =
-    l.top + 1 - l.count

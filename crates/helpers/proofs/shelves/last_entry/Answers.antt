@@ -6,10 +6,6 @@ use Rattle.helpers.specs.Shelves.{last_of}
 use Rattle.helpers.proofs.Tables.{last-few}
 use Rattle.helpers.proofs.shelves.last_entry.Goals as goal
 
-pub returns-then-n-top : goal.returns-then-n-top
-unfolding last_of
-returns-then-n-top c = rw (c.to_u64-n.ensures, c.min.ensures)
-
 pub returns-else-n-top : goal.returns-else-n-top
 unfolding last_of
 returns-else-n-top c =

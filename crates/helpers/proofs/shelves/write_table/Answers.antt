@@ -13,15 +13,6 @@ pub loop-x-init : goal.loop-x-init
 loop-x-init c =
     (zero-le, refl, c.requires, c.table_start-entry.ensures ∙ entry_first _ _ _, table_none _ _ _ _)
 
-pub bounds-table-x : goal.bounds-table-x
-bounds-table-x c = omega arith
-
-pub overflow_add-x : goal.overflow_add-x
-overflow_add-x c = omega arith
-
-pub loop-x-smaller : goal.loop-x-smaller
-loop-x-smaller c = omega arith
-
 pub loop-x-preserved : goal.loop-x-preserved
 loop-x-preserved c =
     let inv = c.loop-x.invariant in (
@@ -31,9 +22,6 @@ loop-x-preserved c =
       rw (c.table_step-entry.ensures, inv.3) (entry_more _ _ _ _),
       table_more _ _ _ _ _ _ _ inv.4 (omega arith) inv.3,
     )
-
-pub bounds-table-last : goal.bounds-table-last
-bounds-table-last c = omega arith
 
 pub returns : goal.returns
 returns c =

@@ -6,9 +6,3 @@ use Rattle.helpers.proofs.single_copies.beta_density.Goals as goal
 pub returns-then-x-b : goal.returns-then-x-b
 unfolding beta_density_of div neg of_bits
 returns-then-x-b c = rw c.if-x-b.true
-
-pub returns : goal.returns
-unfolding beta_density_of
-returns c =
-    rw c.if-x-b.false
-    (rw (c.lgamma-3.ensures, c.lgamma-2.ensures, c.lgamma.ensures))

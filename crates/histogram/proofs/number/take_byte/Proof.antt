@@ -30,12 +30,12 @@ returns c =
     c.tenth_byte.ensures ∙ ap (λ (g : ℕ). take_byte_of (between s.args.least s.args.most) s.args.value g s.args.byte) e
 
 -- ---- the sum
-put : (c : tie.After-wide) → (let s : tie.Start = search in let a = s.args in c.wide.result * a.weight
+put : (c : tie.After-from) → (let s : tie.Start = search in let a = s.args in c.from.result * a.weight
     ≡ a.byte % 128 * 128 ^ a.groups)
-put c = let s : tie.Start = search in let e = s.requires.0 in let w = c.wide.ensures in cc
+put c = let s : tie.Start = search in let e = s.requires.0 in let w = c.from.ensures in cc
 
 sum : (c : tie.Else-most-value) → (let s : tie.Start = search in let a = s.args in
-    (a.value + c.wide.result * a.weight ≡ total s) × (total s ≤ a.most))
+    (a.value + c.from.result * a.weight ≡ total s) × (total s ≤ a.most))
 sum c = let s : tie.Start = search in let p = put c.before in let v = s.requires.1 in (omega arith, omega arith)
 
 mul-put : tie.Need-overflow_mul-put
@@ -62,9 +62,9 @@ returns-3 c =
     let e = (sum k).0 in
     sym (takes.below-range (between a.least a.most) a.value a.groups a.byte c.if-byte-lt128.true (omega arith))
 
-whole : (c : tie.Else-sum-least) → let after-wide : tie.After-wide = search in let s : tie.Start = search in
+whole : (c : tie.Else-sum-least) → let after-wide : tie.After-from = search in let s : tie.Start = search in
     (s.args.byte ≡ 0 → 0 < s.args.groups → ⊥)
-    → (let a = s.args in Taken.Whole (a.value + after-wide.wide.result * a.weight) ≡ taken s)
+    → (let a = s.args in Taken.Whole (a.value + after-wide.from.result * a.weight) ≡ taken s)
 whole c z =
     let s : tie.Start = search in
     let k : tie.Else-most-value = search in

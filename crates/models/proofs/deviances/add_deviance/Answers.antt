@@ -19,21 +19,6 @@ returns-then-n-eq0 c = record {
   ready_value_2 = c.requires.ready_value;
 }
 
-pub overflow_add-count : goal.overflow_add-count
-overflow_add-count c = omega arith
-
-pub ready_at-here-requires : goal.ready_at-here-requires
-ready_at-here-requires c = c.requires.ready_value
-
-pub overflow_add-count-2 : goal.overflow_add-count-2
-overflow_add-count-2 c = omega arith
-
-pub overflow_add-count-3 : goal.overflow_add-count-3
-overflow_add-count-3 c = omega arith
-
-pub overflow_add-result : goal.overflow_add-result
-overflow_add-result c = omega arith
-
 pub returns : goal.returns
 unfolding seen_term
 returns c =

@@ -30,15 +30,6 @@ loop-i-init c =
       begins _ _ _ _ _ (omega arith) refl,
     )
 
-pub add_deviance-reached-requires : goal.add_deviance-reached-requires
-add_deviance-reached-requires c = record { ready_value = c.loop-i.invariant.0; i_bound = omega arith }
-
-pub overflow_add-i : goal.overflow_add-i
-overflow_add-i c = omega arith
-
-pub loop-i-smaller : goal.loop-i-smaller
-loop-i-smaller c = omega arith
-
 pub loop-i-preserved : goal.loop-i-preserved
 loop-i-preserved c =
     let turn = c.loop-i in

@@ -1,7 +1,7 @@
 -- `models::deviances::conditional_deviance` meets its contract. What the loop carries stands ready for its count, or for
 -- an earlier one. Assumes nothing.
 use mathlib.Core.Path.{◌≡◌}
-use Prim.Native.Nat.{ℕ, ◌+◌, ◌-◌}
+use Prim.Native.Nat.{ℕ, ◌+◌}
 use lib.Ieee.{Float, neg}
 use Rattle.meaning.proofs.Loops.{Folded}
 use Rattle.routines.specs.Constants.{zero}
@@ -20,6 +20,3 @@ abbrev pub invariant-loop-i : goal.invariant-loop-i
 invariant-loop-i l =
     (l.reached.ready ≡ ready_of l.t.error_params l.reached.ready.count) ×
     Folded (observed_step l.bins l.scale (term_from l.t l.scale)) (neg zero) 0 l.top l.reached.total l.i
-
-abbrev pub decreases-loop-i : goal.decreases-loop-i
-decreases-loop-i l = l.top - l.i

@@ -1,7 +1,7 @@
 -- `models::height_rows::write_heights` meets its contract. Assumes nothing.
 use mathlib.Core.Path.{◌≡◌}
 use mathlib.Core.List.{List}
-use Prim.Native.Nat.{ℕ, ◌+◌, ◌-◌, ◌*◌, ◌≤◌}
+use Prim.Native.Nat.{ℕ, ◌+◌, ◌*◌, ◌≤◌}
 use lib.Ieee.{Float}
 use lib.ListN.{length}
 use Rattle.meaning.specs.Over.{over}
@@ -32,6 +32,3 @@ pub record Written (t : HeightTerms) (last : ℕ) (held : List Float) (p : Error
 abbrev pub invariant-loop-i : goal.invariant-loop-i
 invariant-loop-i l =
     Written l.t l.last l.initial.out l.p l.log l.here l.out l.i
-
-abbrev pub decreases-loop-i : goal.decreases-loop-i
-decreases-loop-i l = l.last - l.i

@@ -2,7 +2,6 @@
 use Prim.Native.Nat.{ℕ}
 use mathlib.Core.Path.{◌≡◌, sym, ap, ◌∙◌, fun_ext}
 use mathlib.Core.List.{List}
-use native.Mathlib.Omega.{arith}
 use borrow.Author.Tests.{lt-ltb, le-ltb}
 use lib.Ieee.{Float}
 use Rattle.meaning.specs.Over.{over}
@@ -28,9 +27,6 @@ unfolding heights_to_of
 returns-then-last-gt-MOST c =
     let h = lt-ltb _ _ c.if-last-gt-MOST.true in
     record { result_value = simp h; out_after = simp h }
-
-pub overflow_mul-items : goal.overflow_mul-items
-overflow_mul-items c = omega arith
 
 pub returns-then-out-items : goal.returns-then-out-items
 unfolding heights_to_of

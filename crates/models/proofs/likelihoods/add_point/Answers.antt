@@ -4,7 +4,6 @@ use native.Mathlib.Omega.{arith}
 use borrow.Author.Tests.{eq-eqb, ne_eqb}
 use lib.Ieee.{Float}
 use Rattle.routines.specs.Ops.{◌⊕◌, ◌⊗◌, of_count}
-use Rattle.helpers.proofs.Growths.{kept-fewer}
 use Rattle.models.specs.Spectra.{seen_term}
 use Rattle.models.proofs.Points.{step_is, next-stands}
 use Rattle.models.proofs.likelihoods.add_point.Goals as goal
@@ -15,18 +14,6 @@ returns-then-n-eq0 c = record {
   total_value = simp (eq-eqb _ _ c.if-n-eq0.true);
   ahead_value_2 = c.requires.ahead_value;
 }
-
-pub ahead_at-here-requires : goal.ahead_at-here-requires
-ahead_at-here-requires c = c.requires.ahead_value
-
-pub ahead_after-next-requires : goal.ahead_after-next-requires
-ahead_after-next-requires c = c.requires.i_lt_most
-
-pub overflow_add-count : goal.overflow_add-count
-overflow_add-count c = omega (arith, c.requires.i_lt_most)
-
-pub point-term-requires : goal.point-term-requires
-point-term-requires c = record { le_count = omega arith; kept = kept-fewer c.requires.kept _ (omega arith) }
 
 pub returns : goal.returns
 unfolding seen_term

@@ -3,7 +3,6 @@ use mathlib.Core.Path.{refl, sym}
 use native.Mathlib.Omega.{arith}
 use lib.Ieee.{neg, of_bits}
 use Rattle.meaning.proofs.Loops.{begins, goes_on, ends}
-use Rattle.helpers.proofs.Growths.{kept-fewer}
 use Rattle.models.specs.Spectra.{over_observed}
 use Rattle.models.specs.Hoists.{likelihood_at}
 use Rattle.models.proofs.Points.{standing}
@@ -12,20 +11,6 @@ use Rattle.models.proofs.likelihoods.likelihood.Goals as goal
 pub loop-i-init : goal.loop-i-init
 unfolding neg of_bits
 loop-i-init c = (standing _ _ c.ahead_of.ensures, begins _ _ _ _ _ (omega arith) refl)
-
-pub add_point-reached-requires : goal.add_point-reached-requires
-add_point-reached-requires c =
-    record {
-      i_lt_most = omega (arith, c.ranges.top);
-      kept = kept-fewer c.requires _ (omega arith);
-      ahead_value = c.loop-i.invariant.0;
-    }
-
-pub overflow_add-i : goal.overflow_add-i
-overflow_add-i c = omega arith
-
-pub loop-i-smaller : goal.loop-i-smaller
-loop-i-smaller c = omega arith
 
 pub loop-i-preserved : goal.loop-i-preserved
 loop-i-preserved c =

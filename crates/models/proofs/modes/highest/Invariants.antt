@@ -1,7 +1,8 @@
--- `models::modes::highest` meets its contract. The survival that the loop carries is that of its count. Assumes nothing.
+-- `models::modes::highest` meets its contract. The survival that the loop carries is that of its count. Assumes
+-- nothing.
 use mathlib.Core.Path.{◌≡◌}
 use mathlib.Core.Bool.{true, false}
-use Prim.Native.Nat.{◌+◌, ◌-◌}
+use Prim.Native.Nat.{◌+◌}
 use lib.Ieee.{inf}
 use Rattle.meaning.proofs.Loops.{Folded}
 use Rattle.routines.specs.Ops.{of_count}
@@ -13,6 +14,3 @@ abbrev pub invariant-loop-count : goal.invariant-loop-count
 invariant-loop-count l =
     (l.ln_tail ≡ ln_tail_of l.p) × (l.survival ≡ survival_of l.p (of_count l.count)) ×
     Folded (higher_of l.p) (stands 1 (inf true) false) 1 (l.top + 1) l.best l.count
-
-abbrev pub decreases-loop-count : goal.decreases-loop-count
-decreases-loop-count l = l.top + 1 - l.count

@@ -1,24 +1,12 @@
 -- `models::modes::outdone` meets its contract. Assumes nothing.
 use mathlib.Core.Path.{◌≡◌}
-use mathlib.Core.Bool.{true, false, false≢true}
+use mathlib.Core.Bool.{true}
 use lib.Ieee.{le}
 use Rattle.routines.specs.Constants.{zero}
 use Rattle.routines.specs.Ops.{◌⊖◌}
 use Rattle.routines.proofs.Tests.{yes}
 use Rattle.models.proofs.Outdone.{outdone}
 use Rattle.models.proofs.modes.outdone.Goals as goal
-
-pub returns-then-count-le1 : goal.returns-then-count-le1
-returns-then-count-le1 c = λ (e : false ≡ true). absurd (false≢true e)
-
-pub returns-then-not-survival-best : goal.returns-then-not-survival-best
-returns-then-not-survival-best c = λ (e : false ≡ true). absurd (false≢true e)
-
-pub returns-then-not-ln_tail : goal.returns-then-not-ln_tail
-returns-then-not-ln_tail c = λ (e : false ≡ true). absurd (false≢true e)
-
-pub returns-then-survival-next : goal.returns-then-survival-next
-returns-then-survival-next c = λ (e : false ≡ true). absurd (false≢true e)
 
 pub returns : goal.returns
 returns c =

@@ -1,9 +1,8 @@
 -- `models::params::at` meets its contract. Assumes nothing.
-use mathlib.Core.Path.{sym}
-use lib.ListN.{get_or-eq_default}
-use lib.Ieee.{nan, div, of_bits}
+use lib.Ieee.{div, of_bits}
+use borrow.Author.Rules.{rules}
 use Rattle.models.proofs.params.at.Goals as goal
 
-pub returns-else-i-theta : goal.returns-else-i-theta
+pub returns : goal.returns
 unfolding div of_bits
-returns-else-i-theta c = sym (get_or-eq_default c.args.theta.now nan c.if-i-theta.false)
+returns c = search rules

@@ -1,6 +1,6 @@
 -- `models::prepared::write_rows` meets its contract. Assumes nothing.
 use mathlib.Core.Path.{◌≡◌}
-use Prim.Native.Nat.{◌-◌, ◌*◌, ◌≤◌}
+use Prim.Native.Nat.{◌*◌, ◌≤◌}
 use lib.ListN.{length}
 use Rattle.meaning.specs.Over.{over}
 use Rattle.models.specs.Prepared.{ready_rows}
@@ -9,6 +9,3 @@ use Rattle.models.proofs.prepared.write_rows.Given as goal
 abbrev pub invariant-loop-n : goal.invariant-loop-n
 invariant-loop-n l =
     (l.n ≤ l.rows) × (length l.out ≡ length l.initial.out) × (2 * l.rows ≤ length l.initial.out) × (l.out ≡ over (ready_rows l.n) l.initial.out)
-
-abbrev pub decreases-loop-n : goal.decreases-loop-n
-decreases-loop-n l = l.rows - l.n

@@ -1,28 +1,17 @@
 -- `models::spectra::all_zero` meets its contract. Assumes nothing.
-use mathlib.Core.Path.{refl}
-use native.Mathlib.Omega.{arith}
-use borrow.Author.Tests.{eq-eqb, ne_eqb}
-use Rattle.meaning.proofs.Loops.{begins}
-use Rattle.models.proofs.Loops.{all-holds, all_more, all-fails}
+use mathlib.Core.Path.{◌∙◌}
+use Prim.Native.Nat.{ℕ}
+use lib.Dec.{eqb}
+use borrow.Author.Rules.{rules}
+use borrow.Author.Tests.{tests}
+use Rattle.std.proofs.lemmas.Iterator.{YieldsList-from_slice}
+use Rattle.std.proofs.lemmas.Iterator.Search.{all_from_yields_List}
+use Rattle.models.proofs.Loops.{all-elements}
 use Rattle.models.proofs.spectra.all_zero.Goals as goal
 
-pub loop-i-init : goal.loop-i-init
-loop-i-init c = begins _ _ _ _ _ (omega arith) refl
-
-pub bounds-bins-i : goal.bounds-bins-i
-bounds-bins-i c = omega arith
-
-pub returns-then-bins-i-ne0 : goal.returns-then-bins-i-ne0
-returns-then-bins-i-ne0 c = all-fails _ _ _ (omega arith) (ne_eqb _ _ c.if-bins-i-ne0.true)
-
-pub overflow_add-i : goal.overflow_add-i
-overflow_add-i c = omega arith
-
-pub loop-i-smaller : goal.loop-i-smaller
-loop-i-smaller c = omega arith
-
-pub loop-i-preserved : goal.loop-i-preserved
-loop-i-preserved c = all_more _ _ c.loop-i.invariant (omega arith) (eq-eqb _ _ c.if-bins-i-ne0.false)
-
 pub returns : goal.returns
-returns c = all-holds _ _ c.loop-i.invariant (omega arith)
+returns c =
+    let bins = c.args.bins.now in
+    all_from_yields_List (λ (n : ℕ). eqb n 0) _ _ _ c.all.ensures.ran (YieldsList-from_slice bins cc)
+    (λ x b q k. search (rules, tests))
+    ∙ all-elements (λ (n : ℕ). eqb n 0) bins

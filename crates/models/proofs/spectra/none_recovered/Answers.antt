@@ -1,29 +1,20 @@
 -- `models::spectra::none_recovered` meets its contract. Assumes nothing.
-use mathlib.Core.Path.{refl, sym, ap, ◌∙◌}
+use mathlib.Core.Path.{refl, ◌∙◌}
 use Prim.Native.Nat.{ℕ}
 use native.Mathlib.Omega.{arith}
-use borrow.Author.Tests.{eq-eqb, ne_eqb}
 use lib.Dec.{eqb}
-use Rattle.meaning.proofs.Loops.{begins}
-use Rattle.models.proofs.Loops.{all-holds, all_more, all-fails}
+use borrow.Author.Rules.{rules}
+use borrow.Author.Tests.{tests}
+use Rattle.std.proofs.lemmas.Iterator.{YieldsList-from_range}
+use Rattle.std.proofs.lemmas.Iterator.Search.{all_from_yields_List}
+use Rattle.models.specs.Spectra.{recovered_at}
+use Rattle.models.proofs.Loops.{all-counts}
 use Rattle.models.proofs.spectra.none_recovered.Goals as goal
 
-pub loop-i-init : goal.loop-i-init
-loop-i-init c = begins _ _ _ _ _ (omega arith) refl
-
-pub returns-then-recovered_at-ne0 : goal.returns-then-recovered_at-ne0
-returns-then-recovered_at-ne0 c = all-fails _ _ _ (omega arith) (ap (λ (n : ℕ). eqb n 0) (sym c.recovered_at.ensures) ∙ ne_eqb _ _ c.if-recovered_at-ne0.true)
-
-pub overflow_add-i : goal.overflow_add-i
-overflow_add-i c = omega arith
-
-pub loop-i-smaller : goal.loop-i-smaller
-loop-i-smaller c = omega arith
-
-pub loop-i-preserved : goal.loop-i-preserved
-loop-i-preserved c =
-    all_more _ _ c.loop-i.invariant (omega arith) (ap (λ (n : ℕ). eqb n 0) (sym c.recovered_at.ensures)
-    ∙ eq-eqb _ _ c.if-recovered_at-ne0.false)
-
 pub returns : goal.returns
-returns c = all-holds _ _ c.loop-i.invariant (omega arith)
+returns c =
+    let a = c.args in
+    all_from_yields_List (λ (i : ℕ). eqb (recovered_at a.bins.now a.scale i) 0) _ _ _ c.all.ensures.ran
+    (YieldsList-from_range 0 a.top a.top refl (omega arith))
+    (λ x b q k. search (rules, tests))
+    ∙ all-counts _ a.top

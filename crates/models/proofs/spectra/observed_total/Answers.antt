@@ -12,12 +12,6 @@ pub loop-i-init : goal.loop-i-init
 unfolding neg of_bits
 loop-i-init c = begins _ _ _ _ _ (omega arith) refl
 
-pub overflow_add-i : goal.overflow_add-i
-overflow_add-i c = omega arith
-
-pub loop-i-smaller : goal.loop-i-smaller
-loop-i-smaller c = omega arith
-
 pub loop-i-preserved : goal.loop-i-preserved
 loop-i-preserved c =
     goes_on _ _ _ _ c.loop-i.invariant _ (omega arith) (c.add_seen-total.ensures

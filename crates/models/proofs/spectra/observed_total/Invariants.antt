@@ -1,5 +1,5 @@
 -- `models::spectra::observed_total` meets its contract. Assumes nothing.
-use Prim.Native.Nat.{ℕ, ◌-◌}
+use Prim.Native.Nat.{ℕ}
 use lib.Ieee.{neg}
 use Rattle.routines.specs.Constants.{zero}
 use Rattle.routines.specs.Ops.{of_count}
@@ -9,6 +9,3 @@ use Rattle.models.proofs.spectra.observed_total.Given as goal
 
 abbrev pub invariant-loop-i : goal.invariant-loop-i
 invariant-loop-i l = Folded (observed_step l.bins l.scale (λ (n j : ℕ). of_count n)) (neg zero) 0 l.top l.total l.i
-
-abbrev pub decreases-loop-i : goal.decreases-loop-i
-decreases-loop-i l = l.top - l.i

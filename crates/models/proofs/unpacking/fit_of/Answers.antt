@@ -1,11 +1,7 @@
 -- `models::unpacking::fit_of` meets its contract: what each call answered, put into the fit's fields. Assumes nothing.
 use lib.Ieee.{round, of_bits}
 use Rattle.models.specs.Unpacking.{fit_with, fit_of}
-use Rattle.models.proofs.Lengths.{length-held}
 use Rattle.models.proofs.unpacking.fit_of.Goals as goal
-
-pub int_to_float-fit : goal.int_to_float-fit
-int_to_float-fit c = length-held c.args.error c.args.genome _ c.list_length.ensures
 
 pub returns : goal.returns
 unfolding fit_of fit_with round of_bits

@@ -3,14 +3,6 @@ use lib.Ieee.{div, of_bits}
 use Rattle.routines.specs.Exp.{out_of_range}
 use Rattle.routines.proofs.exp.out_of_range.Goals as goal
 
-pub returns-then-x : goal.returns-then-x
-unfolding out_of_range
-returns-then-x c = rw c.if-x.true
-
 pub returns-then-x-2 : goal.returns-then-x-2
 unfolding out_of_range div of_bits
 returns-then-x-2 c = rw (c.if-x.false, c.if-x-2.true)
-
-pub returns-else-x-2 : goal.returns-else-x-2
-unfolding out_of_range
-returns-else-x-2 c = rw (c.if-x.false, c.if-x-2.false)

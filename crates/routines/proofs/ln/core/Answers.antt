@@ -1,7 +1,5 @@
 -- `routines::ln::core` meets its contract. Assumes nothing.
-use Rattle.std.proofs.Common.{ℕ, ◌+◌, ◌*◌, ◌/◌, ◌%◌, ◌^◌, ◌≤◌, ap, arith}
-use lib.Ieee.{Float}
-use Rattle.routines.specs.Ln.{ln_core}
+use Rattle.std.proofs.Common.{ℕ, ◌+◌, ◌*◌, ◌/◌, ◌%◌, ◌^◌, ◌≤◌, arith}
 use Rattle.routines.proofs.Patterns.{no_nan}
 use Rattle.routines.proofs.ln.core.Goals as goal
 
@@ -17,17 +15,3 @@ float_from_bits-k c = no_nan _ (exponent _ _ c.requires.fact_2)
 
 pub float_from_bits-z : goal.float_from_bits-z
 float_from_bits-z c = no_nan _ (digits _)
-
-pub returns : goal.returns
-unfolding ln_core
-returns c =
-    let logs = c.log_at-log.ensures in
-    let pieces = c.piece_at-piece.ensures in
-    rw (
-      c.tail.ensures,
-      ap (λ (t : Float × Float). t.0) logs,
-      ap (λ (t : Float × Float). t.1) logs,
-      ap
-          (λ (t : Float × Float). t.0) pieces,
-      ap (λ (t : Float × Float). t.1) pieces,
-    )

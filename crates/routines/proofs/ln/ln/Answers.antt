@@ -1,19 +1,11 @@
 -- `routines::ln::ln` meets its contract: each arm returns what the definition picks where the tests are as the arm
 -- found them. Assumes nothing.
-use Rattle.std.proofs.Common.{◌≡◌, ℕ, ◌≤◌, not, T, sym, ap, ◌∙◌, subst, lit≤}
+use Rattle.std.proofs.Common.{◌≡◌, ℕ, ◌≤◌, not, T, sym, subst, lit≤}
 use lib.Ieee.{Float, is_nan}
-use Rattle.routines.specs.Ln.{ln_of, beside_zero, OFFSET}
+use Rattle.routines.specs.Ln.{OFFSET}
 use Rattle.routines.proofs.Patterns.{least-no-nan, positive-times}
 use Rattle.routines.proofs.ln.ln.Goals as goal
 use Rattle.routines.proofs.ln.ln.Goals.{then-x+else-x-2, else-x+then-x-3}
-
-pub returns-then-x-2 : goal.returns-then-x-2
-unfolding ln_of
-returns-then-x-2 c = rw (c.if-x.true, c.if-x-2.true)
-
-pub returns-else-x-3 : goal.returns-else-x-3
-unfolding ln_of
-returns-else-x-3 c = rw (c.if-x.false, c.if-x-3.false) c.not_above_zero.ensures
 
 -- what `core` asks of a value and an offset that are known
 few-of : {y : Float} {k : ℕ} (v : Float) (o : ℕ) → v ≡ y → o ≡ k → T (not (is_nan y)) → k ≤ OFFSET
@@ -29,13 +21,3 @@ core-requires c =
       | then-x+else-x-2 w ↦ few-of _ _ w.w-is w.offset-is (least-no-nan _ _ w.if-x.true) (lit≤ tt)
       | else-x+then-x-3 w ↦ few-of _ _ w.w-is w.offset-is (positive-times _ w.if-x-3.true) (lit≤ tt)
     ]
-
-pub returns : goal.returns
-unfolding ln_of
-returns c =
-    c.beside_zero.ensures
-    ∙ ap (beside_zero _) c.core.ensures
-    ∙ (elim c.if-x.branch [
-      | then-x+else-x-2 w ↦ rw (w.if-x.true, w.if-x-2.false, w.w-is, w.offset-is)
-      | else-x+then-x-3 w ↦ rw (w.if-x.false, w.if-x-3.true, w.w-is, w.offset-is)
-    ])

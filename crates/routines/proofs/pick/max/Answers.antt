@@ -8,10 +8,6 @@ pub returns-then-a : goal.returns-then-a
 unfolding max_of
 returns-then-a c = skips _ _ _ c.if-a.true
 
-pub returns-then-a-b : goal.returns-then-a-b
-unfolding max_of
-returns-then-a-b c = rw c.if-a-b.true (takes _ _ _ c.if-a.false)
-
 pub returns-else-a-b : goal.returns-else-a-b
 unfolding max_of
 returns-else-a-b c = rw c.if-a-b.false (takes _ _ _ c.if-a.false)

@@ -8,10 +8,6 @@ pub returns-then-a : goal.returns-then-a
 unfolding min_of
 returns-then-a c = skips _ _ _ c.if-a.true
 
-pub returns-then-b-a : goal.returns-then-b-a
-unfolding min_of
-returns-then-b-a c = rw c.if-b-a.true (takes _ _ _ c.if-a.false)
-
 pub returns-else-b-a : goal.returns-else-b-a
 unfolding min_of
 returns-else-b-a c = rw c.if-b-a.false (takes _ _ _ c.if-a.false)

@@ -7,19 +7,23 @@ use mathlib.Core.List.{List}
 use native.Mathlib.Nat.{div-mul-le_self}
 use native.Mathlib.Omega.{arith}
 use lib.Dec.{eqb}
-use lib.ListN.{length, drop}
+use lib.ListN.{length}
 use lib.Ieee.{Float}
 use Rattle.meaning.specs.Lent.{on_give}
 use Rattle.meaning.specs.Reply.{Reply, give, first_of}
+use Rattle.meaning.proofs.Says.{handed_on, refusal_numbered}
 use Rattle.search.specs.Beginning.{size_of, runs_in, ragged, simplexes_begun, iterations_begun, stopped_begun}
 use Rattle.search.specs.Beginning.{begin_searches_of}
+use Rattle.search.specs.Priced.{price_in}
 use Rattle.search.specs.Prices.{ready_price_of, price_of, width_of}
 use Rattle.search.specs.Refusing.{search_tests}
-use Rattle.search.specs.Searches.{lent_of, stood_from, ready_after}
+use Rattle.search.specs.Searches.{lent_of, ready_after}
 use Rattle.models.specs.declared.problems.Problem.{Problem}
 use Rattle.search.specs.declared.refusing.Lent.{Lent}
 use Rattle.search.proofs.Begun.{first_test, begun-refused, begun-given}
-use Rattle.search.proofs.ReadyPrices.{ready-is-cost}
+use borrow.Author.Rules.{rules}
+use Rattle.search.proofs.PricesKept.{stands-last}
+use Rattle.search.proofs.ReadyPrices.{ready-is-cost, always-prepared}
 use Rattle.search.proofs.SearchPassed.{SearchPassed, search-passed}
 use Rattle.search.proofs.Widths.{few-wide, some-wide}
 use Rattle.search.proofs.beginning.begin_searches.Goals as goal
@@ -43,15 +47,17 @@ refused-is bins p starts lent w n e r =
     let k = length starts in
     r ∙ ap (λ (d : ℕ). first_of (search_tests bins p (k / d) (not (eqb (k % d) 0)) lent)) (long-is p w e)
 
-pub returns-then-refused-ne0 : goal.returns-then-refused-ne0
-returns-then-refused-ne0 c =
+pub returns-in_err-search_refusal : goal.returns-in_err-search_refusal
+returns-in_err-search_refusal c =
     let a = c.args in
     let p : Problem = a.problem in
     let lent : Lent = lent_of a.simplexes.now a.iterations.now a.stopped.now a.ready.now a.table.now in
-    let e = refused-is a.bins.now p a.starts.now lent c.width-w.result _ c.width-w.ensures c.search_refusal-refused.ensures in
-    let answer = begun-refused a.bins.now p a.starts.now lent _ e (omega (arith, c.if-refused-ne0.true)) in
+    let e = refused-is a.bins.now p a.starts.now lent c.width-w.result _ c.width-w.ensures
+    c.in_err-search_refusal.ensures in
+    let some = refusal_numbered c.in_err-search_refusal.field-0.0 in
+    let answer = begun-refused a.bins.now p a.starts.now lent _ e some in
     record {
-      result_value = answer;
+      result_value = handed_on _ _ c.from_residual.ensures.1 ∙ answer;
       simplexes_after = ap
           (λ (x : Reply ℕ). on_give x
           (simplexes_begun (price_of a.bins.now p (length a.table.now)) (size_of p) a.starts.now (runs_in p a.starts.now) a.simplexes.now)
@@ -71,7 +77,7 @@ begin_all-requires c =
     let e : c.width-w.result ≡ width_of p = c.width-w.ensures in
     let d : c.width-w.result - 1 ≡ size_of p = long-is p _ e in
     let none : 0 ≡ first_test a.bins.now p a.starts.now lent =
-    sym c.if-refused-ne0.false ∙ refused-is a.bins.now p a.starts.now lent c.width-w.result _ e c.search_refusal-refused.ensures in
+    refused-is a.bins.now p a.starts.now lent c.width-w.result _ e c.in_ok-search_refusal.ensures in
     let t : SearchPassed a.bins.now p (runs_in p a.starts.now) (ragged p a.starts.now) lent = search-passed _ _ _ _ _ none in
     let n : ℕ = length a.starts.now in
     let size : n / (c.width-w.result - 1) * (c.width-w.result * c.width-w.result) ≡ n / size_of p * (width_of p * width_of p) =
@@ -85,7 +91,19 @@ begin_all-requires c =
       rw d t.each-run.stopped-room,
     )
 
+pub returns-in_err-prepare_window : goal.returns-in_err-prepare_window
+returns-in_err-prepare_window c =
+    let a = c.args in
+    let p : Problem = a.problem in
+    let lent : Lent = lent_of a.simplexes.now a.iterations.now a.stopped.now a.ready.now a.table.now in
+    let none = refused-is a.bins.now p a.starts.now lent c.width-w.result _ c.width-w.ensures
+    c.in_ok-search_refusal.ensures in
+    let t : SearchPassed a.bins.now p (runs_in p a.starts.now) (ragged p a.starts.now) lent = search-passed _ _ _ _ _ none in
+    absurd (always-prepared p.window_end a.ready.now t.end-some t.end-few t.ready-room _
+    c.in_err-prepare_window.ensures.result_value)
+
 pub returns : goal.returns
+unfolding price_in
 returns c =
     let a = c.args in
     let p : Problem = a.problem in
@@ -93,7 +111,7 @@ returns c =
     let e : c.width-w.result ≡ width_of p = c.width-w.ensures in
     let d : c.width-w.result - 1 ≡ size_of p = long-is p _ e in
     let none : 0 ≡ first_test a.bins.now p a.starts.now lent =
-    sym c.if-refused-ne0.false ∙ refused-is a.bins.now p a.starts.now lent c.width-w.result _ e c.search_refusal-refused.ensures in
+    refused-is a.bins.now p a.starts.now lent c.width-w.result _ e c.in_ok-search_refusal.ensures in
     let t : SearchPassed a.bins.now p (runs_in p a.starts.now) (ragged p a.starts.now) lent = search-passed _ _ _ _ _ none in
     let X : List Float = a.starts.now in
     let n : ℕ = length X in
@@ -114,6 +132,5 @@ returns c =
       stopped_after = k.ensures.stopped_after ∙ (λ j. stopped_begun (n / d j) a.stopped.now)
           ∙ ap (λ (x : Reply ℕ). on_give x (stopped_begun (runs_in p X) a.stopped.now) a.stopped.now) answer;
       ready_after = c.prepare_window.ensures.out_after ∙ ap (λ (x : Reply ℕ). ready_after p x a.ready.now) answer;
-      table_unchanged = subst (λ (x : Reply ℕ). drop (stood_from p x) k.new.table ≡ drop (stood_from p x) a.table.now) answer
-          k.ensures.table_unchanged;
+      table_unchanged = search (rules, stands-last k.ensures.kept (runs_in p X) _ answer);
     }

@@ -7,9 +7,9 @@ use Rattle.search.proofs.firsts.first_point.Goals as goal
 pub returns-then-i-eq0 : goal.returns-then-i-eq0
 returns-then-i-eq0 c =
     let a = c.args in
-    c.copy.ensures ∙ first-same a.start.now a.i (omega arith)
+    c.copy_from_slice.ensures.after ∙ first-same a.start.now a.i (omega arith)
 
 pub returns : goal.returns
 returns c =
     let a = c.args in
-    rw c.copy.ensures (first-other a.start.now a.i (omega arith))
+    rw c.copy_from_slice.ensures.after (first-other a.start.now a.i (omega arith))

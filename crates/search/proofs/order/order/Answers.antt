@@ -1,50 +1,39 @@
--- `search::order::order` meets its contract. The loop's invariant: the rows from i on are in order, those before stand as
--- they stood. Assumes nothing.
-use Prim.Native.Nat.{◌+◌, ◌-◌}
-use mathlib.Core.Path.{◌≡◌, refl, ap, ◌∙◌}
+-- `search::order::order` meets its contract. Assumes nothing.
+use Prim.Native.Nat.{ℕ, ◌+◌, ◌-◌}
+use mathlib.Core.Path.{◌≡◌, ap, ◌∙◌}
 use mathlib.Core.List.{List}
-use native.Mathlib.Nat.{le_refl, le_of_eq}
+use native.Mathlib.Nat.{le_of_eq}
 use native.Mathlib.Omega.{arith}
-use Rattle.search.specs.Vertices.{Vertex, rows_in}
+use Rattle.search.specs.Simplex.{vertices_in}
+use Rattle.search.specs.Vertices.{Vertex}
 use Rattle.search.proofs.Ordering.{sunk, ordered_from, none-ordered, one-more-ordered, all-ordered}
-use Rattle.search.proofs.RowLaws.{rows-length}
+use Rattle.search.proofs.SameSimplex.{vertices-length, none-changed, same-then}
 use Rattle.search.proofs.order.order.Goals as goal
 
 pub loop-i-init : goal.loop-i-init
 loop-i-init c =
-    let a = c.args in
-    let w = a.w in
-    (le_refl w, refl, none-ordered (rows_in w w a.rows.now) w (le_of_eq (rows-length w w a.rows.now)))
-
-pub overflow_sub-i : goal.overflow_sub-i
-overflow_sub-i c = omega arith
-
-pub sink-requires : goal.sink-requires
-sink-requires c = (c.loop-i.invariant.1 ∙ c.requires.0, c.requires.1, omega arith)
-
-pub loop-i-smaller : goal.loop-i-smaller
-loop-i-smaller c = omega arith
+    let s = c.args.simplex.now in
+    record { same = none-changed; state = none-ordered (vertices_in s) s.w (le_of_eq (vertices-length s)) }
 
 pub loop-i-preserved : goal.loop-i-preserved
 unfolding sunk
 loop-i-preserved c =
-    let a = c.args in
-    let vs = rows_in a.w a.w a.rows.now in
-    let j = c.loop-i.i - 1 in
-    let e : c.loop-i.i ≡ j + 1 = omega arith in (
-      omega arith,
-      c.sink.auto.rows ∙ c.loop-i.invariant.1,
-      c.sink.ensures
-          ∙ ap (λ (us : List Vertex). sunk us j) (c.loop-i.invariant.2 ∙ ap (ordered_from vs) e)
-          ∙ one-more-ordered vs j (rw rows-length (omega arith)),
-    )
-
-pub shape_of-rows : goal.shape_of-rows
-shape_of-rows c = c.loop-i.invariant.1
+    let s = c.args.simplex.now in
+    let vs : List Vertex = vertices_in s in
+    let j : ℕ = c.loop-i.i - 1 in
+    let e : c.loop-i.i ≡ j + 1 = omega arith in
+    record {
+      same = same-then c.loop-i.invariant.same c.sink.ensures.same;
+      state = c.sink.ensures.vertices_after
+          ∙ ap (λ (us : List Vertex). sunk us j) (c.loop-i.invariant.state ∙ ap (ordered_from vs) e)
+          ∙ one-more-ordered vs j (omega (arith, vertices-length s));
+    }
 
 pub returns : goal.returns
 returns c =
-    let a = c.args in
-    let vs = rows_in a.w a.w a.rows.now in
+    let vs : List Vertex = vertices_in c.args.simplex.now in
     let e : c.loop-i.i ≡ 0 = omega arith in
-    c.loop-i.invariant.2 ∙ ap (ordered_from vs) e ∙ all-ordered vs
+    record {
+      vertices_after = c.loop-i.invariant.state ∙ ap (ordered_from vs) e ∙ all-ordered vs;
+      same = c.loop-i.invariant.same;
+    }

@@ -10,26 +10,8 @@ use Rattle.search.proofs.points.move_point.Goals as goal
 pub loop-j-init : goal.loop-j-init
 loop-j-init c = begins _ _ _
 
-pub bounds-point-j : goal.bounds-point-j
-bounds-point-j c = omega arith
-
-pub bounds-other-j : goal.bounds-other-j
-bounds-other-j c = omega arith
-
-pub bounds-point-j-in-loop-j : goal.bounds-point-j-in-loop-j
-bounds-point-j-in-loop-j c = omega arith
-
-pub overflow_add-j : goal.overflow_add-j
-overflow_add-j c = omega arith
-
-pub loop-j-smaller : goal.loop-j-smaller
-loop-j-smaller c = omega arith
-
 pub loop-j-preserved : goal.loop-j-preserved
 loop-j-preserved c = goes_on _ _ _ c.loop-j.invariant _ (omega arith) c.moved_by.ensures
-
-pub shape_of-point : goal.shape_of-point
-shape_of-point c = c.loop-j.invariant.long
 
 pub returns : goal.returns
 returns c =

@@ -1,5 +1,5 @@
 -- The row so far is the cheapest of those passed.
-use Prim.Native.Nat.{◌-◌, ◌<◌}
+use Prim.Native.Nat.{◌<◌}
 use Rattle.meaning.proofs.Loops.{Folded}
 use Rattle.search.specs.Vertices.{rows_in}
 use Rattle.search.proofs.Reported.{lesser}
@@ -7,6 +7,3 @@ use Rattle.search.proofs.reporting.least_row.Given as goal
 
 abbrev pub invariant-loop-i : goal.invariant-loop-i
 invariant-loop-i l = Folded (lesser (rows_in l.w l.w l.rows)) 0 1 l.w l.least l.i × (l.least < l.w)
-
-abbrev pub decreases-loop-i : goal.decreases-loop-i
-decreases-loop-i l = l.w - l.i

@@ -7,7 +7,8 @@ use lib.ListN.{get_or}
 use Rattle.meaning.specs.Flags.{byte_of}
 use Rattle.meaning.specs.Over.{over}
 use Rattle.search.specs.Lists.{list_of}
-use Rattle.search.specs.Reporting.{found_of, found_at}
+use Rattle.search.specs.Reporting.{found_of}
+use Rattle.search.specs.Tables.{found_in}
 use Rattle.search.specs.Vertices.{rows_in}
 use Rattle.search.specs.declared.reporting.Found.{Found}
 use Rattle.search.proofs.Elements.{Passed, goes_on}
@@ -22,11 +23,11 @@ loop-i-preserved c =
     let i : ℕ = c.loop-i.i in
     let h : i < a.runs = omega arith in
     let square : ℕ = a.w * a.w in
-    let rows = row-lent square a.runs a.simplexes.now i (i * square) refl h in
+    let rows = row-lent square a.runs a.stored.now.simplexes.now i (i * square) refl h in
     let stopped = c.is_set.ensures in
-    let e : c.find-found.result ≡ found_at a.w a.cap a.runs a.simplexes.now a.iterations.now a.stopped.now i =
+    let e : c.find-found.result ≡ found_in a.w a.cap a.runs a.stored.now i =
     c.find-found.ensures
-    ∙ (λ j. found_of a.w a.cap (rows_in a.w a.w (rows j)) (i * square) (get_or a.iterations.now i 0) (stopped j)) in
+    ∙ (λ j. found_of a.w a.cap (rows_in a.w a.w (rows j)) (i * square) (get_or a.stored.now.iterations.now i 0) (stopped j)) in
     record {
       upto = omega arith;
       converged = goes_on _ _ _ inv.converged _ (omega arith) (c.byte_of.ensures ∙ ap (λ (f : Found). byte_of f.converged) e);
@@ -34,6 +35,13 @@ loop-i-preserved c =
       places = goes_on _ _ _ inv.places _ (omega arith) (ap (λ (f : Found). f.place) e);
       lengths = goes_on _ _ _ inv.lengths _ (omega arith) refl;
       caps = goes_on _ _ _ inv.caps _ (omega arith) (c.byte_of-in-loop-i.ensures ∙ ap (λ (f : Found). byte_of f.hit_cap) e);
+      lent = record {
+        converged = inv.lent.converged;
+        costs = inv.lent.costs;
+        places = inv.lent.places;
+        lengths = inv.lent.lengths;
+        caps = inv.lent.caps;
+      };
     }
 
 -- the loop ends at the last run

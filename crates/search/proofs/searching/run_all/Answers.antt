@@ -9,7 +9,7 @@ use borrow.Rule.Slice.PartMut.{mid_of}
 use Rattle.meaning.specs.Flags.{is_set, byte_of}
 use Rattle.meaning.specs.Over.{over}
 use Rattle.search.specs.Lists.{list_of}
-use Rattle.search.specs.Prices.{ready_price_of}
+use Rattle.search.specs.Priced.{price_in}
 use Rattle.search.specs.Progress.{state_of}
 use Rattle.search.specs.Searches.{after_at, simplexes_after, iterations_after, stopped_after}
 use Rattle.search.specs.Turns.{State, turns_of}
@@ -18,6 +18,7 @@ use Rattle.search.specs.declared.turns.Progress.{Progress}
 use Rattle.search.proofs.Blocks.{upto, as-found, goes_on, ends}
 use Rattle.search.proofs.Elements as each
 use Rattle.search.proofs.Fronts.{done-front}
+use Rattle.search.proofs.PricesKept.{kept-then}
 use Rattle.search.proofs.RowLaws.{row-length}
 use Rattle.search.proofs.Searched.{block-is, turned}
 use Rattle.search.proofs.searching.run_all.Goals as goal
@@ -29,9 +30,9 @@ loop-i-preserved c =
     let inv = c.loop-i.invariant in
     let h : i < a.runs = c.loop-i-test.true in
     let size : ℕ = a.w * a.w in
-    let price : ℕ → List Float → Float = λ (n : ℕ). ready_price_of a.bins.now a.problem a.ready.now n in
+    let cost : List Float → Float = price_in a.prices.now in
     let after : ℕ → State =
-    after_at a.w a.simplexes.now a.iterations.now a.stopped.now a.runs (price (length a.table.now)) a.cap a.limit in
+    after_at a.w a.simplexes.now a.iterations.now a.stopped.now a.runs cost a.cap a.limit in
     let rows_of : ℕ → List Float = λ (j : ℕ). flat (after j).vertices in
     let room : a.runs * size ≤ length a.simplexes.now = c.requires.4 in
     let lent : List Float = mid_of (i * size) (i * size + size - i * size) c.loop-i.simplexes in
@@ -42,13 +43,12 @@ loop-i-preserved c =
     let q = c.is_set in
     let from : Progress = record { iterations = get_or c.loop-i.iterations i 0; stopped = q.result } in
     let e : state_of a.w k.new.rows k.result ≡ after i =
-    turned a.w a.simplexes.now a.iterations.now a.stopped.now a.runs (price (length a.table.now)) a.cap a.limit i _ _ _ _
+    turned a.w a.simplexes.now a.iterations.now a.stopped.now a.runs cost a.cap a.limit i _ _ _ _
     found (inv.counts.left i (omega arith)) (q.ensures ∙ ap is_set (inv.ends.left i (omega arith)))
-    (k.ensures.result_after ∙ ap (λ (n : ℕ). turns_of (price n) a.cap a.limit (state_of a.w lent from)) inv.room) in
+    (k.ensures.result_after ∙ ap (λ (f : List Float → Float). turns_of f a.cap a.limit (state_of a.w lent from)) inv.kept.prices) in
     let full : length k.new.rows ≡ size = k.auto.rows ∙ found-long in
     record {
-      room = k.auto.table ∙ inv.room;
-      stands = k.ensures.table_unchanged ∙ inv.stands;
+      kept = kept-then inv.kept k.ensures.kept;
       rows = goes_on size a.runs rows_of a.simplexes.now c.loop-i.simplexes i inv.rows room h _ full
           (block-is a.w _ _ full (ap (λ (x : State). x.vertices) e));
       counts = each.goes_on _ _ _ inv.counts _ (omega (arith, c.requires.5)) (ap (λ (x : State). x.iterations) e);
@@ -62,7 +62,7 @@ returns-clause-simplexes_after c =
     let a = c.args in
     let after : ℕ → State =
     after_at a.w a.simplexes.now a.iterations.now a.stopped.now a.runs
-    (ready_price_of a.bins.now a.problem a.ready.now (length a.table.now)) a.cap a.limit in
+    (price_in a.prices.now) a.cap a.limit in
     ends (a.w * a.w) a.runs (λ (j : ℕ). flat (after j).vertices) a.simplexes.now c.loop-i.simplexes c.loop-i.i
     c.loop-i.invariant.rows c.requires.4 c.loop-i-test.false
 
@@ -79,7 +79,7 @@ returns-clause-iterations_after c =
     let a = c.args in
     let after : ℕ → State =
     after_at a.w a.simplexes.now a.iterations.now a.stopped.now a.runs
-    (ready_price_of a.bins.now a.problem a.ready.now (length a.table.now)) a.cap a.limit in
+    (price_in a.prices.now) a.cap a.limit in
     let u : c.loop-i.i ≤ a.runs =
     upto (a.w * a.w) a.runs (λ (j : ℕ). flat (after j).vertices) a.simplexes.now c.loop-i.simplexes c.loop-i.i
     c.loop-i.invariant.rows in
@@ -92,7 +92,7 @@ returns-clause-stopped_after c =
     let a = c.args in
     let after : ℕ → State =
     after_at a.w a.simplexes.now a.iterations.now a.stopped.now a.runs
-    (ready_price_of a.bins.now a.problem a.ready.now (length a.table.now)) a.cap a.limit in
+    (price_in a.prices.now) a.cap a.limit in
     let u : c.loop-i.i ≤ a.runs =
     upto (a.w * a.w) a.runs (λ (j : ℕ). flat (after j).vertices) a.simplexes.now c.loop-i.simplexes c.loop-i.i
     c.loop-i.invariant.rows in

@@ -1,9 +1,7 @@
 -- The runs before i have gone on, the others are as found.
-use Prim.Native.Nat.{ℕ, ◌-◌, ◌*◌}
-use mathlib.Core.Path.{◌≡◌}
-use lib.ListN.{length, drop}
+use Prim.Native.Nat.{ℕ, ◌*◌}
 use Rattle.meaning.specs.Flags.{byte_of}
-use Rattle.search.specs.Prices.{ready_price_of, stands_from}
+use Rattle.search.specs.Priced.{price_in, IsKept}
 use Rattle.search.specs.Searches.{after_at}
 use Rattle.search.specs.Turns.{State}
 use Rattle.search.specs.Vertices.{flat}
@@ -15,14 +13,10 @@ abbrev pub invariant-loop-i : goal.invariant-loop-i
 invariant-loop-i l =
     let after : ℕ → State =
     after_at l.w l.initial.simplexes l.initial.iterations l.initial.stopped l.runs
-    (ready_price_of l.bins l.problem l.ready (length l.initial.table)) l.cap l.limit in
+    (price_in l.initial.prices) l.cap l.limit in
     record {
-      room : length l.table ≡ length l.initial.table;
-      stands : drop (stands_from l.problem) l.table ≡ drop (stands_from l.problem) l.initial.table;
+      kept : IsKept l.initial.prices l.prices;
       rows : Blocks (l.w * l.w) l.runs (λ (j : ℕ). flat (after j).vertices) l.initial.simplexes l.simplexes l.i;
       counts : each.Passed (λ (j x : ℕ). (after j).iterations) 0 l.initial.iterations l.iterations l.i;
       ends : each.Passed (λ (j x : ℕ). byte_of (after j).stopped) 0 l.initial.stopped l.stopped l.i;
     }
-
-abbrev pub decreases-loop-i : goal.decreases-loop-i
-decreases-loop-i l = l.runs - l.i

@@ -1,20 +1,24 @@
 -- `search::searching::run_searches` meets its contract: each `return` is what the chain answers, and the slices hold what
 -- the runs come to by `cost` itself. Assumes nothing.
 use Prim.Native.Nat.{ℕ, ◌≤◌, ◌<◌}
-use mathlib.Core.Path.{◌≡◌, refl, sym, ap, subst, ◌∙◌}
+use mathlib.Core.Path.{◌≡◌, refl, ap, ◌∙◌}
 use mathlib.Core.Bool.{false}
 use mathlib.Core.List.{List}
 use native.Mathlib.Omega.{arith}
-use lib.ListN.{length, drop}
+use lib.ListN.{length}
 use lib.Ieee.{Float}
 use Rattle.meaning.specs.Lent.{on_give}
 use Rattle.meaning.specs.Reply.{Reply, give}
+use Rattle.search.specs.Priced.{price_in}
+use Rattle.meaning.proofs.Says.{handed_on, refusal_numbered}
 use Rattle.search.specs.Prices.{ready_price_of, price_of, cap_of, width_of}
-use Rattle.search.specs.Searches.{simplexes_after, iterations_after, stopped_after, lent_of, stood_from, ready_after}
+use Rattle.search.specs.Searches.{simplexes_after, iterations_after, stopped_after, lent_of, ready_after}
 use Rattle.search.specs.Searches.{run_searches_of}
 use Rattle.models.specs.declared.problems.Problem.{Problem}
 use Rattle.search.specs.declared.refusing.Lent.{Lent}
-use Rattle.search.proofs.ReadyPrices.{ready-is-cost}
+use borrow.Author.Rules.{rules}
+use Rattle.search.proofs.PricesKept.{stands-last}
+use Rattle.search.proofs.ReadyPrices.{ready-is-cost, always-prepared}
 use Rattle.search.proofs.SearchPassed.{SearchPassed, search-passed}
 use Rattle.search.proofs.Searched.{runs-refused, runs-given, cap-few}
 use Rattle.search.proofs.Widths.{few-wide, some-wide}
@@ -33,15 +37,16 @@ module _ (p : Problem) (runs limit : ℕ) (price : List Float → Float) (simple
   abbrev ends_by : Reply ℕ → List ℕ
   ends_by x = on_give x (stopped_after (width_of p) simplexes iterations stopped runs price (cap_of p.genome) limit) stopped
 
-pub returns-then-refused-ne0 : goal.returns-then-refused-ne0
-returns-then-refused-ne0 c =
+pub returns-in_err-search_refusal : goal.returns-in_err-search_refusal
+returns-in_err-search_refusal c =
     let a = c.args in
     let p : Problem = a.problem in
     let price : List Float → Float = price_of a.bins.now p (length a.table.now) in
     let lent : Lent = lent_of a.simplexes.now a.iterations.now a.stopped.now a.ready.now a.table.now in
-    let answer = runs-refused a.bins.now p a.runs lent _ c.search_refusal-refused.ensures (omega (arith, c.if-refused-ne0.true)) in
+    let some = refusal_numbered c.in_err-search_refusal.field-0.0 in
+    let answer = runs-refused a.bins.now p a.runs lent _ c.in_err-search_refusal.ensures some in
     record {
-      result_value = answer;
+      result_value = handed_on _ _ c.from_residual.ensures.1 ∙ answer;
       simplexes_after = ap (rows_by p a.runs a.limit price a.simplexes.now a.iterations.now a.stopped.now) answer;
       iterations_after = ap (counts_by p a.runs a.limit price a.simplexes.now a.iterations.now a.stopped.now) answer;
       stopped_after = ap (ends_by p a.runs a.limit price a.simplexes.now a.iterations.now a.stopped.now) answer;
@@ -62,7 +67,7 @@ run_all-requires c =
     let p : Problem = a.problem in
     let lent : Lent = lent_of a.simplexes.now a.iterations.now a.stopped.now a.ready.now a.table.now in
     let t : SearchPassed a.bins.now p a.runs false lent =
-    search-passed _ _ _ _ _ (sym c.if-refused-ne0.false ∙ c.search_refusal-refused.ensures) in
+    search-passed _ _ _ _ _ c.in_ok-search_refusal.ensures in
     let e : c.width-w.result ≡ width_of p = c.width-w.ensures in (
       rw e (more p),
       rw e (wide p),
@@ -73,13 +78,23 @@ run_all-requires c =
       t.each-run.stopped-room,
     )
 
+pub returns-in_err-prepare_window : goal.returns-in_err-prepare_window
+returns-in_err-prepare_window c =
+    let a = c.args in
+    let p : Problem = a.problem in
+    let lent : Lent = lent_of a.simplexes.now a.iterations.now a.stopped.now a.ready.now a.table.now in
+    let t : SearchPassed a.bins.now p a.runs false lent = search-passed _ _ _ _ _ c.in_ok-search_refusal.ensures in
+    absurd (always-prepared p.window_end a.ready.now t.end-some t.end-few t.ready-room _
+    c.in_err-prepare_window.ensures.result_value)
+
 pub returns : goal.returns
+unfolding price_in
 returns c =
     let a = c.args in
     let p : Problem = a.problem in
     let price : List Float → Float = price_of a.bins.now p (length a.table.now) in
     let lent : Lent = lent_of a.simplexes.now a.iterations.now a.stopped.now a.ready.now a.table.now in
-    let none = sym c.if-refused-ne0.false ∙ c.search_refusal-refused.ensures in
+    let none = c.in_ok-search_refusal.ensures in
     let t : SearchPassed a.bins.now p a.runs false lent = search-passed _ _ _ _ _ none in
     let X : List Float = a.simplexes.now in
     let I : List ℕ = a.iterations.now in
@@ -100,6 +115,5 @@ returns c =
       stopped_after = k.ensures.stopped_after ∙ (λ j. stopped_after (ew j) X I S a.runs (ep j) (ec j) a.limit)
           ∙ ap (ends_by p a.runs a.limit price X I S) answer;
       ready_after = c.prepare_window.ensures.out_after ∙ ap (λ (x : Reply ℕ). ready_after p x a.ready.now) answer;
-      table_unchanged = subst (λ (x : Reply ℕ). drop (stood_from p x) k.new.table ≡ drop (stood_from p x) a.table.now) answer
-          k.ensures.table_unchanged;
+      table_unchanged = search (rules, stands-last k.ensures.kept a.runs _ answer);
     }

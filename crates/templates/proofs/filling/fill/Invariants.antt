@@ -1,7 +1,7 @@
 -- `templates::filling::fill` meets its contract. Assumes nothing.
-use Prim.Native.Nat.{ℕ, ◌-◌, ◌≤◌}
+use Prim.Native.Nat.{ℕ}
 use mathlib.Core.List.{List}
-use lib.ListN.{length, drop}
+use lib.ListN.{drop}
 use Rattle.templates.specs.Filling.{text_from, filled_of}
 use Rattle.templates.specs.declared.filling.State.{State}
 use Rattle.templates.proofs.Cuts.{Putting}
@@ -11,9 +11,6 @@ use Rattle.templates.proofs.filling.fill.Given as goal
 abbrev pub ToCome : (at : ℕ) (template values out₀ : List ℕ) (end : ℕ) (s : State) (rest out : List ℕ) → Type 0
 ToCome at template values out₀ end s rest out = Putting at (filled_of template values) out₀ end (text_from values s rest) out
 
-abbrev pub invariant-loop-k : goal.invariant-loop-k
-invariant-loop-k l =
-    (l.k ≤ length l.template) × ToCome l.at l.template l.values l.initial.out l.end l.s (drop l.k l.template) l.out
-
-abbrev pub decreases-loop-k : goal.decreases-loop-k
-decreases-loop-k l = length l.template - l.k
+abbrev pub invariant-loop-c : goal.invariant-loop-c
+invariant-loop-c l =
+    ToCome l.at l.template l.values l.initial.out l.end l.s (drop l.c-index l.template) l.out

@@ -1,11 +1,7 @@
 -- `templates::puts::put_text` meets its contract. Assumes nothing.
 use Rattle.templates.proofs.Cuts.{Putting}
-use lib.ListN.{length, drop}
-use Prim.Native.Nat.{◌-◌, ◌≤◌}
+use lib.ListN.{drop}
 use Rattle.templates.proofs.puts.put_text.Given as goal
 
-abbrev pub invariant-loop-k : goal.invariant-loop-k
-invariant-loop-k l = (l.k ≤ length l.text) × Putting l.at l.text l.initial.out l.end (drop l.k l.text) l.out
-
-abbrev pub decreases-loop-k : goal.decreases-loop-k
-decreases-loop-k l = length l.text - l.k
+abbrev pub invariant-loop-byte : goal.invariant-loop-byte
+invariant-loop-byte l = Putting l.at l.text l.initial.out l.end (drop l.byte-index l.text) l.out

@@ -1,19 +1,17 @@
 -- `models::errors::ErrorParams::log_window_mass` meets its contract. Assumes nothing.
-use mathlib.Core.Path.{ap}
-use Rattle.meaning.specs.Reply.{give}
-use borrow.Author.Tests.{lt-ltb, le-ltb, eq-eqb, ne_eqb}
+use mathlib.Core.List.{[]}
+use mathlib.Core.Path.{◌∙◌}
+use Rattle.meaning.proofs.Says.{handed_on}
+use Rattle.helpers.proofs.WindowEnds.{window_refused, window_given, window_count}
 use Rattle.models.specs.Errors.{log_window_mass_of}
 use Rattle.models.proofs.errors.ErrorParams.log_window_mass.Goals as goal
 
-pub returns-then-top-gt-MOST : goal.returns-then-top-gt-MOST
+pub returns-in_err-end : goal.returns-in_err-end
 unfolding log_window_mass_of
-returns-then-top-gt-MOST c = simp (lt-ltb _ _ c.if-top-gt-MOST.true)
-
-pub returns-then-top-eq0 : goal.returns-then-top-eq0
-unfolding log_window_mass_of
-returns-then-top-eq0 c = simp (le-ltb _ _ c.if-top-gt-MOST.false, eq-eqb _ _ c.if-top-eq0.true)
+returns-in_err-end c = handed_on _ _ c.from_residual.ensures.1 ∙ window_refused _ [] _ _ c.in_err-end.ensures
 
 pub returns : goal.returns
 unfolding log_window_mass_of
 returns c =
-    simp (le-ltb _ _ c.if-top-gt-MOST.false, ne_eqb _ _ c.if-top-eq0.false) (ap give c.log_window_mass_to.ensures)
+    let given = c.in_ok-end.ensures in
+    rw (c.log_window_mass_to.ensures, c.count.ensures, window_count _ _ given) (window_given _ [] _ _ given)

@@ -1,8 +1,0 @@
--- `exports::answers::flat_count` meets its contract. Assumes nothing.
-use Rattle.exports.proofs.answers.flat_count.Goals as goal
-
-pub returns-in-Whole : goal.returns-in-Whole
-returns-in-Whole c = rw c.in-Whole.is
-
-pub returns-in-Refused : goal.returns-in-Refused
-returns-in-Refused c = rw c.in-Refused.is

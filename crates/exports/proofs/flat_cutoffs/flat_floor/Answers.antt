@@ -1,8 +1,0 @@
--- `exports::flat_cutoffs::flat_floor` meets its contract. Assumes nothing.
-use Rattle.exports.proofs.flat_cutoffs.flat_floor.Goals as goal
-
-pub returns-in-At : goal.returns-in-At
-returns-in-At c = rw c.in-At.is
-
-pub returns-in-Refused : goal.returns-in-Refused
-returns-in-Refused c = rw c.in-Refused.is

@@ -1,0 +1,59 @@
+-- `histogram::reader::read_bins` meets its contract. Assumes nothing.
+use Prim.Native.Nat.{ℕ, ◌+◌, ◌-◌, ◌≤◌}
+use mathlib.Core.Path.{◌≡◌, sym, ◌∙◌, ap}
+use mathlib.Core.List.{List, []}
+use native.Mathlib.Nat.{sub-zero}
+use native.Mathlib.Numerals.{add-one}
+use native.Mathlib.Omega.{arith}
+use lib.ListN.{take, set}
+use lib.Seq.{take-suc-set}
+use Rattle.histogram.specs.File.{bins, read_from}
+use Rattle.histogram.proofs.Steps.{all_read, trailing}
+use Rattle.histogram.proofs.Bins.{bin_fits, bin-read, bin-broken}
+use Rattle.histogram.proofs.reader.read_bins.Goals as goal
+
+pub loop-k-init : goal.loop-k-init
+loop-k-init c = rw sub-zero
+
+pub returns-in_default : goal.returns-in_default
+returns-in_default c =
+    let l = c.loop-k in
+    sym (l.invariant
+    ∙ bin-broken c.args.n l.k c.loop-k-test.true (take l.k l.held) c.args.file.now l.at l.at (sym c.in_default.ensures))
+
+pub overflow_cast-held : goal.overflow_cast-held
+overflow_cast-held c =
+    let l = c.loop-k in
+    let h = bin_fits c.args.n l.k c.loop-k-test.true [] c.args.file.now l.at _ (sym c.in-Some.ensures) in
+    omega arith
+
+pub loop-k-preserved : goal.loop-k-preserved
+loop-k-preserved c =
+    let l = c.loop-k in
+    let v = c.in-Some.bin.value in
+    l.invariant
+    ∙ bin-read c.args.n l.k c.loop-k-test.true (take l.k l.held) c.args.file.now l.at _ (sym c.in-Some.ensures)
+    ∙ ap (λ (done : List ℕ). read_from (bins (c.args.n - (l.k + 1)) done) c.args.file.now c.in-Some.bin.next)
+    (sym (take-suc-set l.held l.k v (omega arith)) ∙ ap (λ (j : ℕ). take j (set l.held l.k v)) (sym (add-one l.k)))
+
+-- the last bin is read
+ended : (n k : ℕ) (held file : List ℕ) (at : ℕ) → n ≤ k → k ≤ n
+    → read_from (bins (n - k) (take k held)) file at ≡ read_from (bins 0 (take n held)) file at
+ended n k held file at h g =
+    let e : k ≡ n = omega arith in
+    let z : n - k ≡ 0 = omega arith in
+    rw (z, e)
+
+pub returns-then-at-file : goal.returns-then-at-file
+returns-then-at-file c =
+    let a = c.args in
+    let l = c.loop-k in
+    sym (l.invariant ∙ ended a.n l.k l.held a.file.now l.at c.loop-k-test.false l.auto.k-end
+    ∙ trailing (take a.n l.held) a.file.now l.at c.if-at-file.true)
+
+pub returns : goal.returns
+returns c =
+    let a = c.args in
+    let l = c.loop-k in
+    sym (l.invariant ∙ ended a.n l.k l.held a.file.now l.at c.loop-k-test.false l.auto.k-end
+    ∙ all_read (take a.n l.held) a.file.now l.at c.if-at-file.false)

@@ -1,9 +1,0 @@
--- `models::parts::shelf_from` meets its contract. Assumes nothing.
-use borrow.Author.Tests.{eq-eqb, ne_eqb}
-use Rattle.models.proofs.parts.shelf_from.Goals as goal
-
-pub returns-then-present-eq0 : goal.returns-then-present-eq0
-returns-then-present-eq0 c = rw (eq-eqb _ _ c.if-present-eq0.true)
-
-pub returns : goal.returns
-returns c = rw (ne_eqb _ _ c.if-present-eq0.false)

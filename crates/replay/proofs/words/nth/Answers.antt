@@ -1,9 +1,0 @@
--- `replay::words::nth` meets its contract. Assumes nothing.
-use native.Mathlib.Omega.{arith}
-use Rattle.replay.proofs.words.nth.Goals as goal
-
-pub overflow_add-i : goal.overflow_add-i
-overflow_add-i c = omega arith
-
-pub loop-i-smaller : goal.loop-i-smaller
-loop-i-smaller c = omega arith

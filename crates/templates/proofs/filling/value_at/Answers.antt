@@ -1,7 +1,0 @@
--- `templates::filling::value_at` meets its contract. Assumes nothing.
-use mathlib.Core.Path.{sym}
-use lib.ListN.{get_or-eq_default}
-use Rattle.templates.proofs.filling.value_at.Goals as goal
-
-pub returns : goal.returns
-returns c = sym (get_or-eq_default c.args.values.now 0 c.if-at-values.false)
