@@ -1,5 +1,5 @@
 -- A decimal's quotient: its tests in two parts, and that it is rounded once. Assumes nothing.
-use Prim.Native.Nat.{ℕ, ◌+◌, ◌^◌, ◌≤◌}
+use Prim.Native.Nat.{ℕ, ◌+◌, ◌^◌, ◌≤◌, ◌<◌}
 use mathlib.Core.Path.{◌≡◌, refl, sym, ap, ◌∙◌}
 use mathlib.Core.Bool.{Bool, true, false, cond, ◌&&◌}
 use mathlib.Core.List.{List, ◌++◌}
@@ -14,7 +14,7 @@ use Rattle.routines.proofs.Counts.{count-over}
 use Rattle.listing.specs.Decimal.{value_of}
 use Rattle.arguments.specs.Numbers.{few, is_number, all_digits, quotient_of, read_whole_of}
 use Rattle.arguments.specs.Claims.{Number}
-use Rattle.arguments.proofs.Values.{both, digits-join, are-digits, digits_are, value-small, power_small}
+use Rattle.arguments.proofs.Values.{both, digits-join, value-join, are-digits, digits_are, value-small, power_small}
 use Rattle.std.specs.Prelude.{None, Some}
 
 pub number_is : (bytes : List ℕ) → is_number bytes ≡ true → Number bytes
@@ -32,7 +32,17 @@ pub given : {A : Type 0} (t : Bool) (y x : A) → cond t (Some y) None ≡ Some 
 given true y x e = (refl, cc)
 given false y x e = absurd (let z : ◌≡◌ {A = ℕ} 0 1 = cc in omega arith)
 
+-- 15 digits at most
+pub small : (ds : List ℕ) → all_digits ds ≡ true → length ds ≤ 15 → value_of 0 ds < 10 ^ 15
+small ds d l = value-small ds (are-digits ds d) l
+
+pub small-behind : (a b : List ℕ) → all_digits a ≡ true → all_digits b ≡ true → length a + length b ≤ 15
+    → value_of (value_of 0 a) b < 10 ^ 15
+small-behind a b d e l = rw (← value-join 0 a b) (small (a ++ b) (rw (digits-join a b, d) e) (rw length-append l))
+
 -- ---- a decimal in two parts
+pub ruleset parts = (length-append, digits-join, value-join, small, small-behind)
+
 module _ (a b : List ℕ) where
   -- its test, by the tests of the parts
   joined : {f d e : Bool} → few (length a + length b) ≡ f → all_digits a ≡ d → all_digits b ≡ e
@@ -74,10 +84,6 @@ module _ (a b : List ℕ) where
       (n, sym t.1 ∙ once n)
 
 -- ---- a whole number
-pub not-whole : (word : List ℕ) → is_number word ≡ false → read_whole_of word ≡ None
-unfolding read_whole_of
-not-whole word e = rw e
-
 pub whole_is : (word : List ℕ) → Number word → read_whole_of word ≡ Some (value_of 0 word)
 unfolding read_whole_of
 whole_is word n = rw (is-number word n)

@@ -54,6 +54,7 @@ fn is_few(count: usize) -> bool
 }
 
 // The decimal with these bytes in front of its point and these behind.
+#[tactic(auto, using(crate::proofs::Quotients::parts), unfolding(crate::specs::Numbers::quotient_of))]
 fn quotient(whole: &[u8], places: &[u8]) -> Option<f64>
     requires { length whole.now + length places.now < 2 ^ 64 }
     ensures { result ≡ quotient_of whole.now places.now }
@@ -82,6 +83,7 @@ pub fn read_decimal(word: &[u8]) -> Option<f64>
     quotient(word, &word[word.len()..])
 }
 
+#[tactic(auto, using(crate::proofs::Quotients::small), unfolding(crate::specs::Numbers::read_whole_of))]
 pub fn read_whole(word: &[u8]) -> Option<u64>
     ensures { result ≡ read_whole_of word.now }
 {

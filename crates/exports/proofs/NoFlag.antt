@@ -1,11 +1,8 @@
 -- A fit beside the flag 0 is no candidate, whatever it holds: C's attempt without one is not valid, and is passed over
 -- in the selection. Assumes nothing.
-use Prim.Native.Nat.{ℕ}
 use mathlib.Core.Path.{◌≡◌, refl}
 use mathlib.Core.Bool.{Bool, true, false, ◌&&◌}
-use Rattle.std.specs.Prelude.{Option, None, Some}
 use Rattle.fitter.specs.Attempts.{valid_of, unrejected}
-use Rattle.fitter.specs.declared.rejections.FitRejection.{FitRejection}
 use Rattle.exports.specs.FlatAttempts.{attempt_of_flat, rejection_of}
 use Rattle.exports.specs.declared.flat_attempts.FlatAttempt.{FlatAttempt}
 

@@ -1,13 +1,12 @@
 -- How C has a verdict, an attempt and the fit that is selected. Definitions only. Assumes nothing.
-use Rattle.std.specs.Prelude.{ℕ, cond, List, [], ◌∷◌, eqb, get_or, Option, None, Some, is_some, unwrap_or}
+use Rattle.std.specs.Prelude.{ℕ, cond, eqb, Option, None, Some, is_some, unwrap_or}
 use Rattle.meaning.specs.Flags.{byte_of}
 use Rattle.meaning.specs.Numbers as number
 use Rattle.meaning.specs.Reply.{Reply, refuse, broken, give}
 use Rattle.fitter.specs.Attempts.{attempt_of}
-use Rattle.fitter.specs.Validation.{Judgement, valid, rejected}
+use Rattle.fitter.specs.Validation.{Judgement, valid, rejected, reason_at}
 use Rattle.fitter.specs.declared.attempts.FitAttempt.{FitAttempt}
 use Rattle.fitter.specs.declared.rejections.FitRejection.{FitRejection}
-use Rattle.fitter.specs.declared.rejections.FitRejection.TheVariants as reason
 use Rattle.models.specs.Parts.{error_of, genome_of}
 use Rattle.models.specs.Unpacking.{empty_fit}
 use Rattle.models.specs.declared.fit.SpectrumFit.{SpectrumFit}
@@ -28,27 +27,9 @@ say_verdict (broken place) = record { number = number.broken_file; reason = 0 }
 say_verdict (give j) = record { number = 0; reason = reason_in j }
 
 -- ---- an attempt: a reason by its number, and no run converged for any number that no rule has
-abbrev pub reasons : List FitRejection
-reasons =
-    reason.OptimisationFailed
-    ∷ reason.NonFiniteLikelihood
-    ∷ reason.InvalidComponents
-    ∷ reason.InvalidWindowMass
-    ∷ reason.ComponentMassExceeded
-    ∷ reason.UnstableModeParameterisation
-    ∷ reason.GenomeLobeOutsideFitWindow
-    ∷ reason.ErrorModePastValley
-    ∷ reason.PrimaryModeOutsideBand
-    ∷ reason.RepeatModeTooEarly
-    ∷ reason.PositiveLogLikelihood
-    ∷ []
-
-abbrev pub reason_of : ℕ → FitRejection
-reason_of n = get_or reasons n reason.OptimisationFailed
-
--- 0: none; any other number: this one
+-- present 0: none; any other number: this one
 abbrev pub rejection_of : ℕ → ℕ → Option FitRejection
-rejection_of present n = cond (eqb present 0) None (Some (reason_of n))
+rejection_of present n = cond (eqb present 0) None (Some (reason_at n))
 
 abbrev pub candidate_of : ℕ → FlatFit → Option SpectrumFit
 candidate_of present f = cond (eqb present 0) None (Some (fit_of f))

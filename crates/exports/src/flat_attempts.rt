@@ -3,7 +3,7 @@ ghost use Rattle.std.specs.Prelude.{◌≡◌, [], ◌∷◌};
 ghost use Rattle.meaning.specs.Flags.{byte_of};
 ghost use Rattle.fitter.specs.Attempts.{valid_of};
 ghost use Rattle.fitter.specs.Selection.{select_of};
-ghost use Rattle.exports.specs.FlatAttempts.{reason_of, rejection_of, candidate_of, attempt_of_flat, of_selected};
+ghost use Rattle.exports.specs.FlatAttempts.{rejection_of, candidate_of, attempt_of_flat, of_selected};
 
 use crate::fits::{FlatFit, fit_of, flat_fit};
 use fitter::attempts::{FitAttempt, is_valid, make_attempt};
@@ -34,28 +34,10 @@ pub struct FlatSelected {
     pub fit: FlatFit,
 }
 
-fn reason_of(n: u8) -> FitRejection
-    ensures { result ≡ reason_of n }
-{
-    match n {
-        1 => FitRejection::NonFiniteLikelihood,
-        2 => FitRejection::InvalidComponents,
-        3 => FitRejection::InvalidWindowMass,
-        4 => FitRejection::ComponentMassExceeded,
-        5 => FitRejection::UnstableModeParameterisation,
-        6 => FitRejection::GenomeLobeOutsideFitWindow,
-        7 => FitRejection::ErrorModePastValley,
-        8 => FitRejection::PrimaryModeOutsideBand,
-        9 => FitRejection::RepeatModeTooEarly,
-        10 => FitRejection::PositiveLogLikelihood,
-        _ => FitRejection::OptimisationFailed,
-    }
-}
-
 fn rejection_of(present: u8, n: u8) -> Option<FitRejection>
     ensures { result ≡ rejection_of present n }
 {
-    (present != 0).then_some(reason_of(n))
+    (present != 0).then_some(FitRejection::from(n))
 }
 
 fn candidate_of(present: u8, fit: FlatFit) -> Option<SpectrumFit>

@@ -8,6 +8,7 @@ pub mod Writing
 pub mod Joins
 pub mod Divided
 pub mod Parts
+pub mod Pieces
 pub mod Answers
 pub mod OneTable
 pub mod NoShape

@@ -16,6 +16,7 @@ fn write_bins(bins: &[u32], used: f64, out: &mut [u32])
     requires { length bins.now ≤ length out.old }
     ensures { out.new ≡ over (recovered used bins.now) out.old }
 {
+    // out[i] and no zip with iter_mut: a proof knows nothing of what was written through it.
     for (i, bin) in bins.iter().enumerate() {
         out[i] = rounded_quotient(*bin, used);
     }

@@ -32,16 +32,18 @@ pub struct LentRun {
     pub hit_cap: u8,
 }
 
-pub(crate) fn run_of(lent: LentRun) -> Run
-    ensures { result ≡ run_from lent }
-{
-    Run {
-        converged: is_set(lent.converged),
-        cost: lent.cost,
-        place: lent.place,
-        length: lent.length,
-        iterations: lent.iterations,
-        hit_cap: is_set(lent.hit_cap),
+impl From<LentRun> for Run {
+    ghost from_gives = { λ lent run. run ≡ run_from lent };
+
+    fn from(lent: LentRun) -> Run {
+        Run {
+            converged: is_set(lent.converged),
+            cost: lent.cost,
+            place: lent.place,
+            length: lent.length,
+            iterations: lent.iterations,
+            hit_cap: is_set(lent.hit_cap),
+        }
     }
 }
 

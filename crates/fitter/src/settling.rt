@@ -146,11 +146,7 @@ pub(crate) fn settle(
 pub(crate) fn with_held(s: Settled, held: Held) -> Settled
     ensures { result ≡ with_held s held }
 {
-    Settled {
-        unsettled: s.unsettled,
-        setup: s.setup,
-        held,
-    }
+    Settled { held, ..s }
 }
 
 #[tactic(auto, unfolding(crate::specs::Settling::finish_of))]

@@ -17,9 +17,10 @@ fn mass(bins: &[u32], used: f64, from: usize, to: usize) -> f64
     ensures { result ≡ mass_of (recovered used bins.now) from to }
 {
     let end = to.min(bins.len());
+    let start = (from - 1).min(end);
     let mut total = -0.0;
-    for i in from - 1..end {
-        total += f64::from(rounded_quotient(bins[i], used));
+    for bin in &bins[start..end] {
+        total += f64::from(rounded_quotient(*bin, used));
     }
     total
 }

@@ -1,9 +1,9 @@
 // The writers of starts: each lends the rest of what it was lent to the next.
 // Ported from src/preprocessing/spectrum_fitter.rs of bacpop/sparrowhawk-asm, f1f8af1232, Apache-2.0; ported and
 // changed.
-ghost use Rattle.std.specs.Prelude.{◌≡◌, [], ◌∷◌, ◌++◌, ◌/◌, ◌<◌, ◌≤◌, length};
+ghost use Rattle.std.specs.Prelude.{◌≡◌, [], ◌∷◌, ◌++◌, ◌≤◌, length};
 ghost use Rattle.fitter.specs.Starts.{logit_of, hint_of, dispersion_start, ratio_start};
-ghost use Rattle.fitter.specs.Starts.{plain_start, shelf_list, error_start_at, shape_at, Wrote};
+ghost use Rattle.fitter.specs.Starts.{plain_start, shelf_list, Wrote};
 
 use models::families::{ErrorModel, GenomeModel};
 use models::params::{RATIO_HIGH, RATIO_LOW};
@@ -107,27 +107,6 @@ fn write_shelf(rest: &mut [f64], share: f64, shape: ShelfShape) -> usize
     put(rest, &[part, kept, narrow])
 }
 
-fn shape_at(shapes: &[f64], j: usize) -> ShelfShape
-    requires { j < length shapes.now / 2 }
-    ensures { result ≡ shape_at shapes.now j }
-{
-    ShelfShape {
-        retained: shapes[2 * j],
-        concentration: shapes[2 * j + 1],
-    }
-}
-
-fn error_start_at(table: &[f64], i: usize) -> ErrorStart
-    requires { i < length table.now / 3 }
-    ensures { result ≡ error_start_at table.now i }
-{
-    ErrorStart {
-        tail: table[3 * i],
-        single: table[3 * i + 1],
-        shape: table[3 * i + 2],
-    }
-}
-
 // What the starts of a search are written from.
 #[derive(Clone, Copy)]
 pub(crate) struct StartPlan<'a> {
@@ -163,10 +142,12 @@ impl StartPlan<'_> {
         requires { length (planned_shapes self.now seed start) ≤ length rest.old }
         ensures { Wrote (planned_shapes self.now seed start) result rest.old rest.new }
     {
-        let n = self.shapes.len() / 2;
         let mut at: usize = 0;
-        for i in 0..n {
-            let shape = shape_at(self.shapes, i);
+        for pair in self.shapes.chunks_exact(2) {
+            let shape = ShelfShape {
+                retained: pair[0],
+                concentration: pair[1],
+            };
             at += self.write_shelf_start(&mut rest[at..], seed, start, shape);
         }
         at
@@ -189,10 +170,13 @@ impl StartPlan<'_> {
         requires { length (planned_seed self.now seed) ≤ length rest.old }
         ensures { Wrote (planned_seed self.now seed) result rest.old rest.new }
     {
-        let n = self.table.len() / 3;
         let mut at: usize = 0;
-        for i in 0..n {
-            let start = error_start_at(self.table, i);
+        for row in self.table.chunks_exact(3) {
+            let start = ErrorStart {
+                tail: row[0],
+                single: row[1],
+                shape: row[2],
+            };
             at += self.write_row(&mut rest[at..], seed, start);
         }
         at

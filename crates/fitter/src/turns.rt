@@ -12,7 +12,7 @@ ghost use Rattle.fitter.specs.Turns.{turn_of, turn_stands, turned_of, unsettled_
 
 use crate::attempts::FitAttempt;
 use crate::judging::retry_run;
-use crate::runs::{LentRun, Run, run_of};
+use crate::runs::{LentRun, Run};
 use crate::settling::{Settled, attempt_refusal, finish, settle, unheld, with_held};
 use crate::surveys::{Survey, no_survey, survey_run};
 use meaning::refusals::Refusal;
@@ -141,7 +141,7 @@ pub(crate) fn turn(
     ensures table_unchanged { drop (turn_stands setup (turned_of t) (turned_of result)) table.new
         ≡ drop (turn_stands setup (turned_of t) (turned_of result)) table.old }
 {
-    let run = run_of(lent);
+    let run = Run::from(lent);
     if t.surveyed {
         return retry_turn(t, run, bins, setup, lists, table);
     }

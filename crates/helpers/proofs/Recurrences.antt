@@ -2,8 +2,7 @@
 -- before, and one over the table's entries. Assumes nothing.
 use mathlib.Core.Path.{◌≡◌, sym, ap, ◌∙◌}
 use mathlib.Core.Bool.{true}
-use mathlib.Core.Logic.{◌⊎◌, inl, inr}
-use Prim.Native.Nat.{ℕ, ◌+◌, ◌≤◌, ◌<◌}
+use Prim.Native.Nat.{ℕ, zero, suc, ◌+◌, ◌-◌, ◌≤◌, ◌<◌, min}
 use native.Mathlib.Omega.{arith}
 use mathlib.Core.List.{List}
 use lib.ListN.{length, get_or}
@@ -41,7 +40,7 @@ pub shelf-more : (table : List Float) (i : ℕ) (total total' d : Float) → 1 �
 shelf-more table i total total' d h l e p =
     p ∙ ap (lse2_of total) (get_d_any table i d (inf true) l) ∙ ap (λ (t : Float). lse2_of t (get_or table i (inf true))) e ∙ sym (fold_more (shelf_step table) 1 i (inf true) h)
 
--- with no entry to add i stays 1
-pub shelf-ends : (table : List Float) (i end : ℕ) → 1 ≤ i → (i ≡ 1) ⊎ (i ≤ end) → end ≤ i → fold (shelf_step table) 1 i (inf true) ≡ fold (shelf_step table) 1 end (inf true)
-shelf-ends table i end h (inl e) l = rw e (fold-none (shelf_step table) 1 1 (inf true) (omega arith) ∙ sym (fold-none (shelf_step table) 1 end (inf true) (omega arith)))
-shelf-ends table i end h (inr k) l = ap (λ (n : ℕ). fold (shelf_step table) 1 n (inf true)) (omega arith)
+-- as many turns as there are entries behind entry 0
+pub shelf-ends : (table : List Float) (turns end : ℕ) → turns ≡ end - min end 1 → fold (shelf_step table) 1 (turns + 1) (inf true) ≡ fold (shelf_step table) 1 end (inf true)
+shelf-ends table turns zero e = fold-none (shelf_step table) 1 (turns + 1) (inf true) (omega arith) ∙ sym (fold-none (shelf_step table) 1 0 (inf true) (omega arith))
+shelf-ends table turns (suc n) e = ap (λ (k : ℕ). fold (shelf_step table) 1 k (inf true)) (omega arith)

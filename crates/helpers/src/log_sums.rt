@@ -114,7 +114,7 @@ pub fn ln_sub_exp(high: f64, low: f64) -> f64
     if low > high {
         return f64::NAN;
     }
-    if low != low {
+    if low.is_nan() {
         return f64::NAN;
     }
     high + ln(-expm1(low - high))

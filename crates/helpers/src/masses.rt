@@ -75,8 +75,8 @@ pub(crate) fn log_shelf_mass(table: &[f64], top: u16) -> f64
 {
     let end = table.len().min((top as usize) + 1);
     let mut total = f64::NEG_INFINITY;
-    for i in 1..end {
-        total = lse2(total, table[i]);
+    for &entry in &table[end.min(1)..end] {
+        total = lse2(total, entry);
     }
     total
 }

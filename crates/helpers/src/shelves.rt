@@ -1,11 +1,13 @@
 // The shelf: a beta-binomial beside the lobe.
 // Ported from src/preprocessing/math_helpers.rs of bacpop/sparrowhawk-asm, f1f8af1232, Apache-2.0; ported and changed.
-ghost use Rattle.std.specs.Prelude.{◌≡◌, ◌+◌, ◌<◌, length};
+ghost use Rattle.std.specs.Prelude.{◌≡◌, ◌+◌, ◌<◌, true, length, get_or};
+ghost use Rattle.std.specs.Float.{inf};
 ghost use Rattle.meaning.specs.Over.{over};
 ghost use Rattle.helpers.specs.Shelves.{shelf_trials_of, ln_dbetabinom_of, table_start, table_step, table_of, last_of};
-ghost use Rattle.helpers.specs.Shelves.{shelf_log_table_of, table_after, entry_at_of, mixed, ln_single_copy_of};
+ghost use Rattle.helpers.specs.Shelves.{shelf_log_table_of, table_after, mixed, ln_single_copy_of};
 ghost use Rattle.helpers.specs.Shelves.{mix_single_copy_of};
 ghost use Rattle.helpers.specs.Hoists.{shelf_logs_of, mix_entry_of};
+ghost use Rattle.helpers.specs.Mixtures.{mix_at_of};
 ghost use Rattle.meaning.specs.Answers.{reply_of};
 
 use crate::lobes::ln_dnbinom;
@@ -79,8 +81,8 @@ fn write_table(trials: f64, alpha: f64, beta: f64, last: u16, table: &mut [f64])
     ensures { table.new ≡ over (table_of trials alpha beta (last + 1)) table.old }
 {
     let mut entry = table_start(trials, alpha, beta);
-    for x in 0..last {
-        table[x as usize] = entry;
+    for (x, place) in table[..last as usize].iter_mut().enumerate() {
+        *place = entry;
         entry = entry + table_step(trials, alpha, beta, x as f64);
     }
     table[last as usize] = entry;
@@ -129,12 +131,11 @@ pub fn ln_single_copy(count: f64, mean: f64, dispersion: f64, shelf: Option<Shel
     }
 }
 
-// The table's entry at a count, and -inf behind its end.
-pub(crate) fn entry_at(count: f64, table: &[f64]) -> f64
-    ensures { result ≡ entry_at_of count table.now }
+// The table's entry n, and -inf behind its end.
+fn entry_of(n: usize, table: &[f64]) -> f64
+    ensures { result ≡ get_or table.now n (inf true) }
 {
-    let i = to_u64(count) as usize;
-    table.get(i).copied().unwrap_or(f64::NEG_INFINITY)
+    table.get(n).copied().unwrap_or(f64::NEG_INFINITY)
 }
 
 // ln(1 - share) and ln(share), which do not change with the count; 0 and -inf where there is no shelf.
@@ -159,17 +160,32 @@ pub fn shelf_logs(shelf: Option<Shelf>) -> ShelfLogs
     }
 }
 
-// The single-copy log density from its lobe's, with the shelf's logs at hand and the shelf read from its table.
-pub fn mix_entry(lobe: f64, count: f64, shelf: Option<Shelf>, logs: ShelfLogs, table: &[f64]) -> f64
-    ensures { result ≡ mix_entry_of lobe count shelf logs table.now }
+// The single-copy log density from its lobe's, with the shelf's logs at hand and the shelf read from entry n of its
+// table.
+pub(crate) fn mix_nth(
+    lobe: f64,
+    n: usize,
+    shelf: Option<Shelf>,
+    logs: ShelfLogs,
+    table: &[f64],
+) -> f64
+    ensures { result ≡ mix_at_of lobe n shelf logs table.now }
 {
     match shelf {
         None => lobe,
         Some(_) => {
-            let entry = entry_at(count, table);
+            let entry = entry_of(n, table);
             lse2(logs.rest + lobe, logs.share + entry)
         }
     }
+}
+
+// The same at a count.
+#[tactic(auto, unfolding(crate::specs::Shelves::entry_at_of))]
+pub fn mix_entry(lobe: f64, count: f64, shelf: Option<Shelf>, logs: ShelfLogs, table: &[f64]) -> f64
+    ensures { result ≡ mix_entry_of lobe count shelf logs table.now }
+{
+    mix_nth(lobe, to_u64(count) as usize, shelf, logs, table)
 }
 
 // The single-copy log density from its lobe's, with the shelf read from its table.

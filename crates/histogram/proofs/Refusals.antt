@@ -26,3 +26,5 @@ module _ (xs : List ℕ) (room : ℕ) where
       pub writes : length (write_of xs) ≤ room → write_histogram_of xs room ≡ give (write_of xs)
       unfolding write_histogram_of
       writes h = rw (le-ltb (length xs) 2 two, le-ltb most_bins (length xs) most, le-ltb room (length (write_of xs)) h)
+
+pub ruleset answers = (too_few, too_many, too_short, writes)

@@ -4,7 +4,7 @@ use mathlib.Core.Path.{◌≡◌, refl, ap, ◌∙◌}
 use mathlib.Core.List.{List, [], ◌∷◌, ◌++◌}
 use native.Mathlib.Numerals.{add-one}
 use native.Mathlib.Omega.{arith}
-use lib.ListN.{length, get_or, drop, length-append, drop_of_length-le}
+use lib.ListN.{length, get_or, drop, length-append, length-drop, length-set, length-take, drop_of_length-le}
 use lib.Seq.{drop-cons}
 use Rattle.histogram.specs.Number.{groups_of, number_bytes, numbers_bytes}
 use Rattle.histogram.specs.File.{most_bins, write_of}
@@ -35,6 +35,8 @@ file-bytes xs = refl
 
 pub file-length : (xs : List ℕ) → length (write_of xs) ≡ 1 + length (number_bytes (length xs)) + length (numbers_bytes xs)
 file-length xs = let e = ap length (file-bytes xs) ∙ ap suc (length-append (number_bytes (length xs)) (numbers_bytes xs)) in omega arith
+
+pub ruleset lengths = (file-length, length-set, length-append, length-take, length-drop)
 
 -- ---- a bin takes five bytes at most, and the bin count two
 five : (n : ℕ) → n < 2 ^ 32 → length (number_bytes n) ≤ 5

@@ -9,7 +9,7 @@ use native.Mathlib.Omega.{arith}
 use lib.Dec.{ltb, eqb}
 use borrow.Author.Tests.{lt-ltb, le-ltb, eq-eqb, ne_eqb}
 use Rattle.histogram.proofs.Tests.{below_or}
-use Rattle.histogram.proofs.Weights.{weight-pos}
+use Rattle.histogram.proofs.Weights.{weight-pos, weight-suc, ten-groups, group-fits}
 use Rattle.histogram.specs.declared.number.Taken.{Taken}
 use Rattle.histogram.specs.declared.number.Taken.TheVariants.{More, Whole, Wrong}
 use Rattle.histogram.specs.Number.{Range, between, with_group, take_byte_of}
@@ -60,6 +60,8 @@ module _ (range : Range) (value groups byte : ℕ) where
   pub above-range : range.most < with_group value groups byte → take_byte_of range value groups byte ≡ Wrong
   unfolding take_byte_of
   above-range h = ⊎_elim (λ (l : byte < 128). rw (lt-ltb byte 128 l, lt-ltb range.most (with_group value groups byte) h, or-true)) (λ (g : 128 ≤ byte). goes-past g (omega arith)) (below_or byte 128)
+
+pub ruleset laws = (zero-behind, below-range, ends, goes-past, goes_on, above-range, weight-suc, ten-groups, group-fits)
 
 -- where no number may come, every byte is wrong
 pub none-comes : (value groups byte : ℕ) → take_byte_of (between 1 0) value groups byte ≡ Wrong

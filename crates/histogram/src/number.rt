@@ -43,6 +43,7 @@ fn tenth_byte(least: u64, most: u64, value: u64, byte: u8) -> Taken
 
 // One byte more of a number from `least` to `most`, behind groups that add up to `value`; its own group counts
 // `weight`.
+#[tactic(auto, using(crate::proofs::Takes::laws))]
 fn take_byte(least: u64, most: u64, value: u64, groups: usize, weight: u64, byte: u8) -> Taken
     requires { (weight ≡ 128 ^ groups) × (value ≤ most) }
     ensures { result ≡ take_byte_of (between least most) value groups byte }
@@ -79,6 +80,7 @@ pub fn number_at(file: &[u8], start: usize, least: u64, most: u64) -> Option<Fou
 {
     let mut value: u64 = 0;
     let mut weight: u64 = 1;
+    // By the index: a range from past the file's end is empty, where a slice of the file from there would panic.
     for i in start..file.len() {
         let taken = take_byte(least, most, value, i - start, weight, file[i]);
         let at = i + 1;

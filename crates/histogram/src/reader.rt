@@ -126,11 +126,11 @@ fn read_bins(file: &[u8], first: usize, n: usize, held: &mut [u32]) -> Result<()
     ensures { held_says n result held.new ≡ read_from (Bins n []) file.now first }
 {
     let mut at = first;
-    for k in 0..n {
+    for slot in held[..n].iter_mut() {
         let Some(bin) = bin_at(file, at) else {
             return Err(ReadError::Broken(at));
         };
-        held[k] = bin.value as u32;
+        *slot = bin.value as u32;
         at = bin.next;
     }
     if at < file.len() {

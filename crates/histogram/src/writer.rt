@@ -55,6 +55,7 @@ fn put_bins(out: &mut [u8], bins: &[u32]) -> usize
 }
 
 // The file of some bins to the front of the lent bytes, and how many bytes that is.
+#[tactic(auto, using(crate::proofs::Sizes::lengths))]
 fn put_file(out: &mut [u8], bins: &[u32]) -> usize
     requires { length (write_of bins.now) ≤ length out.old }
     ensures { (result ≡ length (write_of bins.now))
@@ -68,6 +69,7 @@ fn put_file(out: &mut [u8], bins: &[u32]) -> usize
 // The file of some bins into the first of the lent bytes; 1 for fewer than 2 bins, 2 for more than a file holds, 10
 // where the bytes are too few.
 // A refusal writes nothing, and the bytes past the file stand as found.
+#[tactic(auto, using(crate::proofs::Refusals::answers), unfolding(crate::specs::File::most_bins))]
 pub fn write_histogram(bins: &[u32], out: &mut [u8]) -> Result<usize, Refusal>
     ensures result_value { reply_of result ≡ counted (write_histogram_of bins.now (length out.old)) }
     ensures out_after { out.new

@@ -40,6 +40,7 @@ fn list(file: &[u8], text: &mut [u8]) -> usize
     match read {
         Ok(n) => list_histogram(&bins[..n], text).unwrap_or(0),
         Err(ReadError::Broken(place)) => list_refusal(place, text).unwrap_or(0),
+        // None of the three is refused; the clauses are of a number of bytes.
         Err(ReadError::Refused(_)) => 0,
     }
 }
@@ -52,7 +53,7 @@ fn show<R: Runtime>(rt: &R, file: &[u8], status: bool) {
     match put(rt, &text[..size]) {
         Ok(()) => {
             if status {
-                // `bins` or `refused`
+                // `bins` or `refused`: of what is written, the contract of `list` says the text alone.
                 tell(rt, text[0] == b'b');
             }
         }

@@ -10,7 +10,7 @@ use Rattle.histogram.proofs.Puts as Puts
 use Rattle.histogram.proofs.Puts.{Putting}
 
 module _ (xs rest b : List ℕ) (h : length (xs ++ rest) ≤ length b) where
-  pub first_fits : length xs ≤ length b
+  first_fits : length xs ≤ length b
   first_fits = let e = length-append xs rest in omega arith
 
   -- the first bytes are put
@@ -27,12 +27,6 @@ module _ (xs rest b : List ℕ) (h : length (xs ++ rest) ≤ length b) where
     -- the rest is put by a writer that is lent the rest of the memory
     to-come : Putting (xs ++ rest) b out (rest ++ []) k
     to-come = subst (λ (ys : List ℕ). Putting (xs ++ rest) b out ys k) (sym (append-nil rest)) starts
-
-    pub fits : k + length rest ≤ length out
-    fits = Puts.fits (xs ++ rest) b out k rest [] to-come h
-
-    pub room : length rest ≤ length (take (length out - k) (drop k out))
-    room = Puts.room (xs ++ rest) b out k rest [] to-come h
 
     pub puts-rest : (ys : List ℕ) (j : ℕ) → j ≡ length rest → ys ≡ over rest (take (length out - k) (drop k out))
         → (k + j ≡ length (xs ++ rest)) × (take k out ++ (ys ++ drop (length out - k) (drop k out)) ≡ over (xs ++ rest) b)

@@ -2,11 +2,13 @@
 use Prim.Native.Nat.{ℕ, ◌≤◌, ◌<◌}
 use mathlib.Core.Path.{◌≡◌}
 use mathlib.Core.List.{List}
-use lib.ListN.{length}
+use lib.ListN.{length, length-append}
 use borrow.Author.Tests.{lt-ltb, le-ltb}
 use Rattle.meaning.specs.Reply.{refuse, give}
 use Rattle.meaning.specs.Rows.{most as limit}
 use Rattle.listing.specs.Listing.{listing_of, refusal_of, list_histogram_of, list_refusal_of}
+use Rattle.listing.proofs.Decimals.{twenty}
+use Rattle.listing.proofs.Lines.{line-length}
 
 module _ (place room : ℕ) where
   pub no-room-for-line : room < length (refusal_of place) → list_refusal_of place room ≡ refuse 10
@@ -35,3 +37,7 @@ module _ (xs : List ℕ) (room : ℕ) where
       pub lists : length (listing_of xs) ≤ room → list_histogram_of xs room ≡ give (listing_of xs)
       unfolding list_histogram_of
       lists h = rw (le-ltb (length xs) 2 two, le-ltb limit (length xs) most, le-ltb room (length (listing_of xs)) h)
+
+pub ruleset refusals = (no-room-for-line, line-written, line-length, twenty)
+
+pub ruleset answers = (too_few, too_many, too_short, lists, line-length, length-append, twenty)

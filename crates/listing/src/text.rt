@@ -117,6 +117,7 @@ fn rows_size(bins: &[u32]) -> usize
 // The listing of some bins into the first of the lent bytes; 1 for fewer than 2 bins, 2 for more than 65,535, 10 where
 // the bytes are too few.
 // A refusal writes nothing, and the bytes past the listing stand as found.
+#[tactic(auto, using(crate::proofs::Refusals::answers), unfolding(crate::specs::Listing::listing_of))]
 pub fn list_histogram(bins: &[u32], out: &mut [u8]) -> Result<usize, Refusal>
     ensures result_value { reply_of result ≡ counted (list_histogram_of bins.now (length out.old)) }
     ensures out_after { out.new
@@ -138,6 +139,7 @@ pub fn list_histogram(bins: &[u32], out: &mut [u8]) -> Result<usize, Refusal>
 
 // The line for a file that is refused at a place, into the first of the lent bytes; 10 where they are too few.
 // A refusal writes nothing, and the bytes past the line stand as found.
+#[tactic(auto, using(crate::proofs::Refusals::refusals), unfolding(crate::specs::Listing::refusal_of))]
 pub fn list_refusal(place: usize, out: &mut [u8]) -> Result<usize, Refusal>
     ensures result_value { reply_of result ≡ counted (list_refusal_of place (length out.old)) }
     ensures out_after { out.new ≡ laid (list_refusal_of place (length out.old)) out.old }

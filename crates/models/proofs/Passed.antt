@@ -2,14 +2,15 @@
 -- Assumes nothing.
 use Prim.Native.Nat.{ℕ, ◌≤◌, ◌<◌}
 use mathlib.Core.Path.{◌≡◌, refl, sym, ap, ◌∙◌}
-use mathlib.Core.Bool.{false}
+use mathlib.Core.Bool.{true, false}
 use mathlib.Core.List.{List, [], ◌∷◌}
 use native.Mathlib.Omega.{arith}
 use lib.ListN.{length}
 use lib.Ieee.{Float}
-use Rattle.meaning.specs.Reply.{Reply, refuse, give, Test, chain, first_of}
+use Rattle.meaning.specs.Reply.{Reply, refuse, give, Test, test, chain, first_of}
 use Rattle.meaning.specs.Rows.{most, in_order, below_two, above_most, outside}
-use Rattle.meaning.proofs.Chains.{parts, chain-refused, chain-passed}
+use Rattle.meaning.proofs.Chains.{parts, chain-refused, chain-passed, gave-passed}
+use Rattle.meaning.proofs.Replies.{answer-not-refused, same_number, gave-answer}
 use Rattle.meaning.proofs.Rows.{test-passed, above-most-passed, outside-passed, too-short-passed}
 use Rattle.routines.specs.Ops.{of_count}
 use Rattle.models.specs.Costs.{cost_with, table_with, cost_at, table_at, cost_of, cost_table}
@@ -68,13 +69,33 @@ passed bins scale end peak error genome listed room z =
       roomed = too-short-passed room (table_demand genome end) lists.1;
     }
 
--- ---- what cost answers
+-- a chain that refused gives its number
+number-refused : (end : ℕ) (ts : List Test) (n : ℕ) → refuse n ≡ chain ts (give end) → n ≡ first_of ts
+number-refused end [] n e = absurd (answer-not-refused (sym e))
+number-refused end (test true m ∷ ts) n e = same_number e
+number-refused end (test false m ∷ ts) n e = number-refused end ts n e
+
+-- ---- what cost answers; `top` is the window end that came back
 module _ (bins : List ℕ) (scale : Float) (end peak : ℕ) (error : ErrorModel) (genome : GenomeModel) (list : List Float) where
   abbrev tests : ℕ → List Test
   tests room = fit_tests bins scale end peak error genome (length list) room
 
   abbrev p : Params
   p = params_of error genome (of_count peak) list
+
+  -- what `fit_refusal` answered
+  module _ (room n : ℕ) where
+    pub came-refused : refuse n ≡ chain (tests room) (give end) → n ≡ first_of (tests room)
+    came-refused = number-refused end (tests room) n
+
+    pub came-given : give n ≡ chain (tests room) (give end)
+        → (0 ≡ first_of (tests room)) × (n ≡ end) × Passed bins scale end peak genome room
+    came-given e =
+        let first = gave-passed end n (tests room) (sym e) in (
+          first,
+          sym (gave-answer end n (tests room) (sym e)),
+          passed bins scale end peak error genome (length list) room first,
+        )
 
   module _ (room n : ℕ) (e : n ≡ first_of (tests room)) where
     pub tests-refused : {A : Type 0} (r : Reply A) → 0 < n → refuse n ≡ chain (tests room) r
@@ -84,7 +105,7 @@ module _ (bins : List ℕ) (scale : Float) (end peak : ℕ) (error : ErrorModel)
     unfolding fit_tests spectrum_tests
     tests-passed r z = sym (chain-passed r (tests room) refl (sym z ∙ e))
 
-    pub all-passed : n ≡ 0 → Passed bins scale end peak genome room
+    all-passed : n ≡ 0 → Passed bins scale end peak genome room
     all-passed z = passed bins scale end peak error genome (length list) room (sym z ∙ e)
 
     -- the table holds all of the shelf's entries
@@ -97,22 +118,22 @@ module _ (bins : List ℕ) (scale : Float) (end peak : ℕ) (error : ErrorModel)
     unfolding cost_of
     cost-refused h = tests-refused _ h
 
-    pub cost-given : (v used : Float) (q : Params) → n ≡ 0 → used ≡ used_scale_of scale → q ≡ p
-        → v ≡ cost_with bins used end q (entries_in q.shelf q.mean end room)
+    pub cost-given : (top : ℕ) (v used : Float) (q : Params) → n ≡ 0 → top ≡ end → used ≡ used_scale_of scale → q ≡ p
+        → v ≡ cost_with bins used top q (entries_in q.shelf q.mean top room)
         → give v ≡ cost_of bins scale end peak error genome list room
     unfolding cost_of cost_at
-    cost-given v used q z u d h =
-        ap give (h ∙ rw (u, d) (ap (cost_with bins (used_scale_of scale) end p) (entries-all z))) ∙ tests-passed _ z
+    cost-given top v used q z s u d h =
+        ap give (h ∙ rw (s, u, d) (ap (cost_with bins (used_scale_of scale) end p) (entries-all z))) ∙ tests-passed _ z
 
   module _ (held : List Float) (n : ℕ) (e : n ≡ first_of (tests (length held))) where
     pub refused-table : 0 < n → held ≡ cost_table bins scale end peak error genome list held
     unfolding cost_table
     refused-table h = rw (sym (cost-refused (length held) n e h))
 
-    pub given-table : (t : List Float) (q : Params) → n ≡ 0 → q ≡ p
-        → t ≡ table_with q (entries_in q.shelf q.mean end (length held)) held
+    pub given-table : (top : ℕ) (t : List Float) (q : Params) → n ≡ 0 → top ≡ end → q ≡ p
+        → t ≡ table_with q (entries_in q.shelf q.mean top (length held)) held
         → t ≡ cost_table bins scale end peak error genome list held
     unfolding cost_table table_at
-    given-table t q z d o =
-        rw (sym (cost-given (length held) n e _ _ p z refl refl refl))
-        (o ∙ rw d (ap (λ (x : List Float). table_with p x held) (entries-all (length held) n e z)))
+    given-table top t q z s d o =
+        rw (sym (cost-given (length held) n e end _ _ p z refl refl refl refl))
+        (o ∙ rw (s, d) (ap (λ (x : List Float). table_with p x held) (entries-all (length held) n e z)))

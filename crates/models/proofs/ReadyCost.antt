@@ -201,13 +201,14 @@ module _ (bins : List ℕ) (scale : Float) (end peak : ℕ) (error : ErrorModel)
           tests-passed bins scale end peak error genome list room n e (refuse 10) z
           ∙ sym (answer-is room true (lt-ltb (length ready) (ready_demand end) h))
 
-      pub prepared-given : (v used : Float) (q : Params) → n ≡ 0 → ready_demand end ≤ length ready
-          → used ≡ used_scale_of scale → q ≡ p → v ≡ cost_ready bins used end q ready (entries_in q.shelf q.mean end room)
+      pub prepared-given : (top : ℕ) (v used : Float) (q : Params) → n ≡ 0 → ready_demand end ≤ length ready → top ≡ end
+          → used ≡ used_scale_of scale → q ≡ p
+          → v ≡ cost_ready bins used top q ready (entries_in q.shelf q.mean top room)
           → give v ≡ answer room
       unfolding prepared_cost_at
-      prepared-given v used q z l u d h =
+      prepared-given top v used q z l s u d h =
           let all = entries-all bins scale end peak error genome list room n e z in
-          let same : v ≡ value = h ∙ rw (u, d) (ap (cost_ready bins (used_scale_of scale) end p ready) all) in
+          let same : v ≡ value = h ∙ rw (s, u, d) (ap (cost_ready bins (used_scale_of scale) end p ready) all) in
           ap give same
           ∙ tests-passed bins scale end peak error genome list room n e (give value) z
           ∙ sym (answer-is room false (le-ltb (length ready) (ready_demand end) l))
@@ -220,13 +221,13 @@ module _ (bins : List ℕ) (scale : Float) (end peak : ℕ) (error : ErrorModel)
       unfolding prepared_cost_table
       prepared-kept n r = rw (sym r)
 
-      pub prepared-table : (n : ℕ) (e : n ≡ first_of (tests (length held))) (t : List Float) (q : Params) (v : Float)
-          → n ≡ 0 → give v ≡ answer (length held) → q ≡ p
-          → t ≡ table_with q (entries_in q.shelf q.mean end (length held)) held → t ≡ stands
+      pub prepared-table : (n : ℕ) (e : n ≡ first_of (tests (length held))) (top : ℕ) (t : List Float) (q : Params)
+          (v : Float) → n ≡ 0 → give v ≡ answer (length held) → top ≡ end → q ≡ p
+          → t ≡ table_with q (entries_in q.shelf q.mean top (length held)) held → t ≡ stands
       unfolding prepared_cost_table table_at
-      prepared-table n e t q v z r d o =
+      prepared-table n e top t q v z r s d o =
           let all = entries-all bins scale end peak error genome list (length held) n e z in
-          rw (sym r) (o ∙ rw d (ap (λ (x : List Float). table_with p x held) all))
+          rw (sym r) (o ∙ rw (s, d) (ap (λ (x : List Float). table_with p x held) all))
 
   -- ---- THE THEOREM: over a slice as `prepare_window` leaves it, whatever it held before
   module _ (held xs : List Float) (e : prepare_of end (length held) ≡ give xs) where

@@ -1,27 +1,18 @@
 -- What std's methods of floats give, in the words of the definitions. Assumes nothing.
 use Prim.Native.Nat.{◌*◌}
 use mathlib.Core.Path.{◌≡◌, refl, sym, ap}
-use mathlib.Core.Bool.{Bool, true, false, cond, not, ◌&&◌, true≢false}
+use mathlib.Core.Bool.{Bool, true, false, cond, true≢false}
 use native.Mathlib.Omega.{arith}
 use borrow.Author.Tests.{eq-eqb, ltb-true, ltb-false}
 use lib.Dec.{T, eqb, eqb→eq}
 use lib.IntN.{pos}
-use lib.Ieee.{Float, nan, inf, fin, binary64, up, down, neg, lt, eq, ne, is_nan, fits, of_bits}
+use lib.Ieee.{Float, nan, inf, fin, binary64, up, down, neg, lt, eq, fits, of_bits}
 use lib.Ieee.Back.{whole_unique}
 use lib.Ieee.Fits.{and_l}
 use Rattle.std.specs.Float.{float_with_sign}
 use Rattle.std.proofs.lemmas.Float.{T_from_true}
 use Rattle.routines.specs.Constants.{zero}
 use Rattle.models.specs.Fits.{abs_of}
-
--- only a NaN differs from itself
-pub nan-is : (x : Float) → is_nan x ≡ ne x x
-unfolding ne eq is_nan
-nan-is nan = refl
-nan-is (inf true) = refl
-nan-is (inf false) = refl
-nan-is (fin true m e) = sym (ap (λ (b : Bool). not (b && true)) (eq-eqb (m * up e * down e) _ refl))
-nan-is (fin false m e) = sym (ap (λ (b : Bool). not (b && true)) (eq-eqb (m * up e * down e) _ refl))
 
 -- ---- the sign off
 below : (x : Float) → lt x zero ≡ true → float_with_sign false x ≡ neg x

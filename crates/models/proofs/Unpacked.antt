@@ -12,8 +12,7 @@ use Rattle.models.specs.Params.{params_of}
 use Rattle.models.specs.Refusals.{fit_tests}
 use Rattle.models.specs.Spectra.{window_of}
 use Rattle.models.specs.Tables.{entries_in}
-use Rattle.models.specs.Unpacking.{fit_of, fit_at, unpack_of, unpack_table, unpack_entries}
-use Rattle.models.specs.Unpacking.{unpack_at}
+use Rattle.models.specs.Unpacking.{fit_of, fit_at, unpack_of, unpack_table}
 use Rattle.models.specs.declared.families.ErrorModel.{ErrorModel}
 use Rattle.models.specs.declared.families.GenomeModel.{GenomeModel}
 use Rattle.models.specs.declared.fit.SpectrumFit.{SpectrumFit}
@@ -21,13 +20,6 @@ use Rattle.models.specs.declared.params.Params.{Params}
 use Rattle.models.specs.declared.spectra.Window.{Window}
 use Rattle.models.specs.declared.window_masses.WindowMasses.{WindowMasses}
 use Rattle.models.proofs.Passed.{tests-refused, tests-passed, entries-all}
-
-pub fit_is : (bins : List ℕ) (window : Window) (error : ErrorModel) (genome : GenomeModel) (p : Params) (cost : Float)
-    (iterations : ℕ) (table entries : List Float) (m : WindowMasses) (fit : SpectrumFit) → table ≡ entries
-    → m ≡ window_masses_of p table window.end → fit ≡ fit_of bins window error genome p m cost iterations
-    → fit ≡ fit_at bins window error genome p entries cost iterations
-unfolding fit_at
-fit_is bins window error genome p cost iterations table entries m fit t e f = f ∙ rw (e, t)
 
 -- ---- what unpack answers
 module _ (bins : List ℕ) (scale : Float) (end peak : ℕ) (error : ErrorModel) (genome : GenomeModel) (list : List Float)
@@ -48,23 +40,26 @@ module _ (bins : List ℕ) (scale : Float) (end peak : ℕ) (error : ErrorModel)
     unfolding unpack_table
     refused-table = rw (sym unpack-refused)
 
-  module _ (fit : SpectrumFit) (z : n ≡ 0) (window : Window) (w : window ≡ window_of bins scale end)
-      (f : fit ≡ unpack_at bins window peak error genome list cost iterations (length held)) where
+  -- `top` is the window end that came back, `k` its count
+  module _ (z : n ≡ 0) (top k : ℕ) (s : top ≡ end) (c : k ≡ end) (window : Window) (w : window ≡ window_of bins scale k)
+      (q : Params) (d : q ≡ params_of error genome (of_count peak) list) where
     abbrev p : Params
     p = params_of error genome (of_count peak) list
 
-    all : entries_in p.shelf p.mean end (length held) ≡ entries_of p.shelf p.mean end
-    all = entries-all bins scale end peak error genome list (length held) n e z
+    all : entries_in q.shelf q.mean top (length held) ≡ entries_of p.shelf p.mean end
+    all = rw (d, s) (entries-all bins scale end peak error genome list (length held) n e z)
 
-    -- over a window that was worked out before it is the same fit
-    pub unpack-given : give fit ≡ unpacked
-    unfolding unpack_of unpack_at
-    unpack-given =
-        ap give
-        (f ∙ rw w (ap (λ (x : List Float). fit_at bins (window_of bins scale end) error genome p x cost iterations) all))
-        ∙ tests-passed bins scale end peak error genome list (length held) n e _ z
+    module _ (fit : SpectrumFit) (table : List Float) (t : table ≡ entries_in q.shelf q.mean top (length held))
+        (m : WindowMasses) (o : m ≡ window_masses_of q table top)
+        (f : fit ≡ fit_of bins window error genome q m cost iterations) where
+      made : fit ≡ fit_at bins (window_of bins scale end) error genome p (entries_of p.shelf p.mean end) cost iterations
+      unfolding fit_at
+      made = f ∙ rw (o, t, all, w, d, s, c)
 
-    pub given-table : (t : List Float) → t ≡ over (unpack_entries window peak error genome list (length held)) held
-        → t ≡ after
-    unfolding unpack_table
-    given-table t o = rw (sym unpack-given) (o ∙ rw w (ap (λ (x : List Float). over x held) all))
+      pub unpack-given : give fit ≡ unpacked
+      unfolding unpack_of
+      unpack-given = ap give made ∙ tests-passed bins scale end peak error genome list (length held) n e _ z
+
+      pub given-table : (now : List Float) → now ≡ over (entries_in q.shelf q.mean top (length held)) held → now ≡ after
+      unfolding unpack_table
+      given-table now h = rw (sym unpack-given) (h ∙ ap (λ (x : List Float). over x held) all)

@@ -14,7 +14,6 @@ use Rattle.models.specs.Masses.{entries_of, window_masses_of}
 use Rattle.models.specs.Params.{params_of}
 use Rattle.models.specs.Refusals.{fit_tests}
 use Rattle.models.specs.Spectra.{window_of}
-use Rattle.models.specs.Tables.{entries_in}
 use Rattle.models.specs.declared.families.ErrorModel.{ErrorModel}
 use Rattle.models.specs.declared.families.ErrorModel.TheVariants.{FreeSingletonWeibull}
 use Rattle.models.specs.declared.families.GenomeModel.{GenomeModel}
@@ -118,13 +117,3 @@ unpack_table bins scale end peak error genome list cost iterations held =
     let p = params_of error genome (of_count peak) list in
     on_give (unpack_of bins scale end peak error genome list cost iterations (length held))
     (over (entries_of p.shelf p.mean end) held) held
-
--- ---- over a window that was worked out before, for many lists; nothing is refused
-abbrev pub unpack_entries : Window → ℕ → ErrorModel → GenomeModel → List Float → ℕ → List Float
-unpack_entries window peak error genome list room =
-    let p = params_of error genome (of_count peak) list in entries_in p.shelf p.mean window.end room
-
-unfoldable pub unpack_at : List ℕ → Window → ℕ → ErrorModel → GenomeModel → List Float → Float → ℕ → ℕ → SpectrumFit
-unpack_at bins window peak error genome list cost iterations room =
-    let p = params_of error genome (of_count peak) list in
-    fit_at bins window error genome p (unpack_entries window peak error genome list room) cost iterations

@@ -1,6 +1,6 @@
 // The cost of a parameter list. The shelf's table lies in a lent slice, and what can't be used is refused by number.
 // Ported from src/preprocessing/models.rs of bacpop/sparrowhawk-asm, f1f8af1232, Apache-2.0; ported and changed.
-ghost use Rattle.std.specs.Prelude.{◌≡◌, ◌≤◌, length};
+ghost use Rattle.std.specs.Prelude.{◌≡◌, length};
 ghost use Rattle.models.specs.Costs.{mode_held, table_with, cost_of, cost_table};
 ghost use Rattle.models.specs.Prepared.{evaluated_at, cost_ready, prepared_cost_of, prepared_cost_table};
 ghost use Rattle.models.specs.Tables.{entries_in};
@@ -16,6 +16,7 @@ use crate::steady::steady_of;
 use crate::tables::fill_table;
 use crate::usable::params_usable;
 use crate::window_masses::{masses_at, masses_usable};
+use helpers::window_ends::WindowEnd;
 use meaning::refusals::Refusal;
 use routines::pick::is_finite;
 
@@ -39,21 +40,20 @@ const FEW_KEPT: usize = 512;
 fn evaluate_in(
     bins: &[u32],
     scale: f64,
-    top: u16,
+    end: WindowEnd,
     p: Params,
     ready: &[f64],
     kept: &mut [f64],
     table: &[f64],
 ) -> f64
-    requires { 1 ≤ top }
-    ensures { result ≡ evaluated_at bins.now scale top p ready.now table.now }
+    ensures { result ≡ evaluated_at bins.now scale end.count p ready.now table.now }
 {
     let steady = steady_of(p);
-    let m = masses_at(p, steady, ready, table, kept, top);
+    let m = masses_at(p, steady, ready, table, kept, end);
     if !masses_usable(m) {
         return f64::INFINITY;
     }
-    let total = likelihood(bins, scale, top, p, m, steady, ready, kept, table);
+    let total = likelihood(bins, scale, end.count(), p, m, steady, ready, kept, table);
     if is_finite(total) && total <= 0.0 {
         return -total;
     }
@@ -61,26 +61,38 @@ fn evaluate_in(
 }
 
 // The same, with places of its own: few for a short window, since many take long to clear.
-fn evaluate(bins: &[u32], scale: f64, top: u16, p: Params, ready: &[f64], table: &[f64]) -> f64
-    requires { 1 ≤ top }
-    ensures { result ≡ evaluated_at bins.now scale top p ready.now table.now }
+fn evaluate(
+    bins: &[u32],
+    scale: f64,
+    end: WindowEnd,
+    p: Params,
+    ready: &[f64],
+    table: &[f64],
+) -> f64
+    ensures { result ≡ evaluated_at bins.now scale end.count p ready.now table.now }
 {
-    if 2 * (top as usize) < FEW_KEPT {
+    if 2 * (end.count() as usize) < FEW_KEPT {
         let mut few = [0.0; FEW_KEPT];
-        return evaluate_in(bins, scale, top, p, ready, &mut few, table);
+        return evaluate_in(bins, scale, end, p, ready, &mut few, table);
     }
     let mut many = [0.0; MANY_KEPT];
-    evaluate_in(bins, scale, top, p, ready, &mut many, table)
+    evaluate_in(bins, scale, end, p, ready, &mut many, table)
 }
 
 // The table stays as it is where the parameters are turned away.
-fn cost_at(bins: &[u32], scale: f64, top: u16, p: Params, ready: &[f64], table: &mut [f64]) -> f64
-    requires { 1 ≤ top }
+fn cost_at(
+    bins: &[u32],
+    scale: f64,
+    end: WindowEnd,
+    p: Params,
+    ready: &[f64],
+    table: &mut [f64],
+) -> f64
     ensures value { result
-        ≡ cost_ready bins.now scale top p ready.now
-        (entries_in p.shelf p.mean top (length table.old)) }
+        ≡ cost_ready bins.now scale end.count p ready.now
+        (entries_in p.shelf p.mean end.count (length table.old)) }
     ensures table_after { table.new
-        ≡ table_with p (entries_in p.shelf p.mean top (length table.old)) table.old }
+        ≡ table_with p (entries_in p.shelf p.mean end.count (length table.old)) table.old }
 {
     if !params_usable(p) {
         return f64::INFINITY;
@@ -89,8 +101,8 @@ fn cost_at(bins: &[u32], scale: f64, top: u16, p: Params, ready: &[f64], table: 
         return f64::INFINITY;
     }
     let shelf = p.shelf;
-    let items = fill_table(p.mean, shelf, top, table);
-    evaluate(bins, scale, top, p, ready, &table[0..items])
+    let items = fill_table(p.mean, shelf, end, table);
+    evaluate(bins, scale, end, p, ready, &table[0..items])
 }
 
 // The negative log-likelihood of the window at the parameters of a list, and +inf for what the model can't use;
@@ -111,7 +123,7 @@ pub fn cost(
     ensures table_after { table.new
         ≡ cost_table bins.now scale window_end peak error genome theta.now table.old }
 {
-    fit_refusal(
+    let end = fit_refusal(
         bins,
         scale,
         window_end,
@@ -123,7 +135,7 @@ pub fn cost(
     )?;
     let p = decode(error, genome, (peak as u16) as f64, theta);
     let used = used_scale(scale);
-    Ok(cost_at(bins, used, window_end as u16, p, &theta[0..0], table))
+    Ok(cost_at(bins, used, end, p, &theta[0..0], table))
 }
 
 // The cost, with ln n and lgamma(n + 1) read from a slice as `prepare_window` fills it; 10 also where that slice is too
@@ -146,7 +158,7 @@ pub fn cost_prepared(
         ≡ prepared_cost_table bins.now scale window_end peak error genome theta.now
         ready.now table.old }
 {
-    fit_refusal(
+    let end = fit_refusal(
         bins,
         scale,
         window_end,
@@ -161,5 +173,5 @@ pub fn cost_prepared(
     }
     let p = decode(error, genome, (peak as u16) as f64, theta);
     let used = used_scale(scale);
-    Ok(cost_at(bins, used, window_end as u16, p, ready, table))
+    Ok(cost_at(bins, used, end, p, ready, table))
 }

@@ -104,6 +104,7 @@ pub(crate) fn conditional_deviance(bins: &[u32], scale: f64, top: u16, fit: Spec
         total: -0.0,
         ready: ready_of(t.error_params, 1),
     };
+    // By number, and not over the bins: a window may end behind them, and `over_observed` counts on there.
     for i in 0..top {
         let n = recovered_at(bins, scale, i as usize);
         reached = add_deviance(reached, n, t, i, scale);

@@ -33,6 +33,7 @@ fn crossing(t: HeightTerms, ceiling: u16) -> Option<u16>
 {
     let p = t.error_params;
     let mut here = p.log_survival_from_two(1.0);
+    // A loop, and no `find`: the survival goes from count to count.
     for count in 1..ceiling {
         let next = p.survival_with(ln(count as f64));
         let error = error_height_from(t, count as f64, here, next);
@@ -75,6 +76,7 @@ fn last_bad(t: HeightTerms, reference: f64, top: u16) -> u16
     let p = t.error_params;
     let mut here = p.log_survival_from_two(1.0);
     let mut last: u16 = 0;
+    // A loop, and no `rev().find`: the survival goes from count to count, upwards.
     for count in 1..=top {
         let next = p.survival_with(ln(count as f64));
         last = later_bad(

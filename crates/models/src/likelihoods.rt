@@ -166,6 +166,7 @@ pub(crate) fn likelihood(
         total: -0.0,
         ahead: ahead_of(error, ready, 0),
     };
+    // By number, and not over the bins: a window may end behind them, and `over_observed` counts on there.
     for i in 0..top {
         let n = recovered_at(bins, scale, i as usize);
         reached = add_point(reached, n, p, m, steady, i, ready, kept, table);

@@ -53,11 +53,7 @@ fn higher(best: Standing, count: u32, here: f64) -> Standing
             nan,
         };
     }
-    Standing {
-        count: best.count,
-        log: best.log,
-        nan,
-    }
+    Standing { nan, ..best }
 }
 
 // Whether a count is sure to be below `best`: from 2 on, where the tail's log and the step to the next survival are not

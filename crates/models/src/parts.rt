@@ -1,6 +1,8 @@
 // What a fit holds that is no number, as numbers: a family is 0 for its first case and 1 for its second, a part 0 where
 // it is absent and 1 where it is present. Read back, any number but 0 is the second.
-ghost use Rattle.std.specs.Prelude.{◌≡◌};
+ghost use Rattle.std.specs.Prelude.{◌≡◌, cond, eqb, None, Some};
+ghost use Rattle.std.specs.Option.{is_some};
+ghost use Rattle.meaning.specs.Flags.{byte_of};
 ghost use Rattle.models.specs.Parts.{error_number, genome_number, error_of, genome_of, shape_there, shape_number};
 ghost use Rattle.models.specs.Parts.{shape_of, shelf_there, shelf_held, shelf_from};
 
@@ -52,10 +54,22 @@ impl From<u8> for GenomeModel {
     }
 }
 
+fn presence_of<T: Copy>(part: Option<T>) -> u8
+    ensures { result ≡ byte_of (is_some part) }
+{
+    byte_of(part.is_some())
+}
+
+fn held_by<T: Copy>(present: u8, part: T) -> Option<T>
+    ensures { result ≡ cond (eqb present 0) None (Some part) }
+{
+    (present != 0).then_some(part)
+}
+
 pub fn shape_there(shape: Option<f64>) -> u8
     ensures { result ≡ shape_there shape }
 {
-    byte_of(shape.is_some())
+    presence_of(shape)
 }
 
 // 0 for a shape that is not there.
@@ -68,13 +82,13 @@ pub fn shape_number(shape: Option<f64>) -> f64
 pub fn shape_of(present: u8, shape: f64) -> Option<f64>
     ensures { result ≡ shape_of present shape }
 {
-    if present == 0 { None } else { Some(shape) }
+    held_by(present, shape)
 }
 
 pub fn shelf_there(shelf: Option<Shelf>) -> u8
     ensures { result ≡ shelf_there shelf }
 {
-    byte_of(shelf.is_some())
+    presence_of(shelf)
 }
 
 // Three zeros for a shelf that is not there.
@@ -91,5 +105,5 @@ pub fn shelf_held(shelf: Option<Shelf>) -> Shelf
 pub fn shelf_from(present: u8, shelf: Shelf) -> Option<Shelf>
     ensures { result ≡ shelf_from present shelf }
 {
-    if present == 0 { None } else { Some(shelf) }
+    held_by(present, shelf)
 }

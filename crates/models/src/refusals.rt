@@ -1,13 +1,13 @@
 // What a fit's calls refuse, lowest number first, before anything is worked out.
 ghost use Rattle.std.specs.Prelude.{◌≡◌};
-ghost use Rattle.meaning.specs.Answers.{number_in};
-ghost use Rattle.meaning.specs.Reply.{first_of};
+ghost use Rattle.meaning.specs.Answers.{number_in, reply_as};
+ghost use Rattle.meaning.specs.Reply.{first_of, give, chain};
 ghost use Rattle.models.specs.Refusals.{spectrum_tests, bins_tests, short_table, table_tests, fit_tests};
 
 use crate::families::{ErrorModel, GenomeModel, list_length};
 use crate::recovery::used_scale;
 use crate::spectra::{all_zero, none_recovered};
-use helpers::window_ends;
+use helpers::window_ends::{self, WindowEnd};
 use meaning::limits::MOST;
 use meaning::refusals::Refusal;
 
@@ -60,7 +60,7 @@ pub fn table_refusal(genome: GenomeModel, window_end: usize, room: usize) -> Res
     short_refusal(genome, window_end, room)
 }
 
-// The first number of 1, 2, 4, 5, 6, 7, 10 that applies to cost and unpack, or none.
+// The window end; the first number of 1, 2, 4, 5, 6, 7, 10 that applies to cost and unpack instead.
 #[tactic(auto, unfolding(crate::specs::Refusals::fit_tests, crate::specs::Refusals::spectrum_tests))]
 pub(crate) fn fit_refusal(
     bins: &[u32],
@@ -71,8 +71,9 @@ pub(crate) fn fit_refusal(
     genome: GenomeModel,
     listed: usize,
     room: usize,
-) -> Result<(), Refusal>
-    ensures { number_in result ≡ first_of (fit_tests bins.now scale window_end peak error genome listed room) }
+) -> Result<WindowEnd, Refusal>
+    ensures { reply_as (λ end. end.count) result
+        ≡ chain (fit_tests bins.now scale window_end peak error genome listed room) (give window_end) }
 {
     if peak < 2 || bins.len() < 2 {
         return Err(Refusal::TooSmall);
@@ -84,5 +85,6 @@ pub(crate) fn fit_refusal(
     if listed != list_length(error, genome) {
         return Err(Refusal::WrongLength);
     }
-    short_refusal(genome, window_end, room)
+    short_refusal(genome, window_end, room)?;
+    window_ends::window_end(window_end)
 }

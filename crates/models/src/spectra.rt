@@ -51,6 +51,7 @@ fn observed_total(bins: &[u32], scale: f64, top: u16) -> f64
     ensures { result ≡ observed_total_of bins.now scale top }
 {
     let mut total = -0.0;
+    // By number, and not over the bins: a window may end behind them, and `over_observed` counts on there.
     for i in 0..top {
         total = add_seen(total, recovered_at(bins, scale, i as usize));
     }

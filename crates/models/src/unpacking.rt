@@ -1,12 +1,9 @@
 // From a converged list to a fit.
 // Ported from src/preprocessing/models.rs of bacpop/sparrowhawk-asm, f1f8af1232, Apache-2.0; ported and changed:
 // the shelf's table lies in a lent slice, and what can't be used is refused by number.
-ghost use Rattle.std.specs.Prelude.{◌≡◌, ◌≤◌, length};
+ghost use Rattle.std.specs.Prelude.{◌≡◌, length};
 ghost use Rattle.meaning.specs.Answers.{reply_of};
-ghost use Rattle.meaning.specs.Over.{over};
-ghost use Rattle.models.specs.Tables.{entries_in};
-ghost use Rattle.models.specs.Unpacking.{log_total, fit_of, fit_at, empty_fit, unpack_of, unpack_table};
-ghost use Rattle.models.specs.Unpacking.{unpack_entries, unpack_at};
+ghost use Rattle.models.specs.Unpacking.{log_total, fit_of, empty_fit, unpack_of, unpack_table};
 
 use crate::deviances::conditional_deviance;
 use crate::errors::ErrorParams;
@@ -79,30 +76,6 @@ fn fit_of(
     fit
 }
 
-// The table is always written where there is a shelf.
-fn fit_at(
-    bins: &[u32],
-    window: Window,
-    error: ErrorModel,
-    genome: GenomeModel,
-    p: Params,
-    cost: f64,
-    iterations: u64,
-    table: &mut [f64],
-) -> SpectrumFit
-    requires { 1 ≤ window.end }
-    ensures value { result
-        ≡ fit_at bins.now window error genome p
-        (entries_in p.shelf p.mean window.end (length table.old)) cost iterations }
-    ensures table_after { table.new
-        ≡ over (entries_in p.shelf p.mean window.end (length table.old)) table.old }
-{
-    let shelf = p.shelf;
-    let items = fill_table(p.mean, shelf, window.end, table);
-    let m = masses_of(p, &table[0..items], window.end);
-    fit_of(bins, window, error, genome, p, m, cost, iterations)
-}
-
 // The fit beside a number.
 #[tactic(auto, unfolding(crate::specs::Unpacking::empty_fit))]
 pub fn empty_fit() -> SpectrumFit
@@ -139,32 +112,8 @@ pub fn empty_fit() -> SpectrumFit
     }
 }
 
-// A converged list as a fit over its window, once nothing is refused.
-#[tactic(auto, unfolding(crate::specs::Unpacking::unpack_at))]
-fn unpack_at(
-    bins: &[u32],
-    window: Window,
-    peak: u16,
-    error: ErrorModel,
-    genome: GenomeModel,
-    theta: &[f64],
-    cost: f64,
-    iterations: u64,
-    table: &mut [f64],
-) -> SpectrumFit
-    requires { 1 ≤ window.end }
-    ensures value { result
-        ≡ unpack_at bins.now window peak error genome theta.now cost iterations
-        (length table.old) }
-    ensures table_after { table.new
-        ≡ over (unpack_entries window peak error genome theta.now (length table.old))
-        table.old }
-{
-    let p = decode(error, genome, peak as f64, theta);
-    fit_at(bins, window, error, genome, p, cost, iterations, table)
-}
-
 // A converged list as a fit, with its cost and its iterations; 1, 2, 4, 5, 6, 7 or 10 instead. The cost may be any f64.
+// Where nothing is refused and there is a shelf, the table is always written.
 pub fn unpack(
     bins: &[u32],
     scale: f64,
@@ -184,7 +133,7 @@ pub fn unpack(
         ≡ unpack_table bins.now scale window_end peak error genome theta.now cost iterations
         table.old }
 {
-    fit_refusal(
+    let end = fit_refusal(
         bins,
         scale,
         window_end,
@@ -194,16 +143,10 @@ pub fn unpack(
         theta.len(),
         table.len(),
     )?;
-    let window = window_of(bins, scale, window_end as u16);
-    Ok(unpack_at(
-        bins,
-        window,
-        peak as u16,
-        error,
-        genome,
-        theta,
-        cost,
-        iterations,
-        table,
-    ))
+    let window = window_of(bins, scale, end.count());
+    let p = decode(error, genome, (peak as u16) as f64, theta);
+    let shelf = p.shelf;
+    let items = fill_table(p.mean, shelf, end, table);
+    let m = masses_of(p, &table[0..items], end);
+    Ok(fit_of(bins, window, error, genome, p, m, cost, iterations))
 }

@@ -26,6 +26,7 @@ pub(crate) fn walk(single: SingleCopy, allowed: f64, ceiling: u16) -> Option<u16
     ensures { result ≡ walk_of (probability_of single) allowed ceiling }
 {
     let mut cdf = probability(single, 0);
+    // A loop, and no `find`: the sum goes from count to count.
     for count in 1..ceiling {
         let next = cdf + probability(single, count);
         if next > allowed {
@@ -41,6 +42,7 @@ pub(crate) fn walk(single: SingleCopy, allowed: f64, ceiling: u16) -> Option<u16
 pub(crate) fn all_probable(single: SingleCopy, ceiling: u16) -> bool
     ensures { result ≡ all_probable (probability_of single) (suc ceiling) }
 {
+    // A loop, and no `all`: std has no law of what an inclusive range yields, so the goal `returns` stays open.
     for count in 0..=ceiling {
         if !(probability(single, count) <= 2.0) {
             return false;

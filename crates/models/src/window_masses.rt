@@ -1,6 +1,6 @@
 // Each component's log mass inside the window.
 // Ported from src/preprocessing/models.rs of bacpop/sparrowhawk-asm, f1f8af1232, Apache-2.0; ported and changed.
-ghost use Rattle.std.specs.Prelude.{◌≡◌, ◌+◌, ◌≤◌};
+ghost use Rattle.std.specs.Prelude.{◌≡◌, ◌+◌};
 ghost use Rattle.helpers.specs.Kept.{Kept};
 ghost use Rattle.models.specs.Hoists.{masses_at};
 ghost use Rattle.models.specs.Masses.{window_masses_of, mass_usable, masses_usable};
@@ -10,7 +10,7 @@ use crate::steady::{Steady, steady_of};
 use helpers::mixtures::mix_mass;
 use helpers::pairs::lobe_masses;
 use helpers::prepared::ln_at;
-use helpers::window_ends::window_end;
+use helpers::window_ends::WindowEnd;
 use routines::pick::is_finite;
 
 // A log mass may pass 0 by this much: rounding.
@@ -31,18 +31,14 @@ pub(crate) fn masses_at(
     ready: &[f64],
     table: &[f64],
     kept: &mut [f64],
-    top: u16,
+    end: WindowEnd,
 ) -> WindowMasses
-    requires { 1 ≤ top }
-    ensures value { result ≡ masses_at p steady ready.now table.now top }
-    ensures kept { Kept steady.lobe steady.second kept.new (top + 1) }
+    ensures value { result ≡ masses_at p steady ready.now table.now end.count }
+    ensures kept { Kept steady.lobe steady.second kept.new (end.count + 1) }
 {
     let shelf = p.shelf;
-    let log = ln_at(ready, top);
+    let log = ln_at(ready, end.count());
     let error = p.error_params.window_mass_with(steady.ln_tail, log);
-    let Ok(end) = window_end(top as usize) else {
-        unreachable!();
-    };
     let lobes = lobe_masses(steady.lobe, steady.second, ready, kept, end);
     let single = mix_mass(lobes.first, shelf, steady.logs, table, end);
     WindowMasses {
@@ -53,12 +49,11 @@ pub(crate) fn masses_at(
 }
 
 // `table` holds the shelf's entries and nothing else.
-pub(crate) fn masses_of(p: Params, table: &[f64], top: u16) -> WindowMasses
-    requires { 1 ≤ top }
-    ensures { result ≡ window_masses_of p table.now top }
+pub(crate) fn masses_of(p: Params, table: &[f64], end: WindowEnd) -> WindowMasses
+    ensures { result ≡ window_masses_of p table.now end.count }
 {
     let mut none = [0.0; 1];
-    masses_at(p, steady_of(p), &table[0..0], table, &mut none, top)
+    masses_at(p, steady_of(p), &table[0..0], table, &mut none, end)
 }
 
 fn mass_usable(mass: f64) -> bool

@@ -12,6 +12,7 @@ use fitter::asking::{Asked, window_end_of};
 use fitter::shares::empirical_shelf_share;
 use histogram::reader::{LONGEST_FILE, MAX_FILE_BINS, ReadError, read_histogram};
 use models::families::{ErrorModel, GenomeModel};
+use options::has_flag;
 use progress::{Watch, seconds};
 use record::records::{write_broken, write_record, write_refused};
 use searches::{attempt, first, problem_of, refusal};
@@ -41,11 +42,8 @@ fn pick_bins<R: Runtime>(rt: &R, bins: &[u32], asked: Asked, watch: Watch, statu
     }
     // A share that is refused stands beside a spectrum that is refused, which comes first.
     let share = empirical_shelf_share(bins, asked.scale, asked.valley, asked.peak).unwrap_or(0.0);
-    let a = attempt(rt, bins, asked, end, share, 1, watch);
-    let b = attempt(rt, bins, asked, end, share, 2, watch);
-    let c = attempt(rt, bins, asked, end, share, 3, watch);
-    let d = attempt(rt, bins, asked, end, share, 4, watch);
-    let (Some(one), Some(two), Some(three), Some(four)) = (a, b, c, d) else {
+    let each = [1, 2, 3, 4].map(|k| attempt(rt, bins, asked, end, share, k, watch));
+    let [Some(one), Some(two), Some(three), Some(four)] = each else {
         give_up(rt, status);
         return;
     };
@@ -72,25 +70,29 @@ fn pick_file<R: Runtime>(rt: &R, file: &[u8], asked: Asked, watch: Watch, status
 }
 
 fn main(rt: HostRuntime) {
-    let a = read_words(&rt);
-    let asked = a.asked;
     let watch = Watch {
-        quiet: a.quiet,
-        status: a.status,
+        quiet: has_flag(&rt, b"--quiet"),
+        status: has_flag(&rt, b"--status"),
         began: seconds(&rt),
     };
-    if !a.fine {
-        tell_failed(a.status);
-        return;
-    }
+    let status = watch.status;
+    let asked = match read_words(&rt) {
+        Ok(asked) => asked,
+        Err(line) => {
+            // Where standard error takes nothing, there is nobody to tell.
+            let _ = rt.eprint(line);
+            tell_failed(status);
+            return;
+        }
+    };
     // Room for the longest file, since the project has no heap.
     let mut file = [0u8; ENOUGH];
     let input = read_input(&mut rt.stdin(), &mut file);
     match input {
-        Ok(n) => pick_file(&rt, &file[..n], asked, watch, a.status),
+        Ok(n) => pick_file(&rt, &file[..n], asked, watch, status),
         Err(e) => {
             fail(&rt, "pick: reading", e);
-            tell_failed(a.status);
+            tell_failed(status);
         }
     }
 }

@@ -1,121 +1,82 @@
 // The words that the program is started with.
-ghost use Rattle.std.specs.Counts.{IsPrefixLen};
-
 use arguments::numbers::{read_decimal, read_whole};
 use std::env::FillError;
 use std::rt::Env;
 
-// The longest word that is read: a longer one is as an empty one, and no option.
+// The longest word that is read: a longer one is no option.
 const LONGEST: usize = 64;
 
-// How many words have the option's name, the number of the last, and whether that is malformed.
+// A name's word says no number, or there is a second one.
 #[derive(Clone, Copy)]
-pub struct Named<T> {
-    pub words: usize,
-    pub value: T,
-    pub wrong: bool,
+pub enum Wrong {
+    Named,
 }
 
-// What stands behind a name that the word begins with.
-fn behind<'a>(word: &'a [u8], name: &[u8]) -> &'a [u8] {
-    &word[name.len().min(word.len())..]
-}
-
-fn named_by<T: Copy>(words: usize, read: Option<T>, none: T) -> Named<T> {
-    Named {
-        words,
-        value: read.unwrap_or(none),
-        wrong: read.is_none(),
-    }
+fn has_word<R: Env>(rt: &R, i: usize) -> bool {
+    !matches!(rt.arg(i, &mut []), Err(FillError::NotPresent))
 }
 
 // How many words the program was started with; the first is its own name.
 fn word_count<R: Env>(rt: &R) -> usize {
-    for i in 0..usize::MAX {
-        if matches!(rt.arg(i, &mut []), Err(FillError::NotPresent)) {
-            return i;
-        }
-    }
-    usize::MAX
+    (0..usize::MAX).take_while(|i| has_word(rt, *i)).count()
 }
 
-// Puts a word into the lent bytes, and answers how many it has.
-fn read_word<R: Env>(rt: &R, i: usize, word: &mut [u8]) -> usize
-    ensures { IsPrefixLen result word.new }
-{
-    match rt.arg(i, word) {
-        Ok(n) => n,
-        Err(_) => 0,
-    }
+// A word, in the lent bytes; none where it finds no room there.
+fn word<'a, R: Env>(rt: &R, i: usize, room: &'a mut [u8]) -> Option<&'a [u8]> {
+    let n = rt.arg(i, room).ok()?;
+    Some(&room[..n])
 }
 
 fn is_word<R: Env>(rt: &R, i: usize, name: &[u8]) -> bool {
-    let mut word = [0u8; LONGEST];
-    let n = read_word(rt, i, &mut word);
-    &word[..n] == name
+    let mut room = [0u8; LONGEST];
+    word(rt, i, &mut room).is_some_and(|word| word == name)
+}
+
+// What a word says behind the name that it begins with.
+fn behind<'a, R: Env>(rt: &R, i: usize, name: &[u8], room: &'a mut [u8]) -> Option<&'a [u8]> {
+    word(rt, i, room)?.strip_prefix(name)
 }
 
 fn word_begins<R: Env>(rt: &R, i: usize, name: &[u8]) -> bool {
-    let mut word = [0u8; LONGEST];
-    let n = read_word(rt, i, &mut word);
-    word[..n].starts_with(name)
+    let mut room = [0u8; LONGEST];
+    behind(rt, i, name, &mut room).is_some()
 }
 
-// What a word says behind the name.
-fn read_at<R: Env, T, F: Fn(&[u8]) -> Option<T>>(
-    rt: &R,
-    i: usize,
-    name: &[u8],
-    read: F,
-) -> Option<T>
-    requires { F.IsAlwaysCallable read }
-{
-    let mut word = [0u8; LONGEST];
-    let n = read_word(rt, i, &mut word);
-    read(behind(&word[..n], name))
-}
-
-// How many words are the flag itself.
-pub(crate) fn flag_words<R: Env>(rt: &R, name: &[u8]) -> usize {
+// Whether a word is the flag itself.
+pub(crate) fn has_flag<R: Env>(rt: &R, name: &[u8]) -> bool {
     let all = word_count(rt);
-    (1..all).filter(|i| is_word(rt, *i, name)).count()
+    (1..all).any(|i| is_word(rt, i, name))
 }
 
-// The last word of a name; without one the value is the one given here.
-fn last_named<R: Env, T: Copy, F: Fn(usize, usize) -> Named<T>>(
+// What the one word of a name says; none without one.
+fn only_named<R: Env, T: Copy, F: Fn(&[u8]) -> Option<T>>(
     rt: &R,
     name: &[u8],
-    value: T,
     read: F,
-) -> Named<T>
+) -> Result<Option<T>, Wrong>
     requires { F.IsAlwaysCallable read }
 {
     let all = word_count(rt);
-    let mut found = Named {
-        words: 0,
-        value,
-        wrong: false,
-    };
+    let mut found = None;
     for i in 1..all {
-        if word_begins(rt, i, name) {
-            found = read(found.words.saturating_add(1), i);
+        let mut room = [0u8; LONGEST];
+        if let Some(text) = behind(rt, i, name, &mut room) {
+            if found.is_some() {
+                return Err(Wrong::Named);
+            }
+            found = Some(read(text).ok_or(Wrong::Named)?);
         }
     }
-    found
+    Ok(found)
 }
 
 // A name ends in `=`.
-pub(crate) fn whole_option<R: Env>(rt: &R, name: &[u8]) -> Named<usize> {
-    last_named(rt, name, 0, |words, i| {
-        let read = read_at(rt, i, name, read_whole);
-        named_by(words, read.map(|n| n as usize), 0)
-    })
+pub(crate) fn whole_option<R: Env>(rt: &R, name: &[u8]) -> Result<Option<usize>, Wrong> {
+    only_named(rt, name, |text| read_whole(text).map(|n| n as usize))
 }
 
-pub(crate) fn decimal_option<R: Env>(rt: &R, name: &[u8], value: f64) -> Named<f64> {
-    last_named(rt, name, value, |words, i| {
-        named_by(words, read_at(rt, i, name, read_decimal), 0.0)
-    })
+pub(crate) fn decimal_option<R: Env>(rt: &R, name: &[u8]) -> Result<Option<f64>, Wrong> {
+    only_named(rt, name, read_decimal)
 }
 
 fn is_known<R: Env>(rt: &R, i: usize) -> bool {

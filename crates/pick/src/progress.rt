@@ -12,17 +12,9 @@ pub struct Watch {
     pub began: u64,
 }
 
-// The machine's clock, in seconds; 0 where it has none.
+// The machine's clock, in seconds. 0 where it has none: the line says a number of seconds even then.
 pub(crate) fn seconds<R: Clock>(rt: &R) -> u64 {
-    match rt.since_1970() {
-        Ok(now) => now.as_secs(),
-        Err(_) => 0,
-    }
-}
-
-// 0 where the clock went back.
-fn elapsed(began: u64, now: u64) -> u64 {
-    if now < began { 0 } else { now - began }
+    rt.since_1970().map_or(0, |now| now.as_secs())
 }
 
 // One line: which configuration, how many of its runs are done, and the least cost so far, as a float's pattern.
@@ -38,7 +30,9 @@ pub(crate) fn say<R: Clock + Eprint>(
         return;
     }
     let mut line = [0u8; 160];
-    let values = [k, done, runs, cost, elapsed(watch.began, seconds(rt))];
+    // 0 where the clock went back.
+    let elapsed = seconds(rt).saturating_sub(watch.began);
+    let values = [k, done, runs, cost, elapsed];
     let size = fill(
         &mut line,
         0,

@@ -107,9 +107,9 @@ impl Room {
         }
     }
 
-    // How many runs there are from these starts, each before its first turn; none for a refusal.
-    fn begin(&mut self, bins: &[u32], problem: Problem, starts: &[f64]) -> usize {
-        let begun = begin_searches(
+    // How many runs there are from these starts, each before its first turn.
+    fn begin(&mut self, bins: &[u32], problem: Problem, starts: &[f64]) -> Result<usize, Refusal> {
+        begin_searches(
             bins,
             problem,
             starts,
@@ -118,15 +118,14 @@ impl Room {
             &mut self.stopped,
             &mut self.ready,
             &mut self.table,
-        );
-        begun.unwrap_or(0)
+        )
     }
 
     // Some turns of every run, and what they came to, as a run table.
-    fn go_on(&mut self, bins: &[u32], problem: Problem, runs: usize) -> bool {
+    fn go_on(&mut self, bins: &[u32], problem: Problem, runs: usize) -> Result<(), Refusal> {
         let error = problem.error;
         let genome = problem.genome;
-        let ran = run_searches(
+        run_searches(
             bins,
             problem,
             runs,
@@ -136,8 +135,8 @@ impl Room {
             &mut self.stopped,
             &mut self.ready,
             &mut self.table,
-        );
-        let reported = report_searches(
+        )?;
+        report_searches(
             error,
             genome,
             runs,
@@ -149,11 +148,11 @@ impl Room {
             &mut self.places,
             &mut self.lengths,
             &mut self.caps,
-        );
-        ran.is_ok() && reported.is_ok()
+        )?;
+        Ok(())
     }
 
-    // As many turns as the largest cap, by which every run has ended, with a line of progress between. It stops early
+    // Whether every run has ended, by as many turns as the largest cap, with a line of progress between. It stops early
     // where nobody listens.
     fn search_all<R: Clock + Eprint>(
         &mut self,
@@ -163,12 +162,10 @@ impl Room {
         runs: usize,
         k: u64,
         watch: Watch,
-    ) -> bool {
-        let mut whole = true;
+    ) -> Result<bool, Refusal> {
         let mut done = 0;
         for _ in 0..SLICES {
-            let fine = self.go_on(bins, problem, runs);
-            whole = whole && fine;
+            self.go_on(bins, problem, runs)?;
             if done < runs {
                 done = runs_done(first(&self.stopped, runs), first(&self.caps, runs));
                 let least = least_cost(first(&self.costs, runs));
@@ -178,7 +175,7 @@ impl Room {
                 break;
             }
         }
-        whole && done >= runs
+        Ok(done >= runs)
     }
 
     // The attempt that the run table makes.
@@ -230,11 +227,12 @@ pub(crate) fn attempt<R: Clock + Eprint>(
         &shapes,
         &mut starts,
     );
-    let runs = room.begin(bins, problem, first(&starts, numbers.unwrap_or(0)));
-    let whole = room.search_all(rt, bins, problem, runs, k, watch);
-    let settled = room.settle(bins, problem, runs);
-    if whole && runs > 0 {
-        return settled.ok();
+    let runs = room
+        .begin(bins, problem, first(&starts, numbers.ok()?))
+        .ok()?;
+    let ended = room.search_all(rt, bins, problem, runs, k, watch).ok()?;
+    if runs == 0 || !ended {
+        return None;
     }
-    None
+    room.settle(bins, problem, runs).ok()
 }

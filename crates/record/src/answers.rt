@@ -94,6 +94,7 @@ pub(crate) fn least_removed(fit: SpectrumFit) -> f64
     none + probability(single, 1)
 }
 
+// The parts of `{|\nleast_cutoff kept|\nleast_cutoff broken ~}` by their numbers, as in the definition.
 #[tactic(auto, unfolding(crate::specs::Answers::least_at))]
 fn least_at(count: u64, allowed: f64, removed: f64) -> u64
     ensures { result ≡ least_at count allowed removed }
@@ -157,6 +158,7 @@ pub(crate) fn last_in(how: HowSure, a: Answer) -> Last
     }
 }
 
+// The part of `{cutoff |unsure |no fit|refused }`: a match, since the definition has the numbers.
 pub(crate) fn last_number(last: Last) -> u64
     ensures { result ≡ last_number last }
 {

@@ -201,9 +201,10 @@ fit.best_iterations #
 fn three(x: [f64; 3]) -> [u64; 3]
     ensures { result ≡ three_of x }
 {
-    [pattern(x[0]), pattern(x[1]), pattern(x[2])]
+    x.map(pattern)
 }
 
+// No twin of `put_totals`: each clause names its own text.
 fn put_masses(out: &mut [u8], at: usize, f: SpectrumFit) -> usize
     ensures value { result ≡ end_at at (masses_text f) (length out.old) }
     ensures out_after { out.new ≡ put_at at (masses_text f) out.old }

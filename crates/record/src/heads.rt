@@ -12,7 +12,7 @@ use templates::filling::fill;
 // It goes up with every change of the record or of what it says.
 pub const VERSION: u64 = 2;
 
-// The part of `{cut|full|given}`.
+// The part of `{cut|full|given}`: a match, since the definition has the numbers.
 fn window_number(kind: WindowKind) -> u64
     ensures { result ≡ window_number kind }
 {
@@ -59,8 +59,7 @@ fn put_seeds(out: &mut [u8], at: usize) -> usize
     ensures value { result ≡ end_at at seeds_text (length out.old) }
     ensures out_after { out.new ≡ put_at at seeds_text out.old }
 {
-    let seeds = SEEDS;
-    let values = [pattern(seeds[0]), pattern(seeds[1]), pattern(seeds[2])];
+    let values = SEEDS.map(pattern);
     fill(
         out,
         at,
@@ -76,13 +75,7 @@ fn put_shapes(out: &mut [u8], at: usize) -> usize
     ensures value { result ≡ end_at at shapes_text (length out.old) }
     ensures out_after { out.new ≡ put_at at shapes_text out.old }
 {
-    let shapes = SHAPES;
-    let values = [
-        pattern(shapes[0]),
-        pattern(shapes[1]),
-        pattern(shapes[2]),
-        pattern(shapes[3]),
-    ];
+    let values = SHAPES.map(pattern);
     fill(
         out,
         at,

@@ -1,12 +1,12 @@
 // How far the answer can be leant on: how many of the valid attempts give the same hole cutoff, and the spread.
-ghost use Rattle.std.specs.Prelude.{◌≡◌, ◌<◌, [], ◌∷◌};
+ghost use Rattle.std.specs.Prelude.{◌≡◌, ◌<◌};
 ghost use Rattle.record.specs.Leaning.{is_walked, count_vote, vote_of, least_of, largest_of, leant_on, lean_step};
 ghost use Rattle.record.specs.Leaning.{unleant, leaning_of};
 
 use crate::values::{Hole, HowSure, Place, hole_of};
 use fitter::attempts::{FitAttempt, is_valid};
 
-// Above every cutoff, and no cutoff at all.
+// Above every cutoff, and no cutoff at all. The definitions of specs/Leaning.antt name both numbers.
 pub(crate) const NONE: u64 = 65536;
 
 pub(crate) const NO_WALK: u64 = 65537;
@@ -86,25 +86,18 @@ fn lean(budget: f64, answer: u64, l: Leaning, attempt: FitAttempt) -> Leaning
     }
 }
 
-// Over four attempts, beside the answer's vote.
-pub(crate) fn leaning_of(
-    budget: f64,
-    answer: u64,
-    a: FitAttempt,
-    b: FitAttempt,
-    c: FitAttempt,
-    d: FitAttempt,
-) -> Leaning
-    ensures { result ≡ leaning_of budget answer (a ∷ b ∷ c ∷ d ∷ []) unleant }
+// Over the attempts, beside the answer's vote.
+pub(crate) fn leaning_of(budget: f64, answer: u64, attempts: [FitAttempt; 4]) -> Leaning
+    ensures { result ≡ leaning_of budget answer attempts unleant }
 {
-    let none = Leaning {
+    let mut l = Leaning {
         valid: 0,
         same: 0,
         least: NO_WALK,
         largest: 0,
     };
-    let first = lean(budget, answer, none, a);
-    let second = lean(budget, answer, first, b);
-    let third = lean(budget, answer, second, c);
-    lean(budget, answer, third, d)
+    for attempt in &attempts {
+        l = lean(budget, answer, l, *attempt);
+    }
+    l
 }

@@ -45,7 +45,7 @@ pub struct Recorded {
     pub last: Last,
 }
 
-// 0 for a count, 1 for none, 2 where no valid attempt has a walk.
+// 0 for a count, 1 for none, 2 where no valid attempt has a walk: the parts of `{#|none|-}`, as in the definition.
 #[tactic(auto, unfolding(crate::specs::Record::end_part))]
 fn end_part(l: Leaning, v: u64) -> u64
     ensures { result ≡ end_part l v }
@@ -56,6 +56,7 @@ fn end_part(l: Leaning, v: u64) -> u64
     u64::from(v == NONE)
 }
 
+// No twin of `put_own_cutoffs`: another template, with a line and a value more, and other values between.
 #[tactic(auto, unfolding(crate::specs::Record::cutoff_text))]
 fn put_cutoffs(out: &mut [u8], at: usize, share: f64, c: Cutoffs) -> usize
     ensures value { result ≡ end_at at (cutoff_text share c) (length out.old) }
@@ -182,15 +183,8 @@ fn put_last(out: &mut [u8], at: usize, l: Last) -> usize
     )
 }
 
-fn choose(
-    asked: Asked,
-    a: FitAttempt,
-    b: FitAttempt,
-    c: FitAttempt,
-    d: FitAttempt,
-    fit: SpectrumFit,
-) -> Chosen
-    ensures { result ≡ chosen_of asked (a ∷ b ∷ c ∷ d ∷ []) fit }
+fn choose(asked: Asked, attempts: [FitAttempt; 4], fit: SpectrumFit) -> Chosen
+    ensures { result ≡ chosen_of asked attempts fit }
 {
     let budget = asked.budget;
     let cutoffs = cutoffs_of(fit, budget);
@@ -200,7 +194,7 @@ fn choose(
     Chosen {
         cutoffs,
         answer,
-        leaning: leaning_of(budget, vote(hole), a, b, c, d),
+        leaning: leaning_of(budget, vote(hole), attempts),
         last: last_in(how, answer),
     }
 }
@@ -242,19 +236,16 @@ fn put_selected(
     out: &mut [u8],
     at: usize,
     asked: Asked,
-    a: FitAttempt,
-    b: FitAttempt,
-    c: FitAttempt,
-    d: FitAttempt,
+    attempts: [FitAttempt; 4],
     selected: Option<SpectrumFit>,
 ) -> Recorded
-    ensures size_value { result.size ≡ end_at at (selected_text asked (a ∷ b ∷ c ∷ d ∷ []) selected) (length out.old) }
-    ensures out_after { out.new ≡ put_at at (selected_text asked (a ∷ b ∷ c ∷ d ∷ []) selected) out.old }
+    ensures size_value { result.size ≡ end_at at (selected_text asked attempts selected) (length out.old) }
+    ensures out_after { out.new ≡ put_at at (selected_text asked attempts selected) out.old }
     ensures last_value { result.last ≡ last_of asked selected }
 {
     match selected {
         Some(fit) => {
-            let chosen = choose(asked, a, b, c, d, fit);
+            let chosen = choose(asked, attempts, fit);
             Recorded {
                 size: put_chosen(out, at, asked.budget, fit, chosen),
                 last: chosen.last,
@@ -267,6 +258,7 @@ fn put_selected(
     }
 }
 
+// Four, each by its number: `attempts_text` takes them one by one.
 #[tactic(auto, using(crate::proofs::Joins::joins), unfolding(crate::specs::Record::attempts_text))]
 fn put_attempts(
     out: &mut [u8],
@@ -314,7 +306,7 @@ pub fn write_record(
     let selected = select_fit([a, b, c, d]);
     let first = put_head(out, 0, asked, bins);
     let second = put_attempts(out, first, a, b, c, d, budget);
-    put_selected(out, second, asked, a, b, c, d, selected)
+    put_selected(out, second, asked, [a, b, c, d], selected)
 }
 
 // The record of a spectrum that is refused. The number is a u8: a `Refusal` would ask more of who calls it.

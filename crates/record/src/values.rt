@@ -67,6 +67,7 @@ pub(crate) fn place_numbers(place: Place) -> PlaceNumbers
     }
 }
 
+// The part of the line `hole`: a match, since the definition has the numbers.
 pub(crate) fn sure_number(how: HowSure) -> u64
     ensures { result ≡ sure_number how }
 {

@@ -2,7 +2,7 @@
 use crate::fits::{fit, put_fit};
 use crate::parts::{error, genome};
 use crate::puts::*;
-use crate::slices::{bins, flags, floats, places};
+use crate::slices::{bins, byte, flags, floats, places};
 use crate::words::*;
 use fitter::attempts::{FitAttempt, is_valid, make_attempt};
 use fitter::rejections::FitRejection;
@@ -12,22 +12,6 @@ use models::problems::Problem;
 use models::unpacking::empty_fit;
 
 // ---- reasons by their numbers
-
-fn reason_of(n: u64) -> FitRejection {
-    match n {
-        1 => FitRejection::NonFiniteLikelihood,
-        2 => FitRejection::InvalidComponents,
-        3 => FitRejection::InvalidWindowMass,
-        4 => FitRejection::ComponentMassExceeded,
-        5 => FitRejection::UnstableModeParameterisation,
-        6 => FitRejection::GenomeLobeOutsideFitWindow,
-        7 => FitRejection::ErrorModePastValley,
-        8 => FitRejection::PrimaryModeOutsideBand,
-        9 => FitRejection::RepeatModeTooEarly,
-        10 => FitRejection::PositiveLogLikelihood,
-        _ => FitRejection::OptimisationFailed,
-    }
-}
 
 fn reason_word(why: FitRejection) -> u64 {
     u64::from(u8::from(why))
@@ -43,7 +27,7 @@ fn verdict_word(rejection: Option<FitRejection>) -> u64 {
     }
 }
 
-pub(crate) fn judged(row: &[u64], out: &mut [u64]) -> usize {
+pub(crate) fn judged(row: &[u64], out: &mut [u64]) -> Option<usize> {
     let f = fit(from(row, 1));
     let valley = size(row, 35);
     let peak = size(row, 36);
@@ -58,7 +42,7 @@ fn rejection(present: u64, n: u64) -> Option<FitRejection> {
     if present == 0 {
         return None;
     }
-    Some(reason_of(n))
+    Some(FitRejection::from(byte(n)))
 }
 
 fn candidate(present: u64, w: &[u64]) -> Option<SpectrumFit> {
@@ -80,17 +64,17 @@ fn attempt(row: &[u64], i: usize) -> FitAttempt {
     )
 }
 
-pub(crate) fn valid(row: &[u64], out: &mut [u64]) -> usize {
+pub(crate) fn valid(row: &[u64], out: &mut [u64]) -> Option<usize> {
     put_flag(out, 41, is_valid(attempt(row, 1)))
 }
 
-pub(crate) fn selected(row: &[u64], out: &mut [u64]) -> usize {
+pub(crate) fn selected(row: &[u64], out: &mut [u64]) -> Option<usize> {
     let first = attempt(row, 1);
     let second = attempt(row, 41);
     let third = attempt(row, 81);
     let fourth = attempt(row, 121);
     let got = fitter::selection::select_fit([first, second, third, fourth]);
-    let n = put_flag(out, 161, got.is_some());
+    let n = put_flag(out, 161, got.is_some())?;
     put_fit(out, n, got.unwrap_or(empty_fit()))
 }
 
@@ -109,7 +93,7 @@ fn problem(row: &[u64]) -> Problem {
     }
 }
 
-fn put_rejection(out: &mut [u64], at: usize, rejection: Option<FitRejection>) -> usize {
+fn put_rejection(out: &mut [u64], at: usize, rejection: Option<FitRejection>) -> Option<usize> {
     match rejection {
         None => put_two(out, at, 0, 0),
         Some(why) => put_two(out, at, 1, reason_word(why)),
@@ -138,7 +122,13 @@ fn attempt_words(got: Result<FitAttempt, Refusal>) -> [u64; 41] {
 }
 
 // The shelf's table from where on it stands as it was.
-fn put_rest(out: &mut [u64], at: usize, row: &[u64], refused: bool, table: &[f64]) -> usize {
+fn put_rest(
+    out: &mut [u64],
+    at: usize,
+    row: &[u64],
+    refused: bool,
+    table: &[f64],
+) -> Option<usize> {
     if refused || word(row, 7) == 0 {
         return put_floats(out, at, table);
     }
@@ -146,7 +136,13 @@ fn put_rest(out: &mut [u64], at: usize, row: &[u64], refused: bool, table: &[f64
     put_floats(out, at, &table[start..])
 }
 
-fn runs(row: &[u64], counts: &[u32], lists: &[f64], table: &mut [f64], out: &mut [u64]) -> usize {
+fn runs(
+    row: &[u64],
+    counts: &[u32],
+    lists: &[f64],
+    table: &mut [f64],
+    out: &mut [u64],
+) -> Option<usize> {
     let mut flag_room = [0u8; MOST];
     let mut cost_room = [0.0; MOST];
     let mut place_room = [0usize; MOST];
@@ -171,11 +167,11 @@ fn runs(row: &[u64], counts: &[u32], lists: &[f64], table: &mut [f64], out: &mut
         lists,
         table,
     );
-    let n = put_words(out, nth(row, 8, 9), &attempt_words(got));
+    let n = put_words(out, nth(row, 8, 9), &attempt_words(got))?;
     put_rest(out, n, row, got.is_err(), table)
 }
 
-pub(crate) fn attempted(row: &[u64], out: &mut [u64]) -> usize {
+pub(crate) fn attempted(row: &[u64], out: &mut [u64]) -> Option<usize> {
     let mut list_room = [0.0; MOST];
     let mut spectrum = [0u32; MOST];
     let mut room = [0.0; MOST];

@@ -13,10 +13,10 @@ pub(crate) fn fit(w: &[u64]) -> SpectrumFit {
     })
 }
 
-pub(crate) fn put_fit(out: &mut [u64], at: usize, f: SpectrumFit) -> usize {
+pub(crate) fn put_fit(out: &mut [u64], at: usize, f: SpectrumFit) -> Option<usize> {
     let words = fit_words(f);
     let wholes = words.wholes;
     let floats = words.floats;
-    let n = put_words(out, at, &wholes);
+    let n = put_words(out, at, &wholes)?;
     put_floats(out, n, &floats)
 }

@@ -4,33 +4,27 @@ use crate::words::*;
 
 // ---- rows of tables
 
-fn power(i: u64, out: &mut [u64]) -> usize {
+fn power(i: u64, out: &mut [u64]) -> Option<usize> {
     let p = routines::tables::power_at(i);
     put_pair(out, 2, p.value, p.rest)
 }
 
-fn piece(i: u64, out: &mut [u64]) -> usize {
+fn piece(i: u64, out: &mut [u64]) -> Option<usize> {
     let p = routines::ln_table::piece_at(i);
     put_pair(out, 2, p.0, p.1)
 }
 
-fn log(i: u64, out: &mut [u64]) -> usize {
+fn log(i: u64, out: &mut [u64]) -> Option<usize> {
     let p = routines::ln_table::log_at(i);
     put_pair(out, 2, p.0, p.1)
 }
 
 // Behind the last start the row holds 0.
-fn pareto(i: usize) -> f64 {
-    let starts = routines::tables::pareto_starts();
-    starts.get(i).copied().unwrap_or(0.0)
+fn start(starts: &[f64], i: u64, out: &mut [u64]) -> Option<usize> {
+    put_float(out, 2, starts.get(i as usize).copied().unwrap_or(0.0))
 }
 
-fn weibull(i: usize) -> f64 {
-    let starts = routines::tables::weibull_starts();
-    starts.get(i).copied().unwrap_or(0.0)
-}
-
-pub(crate) fn answer(row: &[u64], out: &mut [u64]) -> usize {
+pub(crate) fn answer(row: &[u64], out: &mut [u64]) -> Option<usize> {
     let n = word(row, 1);
     let x = number(row, 1);
     let y = number(row, 2);
@@ -53,8 +47,8 @@ pub(crate) fn answer(row: &[u64], out: &mut [u64]) -> usize {
         16 => power(n, out),
         17 => piece(n, out),
         18 => log(n, out),
-        19 => put_float(out, 2, pareto(n as usize)),
-        20 => put_float(out, 2, weibull(n as usize)),
-        _ => 0,
+        19 => start(&routines::tables::pareto_starts(), n, out),
+        20 => start(&routines::tables::weibull_starts(), n, out),
+        _ => None,
     }
 }

@@ -7,14 +7,14 @@ use helpers::{hoists, lobes, log_sums, masses, shelves};
 
 // ---- structs
 
-fn softmax(row: &[u64], out: &mut [u64]) -> usize {
+fn softmax(row: &[u64], out: &mut [u64]) -> Option<usize> {
     let logs = log_sums::ln_softmax3(number(row, 1), number(row, 2), number(row, 3));
     put_floats(out, 4, &[logs.first, logs.second, logs.third])
 }
 
-fn lobe(x: f64, y: f64, out: &mut [u64]) -> usize {
+fn lobe(x: f64, y: f64, out: &mut [u64]) -> Option<usize> {
     let l = hoists::lobe_of(x, y);
-    let n = put_flag(out, 3, l.poisson);
+    let n = put_flag(out, 3, l.poisson)?;
     put_floats(out, n, &[l.mean, l.rate, l.size, l.gamma, l.start, l.slope])
 }
 
@@ -31,14 +31,14 @@ fn density(row: &[u64]) -> f64 {
     hoists::density(lobe, number(row, 8))
 }
 
-fn logs(row: &[u64], out: &mut [u64]) -> usize {
+fn logs(row: &[u64], out: &mut [u64]) -> Option<usize> {
     let logs = shelves::shelf_logs(shelf_part(row, 1));
     put_pair(out, 5, logs.rest, logs.share)
 }
 
 // ---- tables
 
-fn log_table(row: &[u64], out: &mut [u64]) -> usize {
+fn log_table(row: &[u64], out: &mut [u64]) -> Option<usize> {
     let mut room = [0.0; MOST];
     let table = floats(row, 6, &mut room);
     let x = number(row, 1);
@@ -55,7 +55,7 @@ fn entry(row: &[u64], table: &[f64]) -> f64 {
     shelves::mix_entry(number(row, 3), y, shelf_part(row, 5), logs, table)
 }
 
-fn of_table(row: &[u64], table: &[f64], at: usize, out: &mut [u64]) -> usize {
+fn of_table(row: &[u64], table: &[f64], at: usize, out: &mut [u64]) -> Option<usize> {
     let x = number(row, 1);
     let y = number(row, 2);
     let part = shelf_part(row, 3);
@@ -67,13 +67,13 @@ fn of_table(row: &[u64], table: &[f64], at: usize, out: &mut [u64]) -> usize {
     }
 }
 
-fn with_table(row: &[u64], at: usize, out: &mut [u64]) -> usize {
+fn with_table(row: &[u64], at: usize, out: &mut [u64]) -> Option<usize> {
     let mut room = [0.0; MOST];
     let table = floats(row, at, &mut room);
     of_table(row, table, past(row, at), out)
 }
 
-pub(crate) fn answer(row: &[u64], out: &mut [u64]) -> usize {
+pub(crate) fn answer(row: &[u64], out: &mut [u64]) -> Option<usize> {
     let x = number(row, 1);
     let y = number(row, 2);
     let z = number(row, 3);
@@ -99,6 +99,6 @@ pub(crate) fn answer(row: &[u64], out: &mut [u64]) -> usize {
         50 => with_table(row, 8, out),
         52 => logs(row, out),
         53 => with_table(row, 9, out),
-        _ => 0,
+        _ => None,
     }
 }

@@ -13,7 +13,7 @@ use models::unpacking::empty_fit;
 
 // ---- a problem: window end, peak and families, and then list, bins and the shelf's table
 
-fn cost(row: &[u64], out: &mut [u64]) -> usize {
+fn cost(row: &[u64], out: &mut [u64]) -> Option<usize> {
     let mut list = [0.0; MOST];
     let mut spectrum = [0u32; MOST];
     let mut room = [0.0; MOST];
@@ -30,25 +30,25 @@ fn cost(row: &[u64], out: &mut [u64]) -> usize {
         theta,
         table,
     );
-    let behind = put_number(out, nth(row, 6, 3), got);
+    let behind = put_number(out, nth(row, 6, 3), got)?;
     put_floats(out, behind, table)
 }
 
 // The number and the fit, the empty one beside a refusal's.
-fn put_unpacked(out: &mut [u64], at: usize, got: Result<SpectrumFit, Refusal>) -> usize {
+fn put_unpacked(out: &mut [u64], at: usize, got: Result<SpectrumFit, Refusal>) -> Option<usize> {
     match got {
         Ok(f) => {
-            let n = put(out, at, 0);
+            let n = put(out, at, 0)?;
             put_fit(out, n, f)
         }
         Err(refusal) => {
-            let n = put(out, at, refused(refusal));
+            let n = put(out, at, refused(refusal))?;
             put_fit(out, n, empty_fit())
         }
     }
 }
 
-fn unpacked(row: &[u64], out: &mut [u64]) -> usize {
+fn unpacked(row: &[u64], out: &mut [u64]) -> Option<usize> {
     let mut list = [0.0; MOST];
     let mut spectrum = [0u32; MOST];
     let mut room = [0.0; MOST];
@@ -67,37 +67,37 @@ fn unpacked(row: &[u64], out: &mut [u64]) -> usize {
         word(row, 3),
         table,
     );
-    let behind = put_unpacked(out, nth(row, 8, 3), got);
+    let behind = put_unpacked(out, nth(row, 8, 3), got)?;
     put_floats(out, behind, table)
 }
 
 // ---- a list
 
 // The number and two presences, then the floats.
-fn put_params(out: &mut [u64], at: usize, p: Params) -> usize {
+fn put_params(out: &mut [u64], at: usize, p: Params) -> Option<usize> {
     let e = p.error_params;
     let shape = shape_words(e.weibull_shape);
     let part = shelf_words(p.shelf);
-    let weights = put_words(out, at, &[0, shape[0], part[0]]);
-    let mode = put_floats(out, weights, &[p.ln_error, p.ln_single, p.ln_repeat]);
-    let tail = put_floats(out, mode, &[p.target_mode, p.mean, p.dispersion]);
-    let parts = put_floats(out, tail, &[e.singleton_probability, e.tail_exponent]);
-    let ratio = put_words(out, parts, &[shape[1], part[1], part[2], part[3]]);
+    let weights = put_words(out, at, &[0, shape[0], part[0]])?;
+    let mode = put_floats(out, weights, &[p.ln_error, p.ln_single, p.ln_repeat])?;
+    let tail = put_floats(out, mode, &[p.target_mode, p.mean, p.dispersion])?;
+    let parts = put_floats(out, tail, &[e.singleton_probability, e.tail_exponent])?;
+    let ratio = put_words(out, parts, &[shape[1], part[1], part[2], part[3]])?;
     put_float(out, ratio, p.repeat_ratio)
 }
 
 // Beside a refusal's number everything is 0.
-fn put_list(out: &mut [u64], at: usize, got: Result<Params, Refusal>) -> usize {
+fn put_list(out: &mut [u64], at: usize, got: Result<Params, Refusal>) -> Option<usize> {
     match got {
         Ok(p) => put_params(out, at, p),
         Err(refusal) => {
-            let rest = put(out, at, refused(refusal));
+            let rest = put(out, at, refused(refusal))?;
             put_words(out, rest, &[0u64; 15])
         }
     }
 }
 
-fn params(row: &[u64], out: &mut [u64]) -> usize {
+fn params(row: &[u64], out: &mut [u64]) -> Option<usize> {
     let mut room = [0.0; MOST];
     let theta = floats(row, 4, &mut room);
     let got = models::params::params_from(error(row, 2), genome(row, 3), size(row, 1), theta);
@@ -106,10 +106,10 @@ fn params(row: &[u64], out: &mut [u64]) -> usize {
 
 // ---- what is read off a fit, and its cutoffs
 
-fn put_heights(out: &mut [u64], at: usize, answer: Result<Heights, Refusal>) -> usize {
+fn put_heights(out: &mut [u64], at: usize, answer: Result<Heights, Refusal>) -> Option<usize> {
     match answer {
         Ok(h) => {
-            let n = put(out, at, 0);
+            let n = put(out, at, 0)?;
             put_floats(out, n, &[h.error, h.single, h.repeat])
         }
         Err(refusal) => put_words(out, at, &[refused(refusal), 0, 0, 0]),
@@ -121,20 +121,20 @@ fn cutoff_word(part: Option<u16>) -> u64 {
     u64::from(part.unwrap_or(0))
 }
 
-fn put_cutoff(out: &mut [u64], at: usize, answer: Result<Option<u16>, Refusal>) -> usize {
+fn put_cutoff(out: &mut [u64], at: usize, answer: Result<Option<u16>, Refusal>) -> Option<usize> {
     put_answer(out, at, answer, cutoff_word)
 }
 
-fn put_floor(out: &mut [u64], at: usize, answer: Result<u16, Refusal>) -> usize {
+fn put_floor(out: &mut [u64], at: usize, answer: Result<u16, Refusal>) -> Option<usize> {
     put_answer(out, at, answer, |cutoff| u64::from(cutoff))
 }
 
 // Number, whether the walk started, whether it is sure, and the cutoff.
-fn put_walked(out: &mut [u64], at: usize, sure: u64, part: Option<u16>) -> usize {
+fn put_walked(out: &mut [u64], at: usize, sure: u64, part: Option<u16>) -> Option<usize> {
     put_words(out, at, &[0, 1, sure, cutoff_word(part)])
 }
 
-fn put_sure(out: &mut [u64], at: usize, answer: Result<SureCutoff, Refusal>) -> usize {
+fn put_sure(out: &mut [u64], at: usize, answer: Result<SureCutoff, Refusal>) -> Option<usize> {
     match answer {
         Ok(SureCutoff::Sure(part)) => put_walked(out, at, 1, part),
         Ok(SureCutoff::NotSure(part)) => put_walked(out, at, 0, part),
@@ -144,7 +144,7 @@ fn put_sure(out: &mut [u64], at: usize, answer: Result<SureCutoff, Refusal>) -> 
 }
 
 // Behind the fit stands a count or a budget, where the call has one.
-fn of_fit(row: &[u64], out: &mut [u64]) -> usize {
+fn of_fit(row: &[u64], out: &mut [u64]) -> Option<usize> {
     let f = fit(from(row, 1));
     let count = size(row, 34);
     let budget = number(row, 34);
@@ -164,12 +164,12 @@ fn of_fit(row: &[u64], out: &mut [u64]) -> usize {
 
 // ---- errors, shelves and families
 
-fn bounds(x: f64, out: &mut [u64]) -> usize {
+fn bounds(x: f64, out: &mut [u64]) -> Option<usize> {
     let b = models::shelf_rules::shelf_concentration_bounds(x);
     put_pair(out, 2, b.low, b.high)
 }
 
-pub(crate) fn answer(row: &[u64], out: &mut [u64]) -> usize {
+pub(crate) fn answer(row: &[u64], out: &mut [u64]) -> Option<usize> {
     let x = number(row, 1);
     let e = errors(word(row, 5), row, 1);
     let s = shelf(row, 1);
@@ -192,6 +192,6 @@ pub(crate) fn answer(row: &[u64], out: &mut [u64]) -> usize {
         89 => put(out, 2, genome(row, 1).extra_parameters() as u64),
         90 => put(out, 3, models::families::list_length(first, second) as u64),
         92 => params(row, out),
-        _ => 0,
+        _ => None,
     }
 }

@@ -9,18 +9,18 @@ use fitter::starts::start_tables_refusal;
 // ---- a spectrum
 
 // The scale, the bins and what is lent.
-fn recovered(row: &[u64], out: &mut [u64]) -> usize {
+fn recovered(row: &[u64], out: &mut [u64]) -> Option<usize> {
     let mut spectrum = [0u32; MOST];
     let mut room = [0u32; MOST];
     let counts = bins(row, 2, &mut spectrum);
     let lent = bins(row, past(row, 2), &mut room);
     let got = fitter::recovering::recover_bins(counts, number(row, 1), lent);
-    let n = put_written(out, nth(row, 2, 2), got);
+    let n = put_written(out, nth(row, 2, 2), got)?;
     put_bins(out, n, lent)
 }
 
 // The scale, a valley, a peak and the bins.
-fn share(row: &[u64], out: &mut [u64]) -> usize {
+fn share(row: &[u64], out: &mut [u64]) -> Option<usize> {
     let mut spectrum = [0u32; MOST];
     let counts = bins(row, 4, &mut spectrum);
     let x = number(row, 1);
@@ -30,7 +30,7 @@ fn share(row: &[u64], out: &mut [u64]) -> usize {
 
 // ---- the starts of a search: hint, share and families; then tables where the call has them, seeds, shapes, buffer
 
-fn starts(row: &[u64], out: &mut [u64]) -> usize {
+fn starts(row: &[u64], out: &mut [u64]) -> Option<usize> {
     let mut list = [0.0; MOST];
     let mut pairs = [0.0; MOST];
     let mut room = [0.0; MOST];
@@ -56,7 +56,7 @@ fn starts_lent<'a>(
     weibull: &'a [f64],
     first: usize,
     out: &mut [u64],
-) -> usize {
+) -> Option<usize> {
     let mut list = [0.0; MOST];
     let mut pairs = [0.0; MOST];
     let mut room = [0.0; MOST];
@@ -77,7 +77,13 @@ fn starts_lent<'a>(
     put_lent(out, nth(row, first, 3), got, lent)
 }
 
-fn tables<'a>(row: &[u64], a: &'a [f64], b: &'a [f64], at: usize, out: &mut [u64]) -> usize {
+fn tables<'a>(
+    row: &[u64],
+    a: &'a [f64],
+    b: &'a [f64],
+    at: usize,
+    out: &mut [u64],
+) -> Option<usize> {
     if word(row, 0) == 98 {
         return match start_tables_refusal(a, b) {
             Ok(()) => put(out, at, 0),
@@ -88,7 +94,7 @@ fn tables<'a>(row: &[u64], a: &'a [f64], b: &'a [f64], at: usize, out: &mut [u64
 }
 
 // The first of the two tables begins at word `at`.
-fn with_tables(row: &[u64], at: usize, out: &mut [u64]) -> usize {
+fn with_tables(row: &[u64], at: usize, out: &mut [u64]) -> Option<usize> {
     let mut room = [0.0; MOST];
     let mut other = [0.0; MOST];
     let pareto = floats(row, at, &mut room);
@@ -96,7 +102,7 @@ fn with_tables(row: &[u64], at: usize, out: &mut [u64]) -> usize {
     tables(row, pareto, weibull, nth(row, at, 2), out)
 }
 
-pub(crate) fn answer(row: &[u64], out: &mut [u64]) -> usize {
+pub(crate) fn answer(row: &[u64], out: &mut [u64]) -> Option<usize> {
     match word(row, 0) {
         96 => recovered(row, out),
         97 => share(row, out),
@@ -107,6 +113,6 @@ pub(crate) fn answer(row: &[u64], out: &mut [u64]) -> usize {
         103 => attempts::valid(row, out),
         104 => attempts::selected(row, out),
         105 => attempts::attempted(row, out),
-        _ => 0,
+        _ => None,
     }
 }

@@ -4,11 +4,11 @@ use crate::puts::put_words;
 use crate::words::*;
 use crate::{layer1, layer2, layer3, layer4};
 
-// Where the replay stands: the word of the row that is being read, which lies behind the last where the row has a byte
-// that no row has; whether the row is a comment, the rows and the differences so far, and whether there may be more.
+// Where the replay stands: the word of the row that is being read, none where the row has too many or a byte that no
+// row has; whether the row is a comment, the rows and the differences so far, and whether there may be more.
 #[derive(Clone, Copy)]
 pub(crate) struct Replay {
-    pub place: usize,
+    pub place: Option<usize>,
     pub comment: bool,
     pub rows: u64,
     pub differences: u64,
@@ -18,7 +18,7 @@ pub(crate) struct Replay {
 // At the first word of a row, behind so many.
 pub(crate) fn begin(rows: u64, differences: u64) -> Replay {
     Replay {
-        place: 0,
+        place: Some(0),
         comment: false,
         rows,
         differences,
@@ -26,8 +26,8 @@ pub(crate) fn begin(rows: u64, differences: u64) -> Replay {
     }
 }
 
-// The port's answer over the row's own; the place behind it, and 0 for a call that there is not.
-fn answer(row: &[u64], out: &mut [u64]) -> usize {
+// The port's answer over the row's own: the place behind it, none for a call that there is not.
+fn answer(row: &[u64], out: &mut [u64]) -> Option<usize> {
     match word(row, 0) {
         0..=31 => layer1::answer(row, out),
         32..=63 => layer2::answer(row, out),
@@ -40,13 +40,12 @@ fn answer(row: &[u64], out: &mut [u64]) -> usize {
 fn holds(row: &[u64]) -> bool {
     let mut ours = [0u64; MOST];
     put_words(&mut ours, 0, row);
-    let end = answer(row, &mut ours);
-    agrees(&ours, end, row)
+    answer(row, &mut ours).is_some_and(|end| agrees(&ours, end, row))
 }
 
 // The same of the words up to the one at `place`.
-fn holds_to(words: &[u64], place: usize) -> bool {
-    place < words.len() && holds(first(words, place + 1))
+fn holds_to(words: &[u64], place: Option<usize>) -> bool {
+    place.is_some_and(|last| holds(first(words, last.saturating_add(1))))
 }
 
 // A hexadecimal digit's value. A row has no capitals.
@@ -69,32 +68,28 @@ fn end_row(words: &[u64], r: Replay) -> Replay {
     )
 }
 
-fn start_word(words: &mut [u64], place: usize) {
-    if place < words.len() {
-        words[place] = 0;
-    }
+fn start_word(words: &mut [u64], place: usize) -> Option<usize> {
+    *words.get_mut(place)? = 0;
+    Some(place)
 }
 
-fn end_word(words: &mut [u64], r: Replay) -> Replay {
-    let mut next = r;
-    if r.place < words.len() {
-        next.place = r.place + 1;
-    }
-    start_word(words, next.place);
-    next
+fn end_word(words: &mut [u64], place: Option<usize>) -> Option<usize> {
+    start_word(words, place?.saturating_add(1))
 }
 
 fn take_digit(words: &mut [u64], place: usize, d: u64) {
-    if place < words.len() {
-        words[place] = words[place] << 4 | d;
+    if let Some(word) = words.get_mut(place) {
+        *word = *word << 4 | d;
     }
 }
 
 fn take(words: &mut [u64], r: Replay, b: u8) -> Replay {
     if b == b'\n' {
         let next = end_row(words, r);
-        start_word(words, 0);
-        return next;
+        return Replay {
+            place: start_word(words, 0),
+            ..next
+        };
     }
     if r.comment {
         return r;
@@ -103,18 +98,18 @@ fn take(words: &mut [u64], r: Replay, b: u8) -> Replay {
         return Replay { comment: true, ..r };
     }
     if b == b' ' {
-        return end_word(words, r);
-    }
-    match digit(b) {
-        Some(d) => {
-            take_digit(words, r.place, d);
-            r
-        }
-        None => Replay {
-            place: words.len(),
+        return Replay {
+            place: end_word(words, r.place),
             ..r
-        },
+        };
     }
+    let Some(d) = digit(b) else {
+        return Replay { place: None, ..r };
+    };
+    if let Some(place) = r.place {
+        take_digit(words, place, d);
+    }
+    r
 }
 
 // Each byte in turn. No byte at all is the end.

@@ -1,5 +1,5 @@
 // Slices for a call that takes them. Each is the one whose length is word `at`, its entries at the front of `room`, or
-// as many of them as there is room for.
+// as many of them as there is room for; what lies behind the row's last word is as in `room`, 0.
 use crate::words::*;
 use templates::floats::float;
 
@@ -13,8 +13,8 @@ fn lent<'a, T: Copy, F: Fn(u64) -> T>(
 {
     let words = entries(row, at);
     let end = size(row, at).min(room.len());
-    for (i, entry) in room[..end].iter_mut().enumerate() {
-        *entry = of_word(word(words, i));
+    for (entry, word) in room[..end].iter_mut().zip(words) {
+        *entry = of_word(*word);
     }
     &mut room[..end]
 }
@@ -28,8 +28,8 @@ pub(crate) fn bins<'a>(row: &[u64], at: usize, room: &'a mut [u32]) -> &'a mut [
 }
 
 // A word as a byte; 255 for one that is none.
-fn byte(n: u64) -> u8 {
-    if n < 256 { n as u8 } else { 255 }
+pub(crate) fn byte(n: u64) -> u8 {
+    u8::try_from(n).unwrap_or(255)
 }
 
 pub(crate) fn flags<'a>(row: &[u64], at: usize, room: &'a mut [u8]) -> &'a mut [u8] {

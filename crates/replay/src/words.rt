@@ -80,6 +80,7 @@ pub(crate) fn agrees(ours: &[u64], end: usize, row: &[u64]) -> bool
     if end != row.len() {
         return false;
     }
+    // No zip: `Agree` reads 0 behind our last word.
     for (i, theirs) in row.iter().enumerate() {
         if !same(word(ours, i), *theirs) {
             return false;

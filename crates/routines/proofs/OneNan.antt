@@ -1,13 +1,8 @@
--- The pattern of a float, where every NaN has one: by the test `x != x`, and back. Assumes nothing.
-use Rattle.std.proofs.Common.{◌≡◌, ℕ, ◌^◌, ◌<◌, true, not, T, sym, refl, ap, ◌∙◌, subst}
-use lib.Ieee.{Float, nan, inf, fin, binary64, is_nan, fits, to_bits, of_bits, ne}
+-- The pattern of a float, where every NaN has one, and back. Assumes nothing.
+use Rattle.std.proofs.Common.{◌≡◌, ℕ, ◌^◌, ◌<◌, not, T, sym, refl, ◌∙◌}
+use lib.Ieee.{Float, nan, inf, fin, binary64, is_nan, fits, to_bits, of_bits}
 use lib.Ieee.Bits.{of_bits-to_bits, to_bits-of_bits}
-use lib.Ieee.Compare.{differs_from_itself}
 use Rattle.routines.specs.Bits.{nan_pattern, pattern_of}
-
-pub one_pattern : (x : Float) → ne x x ≡ true → 0x7ff8000000000000 ≡ pattern_of x
-unfolding pattern_of is_nan
-one_pattern x h = sym (ap pattern_of (differs_from_itself x (subst T (sym h) tt)))
 
 pub number-pattern : (x : Float) → T (not (is_nan x)) → to_bits binary64 x ≡ pattern_of x
 unfolding pattern_of is_nan

@@ -2,10 +2,12 @@
 -- nothing.
 use Rattle.std.proofs.Common.{◌≡◌, ℕ, zero, suc, ◌+◌, ◌*◌, ◌/◌, ◌%◌, ◌^◌, ◌≤◌, Bool, true, false, cond, not, T, ltb}
 use Rattle.std.proofs.Common.{ℤ, pos, sym, ◌∙◌, subst, true≢false, arith, le-ltb}
-use mathlib.Core.Bool.{false≢true}
+use mathlib.Core.Bool.{false≢true, ◌&&◌}
+use mathlib.Core.Path.{refl, ap}
 use lib.Count.{count_trailing_zeros}
 use lib.Ieee.{Float, nan, inf, fin, Format, binary64, prec, emax, low, minus, odd, units, round, unlike, up, down, mul}
-use lib.Ieee.{of_bits, nan_bits, is_nan, le, lt, ne}
+use lib.Ieee.{of_bits, nan_bits, is_nan, le, lt, eq, ne}
+use borrow.Author.Tests.{eq-eqb}
 use lib.Ieee.Compare.{nan_differs}
 use lib.Ieee.Fits.{round_is}
 use lib.Ieee.Bits.{nan_bits_above}
@@ -65,3 +67,12 @@ unfolding is_nan
 equal_no_nan nan h = absurd (true≢false (sym nan_differs ∙ h))
 equal_no_nan (inf s) h = tt
 equal_no_nan (fin s m e) h = tt
+
+-- only a NaN differs from itself
+pub nan-is : (x : Float) → is_nan x ≡ ne x x
+unfolding ne eq is_nan
+nan-is nan = refl
+nan-is (inf true) = refl
+nan-is (inf false) = refl
+nan-is (fin true m e) = sym (ap (λ (b : Bool). not (b && true)) (eq-eqb (m * up e * down e) _ refl))
+nan-is (fin false m e) = sym (ap (λ (b : Bool). not (b && true)) (eq-eqb (m * up e * down e) _ refl))

@@ -1,19 +1,21 @@
 -- What `max`, `min` and `is_finite` find by their tests, on plain values. Assumes nothing.
-use Rattle.std.proofs.Common.{◌≡◌, ℕ, ◌*◌, ◌<◌, Bool, true, false, sym, refl, ap, ◌∙◌, subst, true≢false, zero-lt-suc}
+use Rattle.std.proofs.Common.{◌≡◌, ℕ, ◌*◌, ◌<◌, Bool, true, false, sym, refl, ap, ◌∙◌, true≢false, zero-lt-suc}
 use Rattle.std.proofs.Common.{mul-pos, mul-zero, zero-mul}
-use lib.Ieee.{Float, nan, inf, fin, binary64, up, down, unlike, of_bits, eq, ne, mul, round}
+use lib.Ieee.{Float, nan, inf, fin, binary64, up, down, unlike, of_bits, eq, is_nan, mul, round}
 use lib.Ieee.Fits.{down_pos}
-use lib.Ieee.Compare.{differs_from_itself, nan_differs}
 use lib.Ieee.Scale.{finite, round_same}
 use Rattle.routines.specs.Pick.{skipping}
-use Rattle.routines.proofs.Tests.{yes}
 
 -- ---- the test for a NaN
-pub skips : (a b r : Float) → ne a a ≡ true → b ≡ skipping a b r
-skips a b r h = subst (λ (x : Float). b ≡ skipping x b r) (sym (differs_from_itself a (yes h))) refl
+pub skips : (a b r : Float) → is_nan a ≡ true → b ≡ skipping a b r
+unfolding is_nan
+skips nan b r h = refl
+skips (inf s) b r h = absurd (true≢false (sym h))
+skips (fin s m e) b r h = absurd (true≢false (sym h))
 
-pub takes : (a b r : Float) → ne a a ≡ false → r ≡ skipping a b r
-takes nan b r h = absurd (true≢false (sym nan_differs ∙ h))
+pub takes : (a b r : Float) → is_nan a ≡ false → r ≡ skipping a b r
+unfolding is_nan
+takes nan b r h = absurd (true≢false h)
 takes (inf s) b r h = refl
 takes (fin s m e) b r h = refl
 

@@ -9,7 +9,7 @@ ghost use Rattle.routines.specs.Pick.{max_of, min_of};
 pub fn max(a: f64, b: f64) -> f64
     ensures { result ≡ max_of a b }
 {
-    if a != a {
+    if a.is_nan() {
         b
     } else if a < b {
         b
@@ -23,7 +23,7 @@ pub fn max(a: f64, b: f64) -> f64
 pub fn min(a: f64, b: f64) -> f64
     ensures { result ≡ min_of a b }
 {
-    if a != a {
+    if a.is_nan() {
         b
     } else if b < a {
         b

@@ -38,6 +38,7 @@ fn begin_all(
 {
     let d = w - 1;
     let size = w * w;
+    // By index: a proof knows nothing of what was written through chunks_mut.
     for i in 0..runs {
         let begin = i * d;
         let end = begin + d;

@@ -31,6 +31,7 @@ pub(crate) fn move_point(point: &mut [f64], other: &[f64], how: Move)
     requires { length point.old ≡ length other.now }
     ensures { point.new ≡ moved how point.old other.now }
 {
+    // other[j] and no zip: a proof knows nothing of what was written through a zip's iter_mut.
     for (j, x) in point.iter_mut().enumerate() {
         *x = moved_by(how, *x, other[j]);
     }
@@ -40,7 +41,7 @@ fn divide(point: &mut [f64], by: f64)
     ensures { point.new ≡ map (λ (x : Float). x ⊘ by) point.old }
 {
     for x in point.iter_mut() {
-        *x = *x / by;
+        *x /= by;
     }
 }
 

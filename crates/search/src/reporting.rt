@@ -68,6 +68,7 @@ fn least_row(rows: &[f64], w: usize) -> usize
     ensures { result ≡ least_place (rows_in w w rows.now) }
 {
     let mut least: usize = 0;
+    // By number, which is the answer: chunks of the rows would need one beside them, and one of the least row.
     for i in 1..w {
         if rows[i * w] < rows[least * w] {
             least = i;
@@ -126,6 +127,7 @@ fn write_found(w: usize, cap: u64, runs: usize, stored: &Stored<'_>, table: &mut
 {
     let square = w * w;
     let length = w - 1;
+    // By index: a proof knows nothing of what was written through a zip of the columns.
     for i in 0..runs {
         let from = i * square;
         let to = from + square;

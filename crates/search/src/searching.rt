@@ -42,6 +42,7 @@ fn run_all(
     ensures kept { IsKept prices.old prices.new }
 {
     let size = w * w;
+    // By index: a proof knows nothing of what was written through chunks_mut, or through a zip of the three.
     for i in 0..runs {
         let from = i * size;
         let to = from + size;

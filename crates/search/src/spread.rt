@@ -13,8 +13,9 @@ fn mean_cost(simplex: &Simplex<'_>) -> f64
 {
     let w = simplex.w;
     let mut sum = simplex.cost(0);
+    // By number, as the definitions and a simplex have a vertex; so below.
     for i in 1..w {
-        sum = sum + simplex.cost(i);
+        sum += simplex.cost(i);
     }
     sum / (w as f64)
 }
@@ -35,7 +36,7 @@ fn deviation(simplex: &Simplex<'_>) -> f64
     let mean = mean_cost(simplex);
     let mut sum = square_at(simplex, mean, 0);
     for i in 1..w {
-        sum = sum + square_at(simplex, mean, i);
+        sum += square_at(simplex, mean, i);
     }
     sum / (w as f64)
 }

@@ -12,7 +12,7 @@ use crate::puts::put_text;
 // Behind a byte of a template.
 #[derive(Clone, Copy)]
 pub struct State {
-    // How many bars are ahead of the part that is shown: 0 where it is shown.
+    // How many bars are ahead of the part that is shown, 0 where it is: a count in the definitions too.
     pub ahead: u64,
     // The place of the next value.
     pub next: usize,

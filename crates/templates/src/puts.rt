@@ -8,6 +8,7 @@ pub(crate) fn put_text(out: &mut [u8], at: usize, text: &[u8]) -> usize
     ensures out_after { out.new ≡ put_at at text.now out.old }
 {
     let mut end = at;
+    // No copy_from_slice: `put_at` and `end_at` go byte by byte, and answer a place behind the end as it is.
     for byte in text {
         if end >= out.len() {
             return end;

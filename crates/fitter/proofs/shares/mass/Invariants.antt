@@ -7,6 +7,6 @@ use Rattle.fitter.specs.Recovering.{recovered}
 use Rattle.fitter.specs.Shares.{mass_step}
 use Rattle.fitter.proofs.shares.mass.Given as goal
 
-abbrev pub invariant-loop-i : goal.invariant-loop-i
-invariant-loop-i l =
-    Folded (mass_step (recovered l.used l.bins)) (neg zero) (l.from - 1) (l.from - 1 + (l.end - (l.from - 1))) l.total l.i
+abbrev pub invariant-loop-bin : goal.invariant-loop-bin
+invariant-loop-bin l =
+    Folded (mass_step (recovered l.used l.bins)) (neg zero) (l.from - 1) (l.from - 1 + (l.end - (l.from - 1))) l.total (l.from - 1 + l.bin-index)

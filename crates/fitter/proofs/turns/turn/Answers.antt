@@ -8,7 +8,7 @@ use Rattle.fitter.proofs.turns.turn.Goals as goal
 
 pub returns-then-t : goal.returns-then-t
 returns-then-t c =
-    let run = c.run_of-run in
+    let run = c.from-run in
     let a = c.args in
     let room = length a.table.now in record {
       value = c.retry_turn.ensures.value
@@ -19,7 +19,7 @@ returns-then-t c =
 
 pub returns : goal.returns
 returns c =
-    let run = c.run_of-run in
+    let run = c.from-run in
     let a = c.args in
     let room = length a.table.now in record {
       value = c.survey_turn.ensures.value

@@ -1,33 +1,41 @@
--- `helpers::masses::log_shelf_mass` meets its contract. The loop's invariant: entries 1 to i - 1 are added up; with no
--- entry to add i stays 1. Assumes nothing.
-use mathlib.Core.Path.{refl, ap, ◌∙◌}
-use mathlib.Core.Bool.{true}
-use mathlib.Core.Logic.{inl, inr}
-use Prim.Native.Nat.{ℕ}
+-- `helpers::masses::log_shelf_mass` meets its contract. The loop's invariant: the entries behind entry 0 are added up,
+-- one for each turn. Assumes nothing.
+use mathlib.Core.Path.{◌≡◌, ap, ◌∙◌}
+use Prim.Native.Nat.{ℕ, ◌+◌, ◌-◌, ◌<◌, min}
 use native.Mathlib.Omega.{arith}
-use lib.Ieee.{nan, inf, div, neg, of_bits}
+use mathlib.Core.Bool.{true}
+use lib.Ieee.{Float, nan, inf, div, neg, of_bits}
+use lib.ListN.{get_or, take, drop, length-take, length-drop}
 use Rattle.meaning.specs.Fold.{fold}
+use Rattle.helpers.specs.LogSums.{lse2_of}
 use Rattle.helpers.specs.Masses.{shelf_mass_of, shelf_step}
+use Rattle.std.proofs.lemmas.List.{get_or-take, get_or-drop}
 use Rattle.helpers.proofs.Recurrences.{shelf-begins, shelf-more, shelf-ends}
 use Rattle.helpers.proofs.masses.log_shelf_mass.Goals as goal
 
-pub loop-i-init : goal.loop-i-init
+pub loop-entry-init : goal.loop-entry-init
 unfolding div neg of_bits
-loop-i-init c = (omega arith, inl refl, c.min-end.ensures, shelf-begins c.args.table.now)
+loop-entry-init c = shelf-begins c.args.table.now
 
-pub loop-i-preserved : goal.loop-i-preserved
-loop-i-preserved c =
-    let inv = c.loop-i.invariant in (
-      omega arith,
-      inr (omega arith),
-      inv.2,
-      shelf-more c.args.table.now c.loop-i.i c.loop-i.total
-          c.lse2-total.result nan inv.0 (omega arith) inv.3 c.lse2-total.ensures,
-    )
+pub loop-entry-preserved : goal.loop-entry-preserved
+loop-entry-preserved c =
+    let table = c.args.table.now in
+    let i = c.loop-entry.entry-index in
+    let end = c.min-end.result in
+    let start = c.min.result in
+    let here : i < end - start = omega (arith, length-take {A = Float}, length-drop {A = Float}) in
+    let place : start + i ≡ i + 1 = omega arith in
+    let entry : get_or (take (end - start) (drop start table)) i nan ≡ get_or table (i + 1) nan =
+    get_or-take _ _ _ _ here ∙ get_or-drop start table i nan ∙ rw place in
+    shelf-more table (i + 1) c.loop-entry.total c.lse2-total.result nan (omega arith) (omega arith)
+    c.loop-entry.invariant (c.lse2-total.ensures ∙ ap (lse2_of c.loop-entry.total) entry)
 
 pub returns : goal.returns
 unfolding shelf_mass_of
 returns c =
-    let inv = c.loop-i.invariant in
+    let turn = c.loop-entry in
     let table = c.args.table.now in
-    inv.3 ∙ shelf-ends table c.loop-i.i c.min-end.result inv.0 inv.1 (omega arith) ∙ ap (λ (n : ℕ). fold (shelf_step table) 1 n (inf true)) inv.2
+    let turns : turn.entry-index ≡ c.min-end.result - min c.min-end.result 1 =
+    omega (arith, length-take {A = Float}, length-drop {A = Float}) in
+    turn.invariant ∙ shelf-ends table turn.entry-index c.min-end.result turns
+    ∙ ap (λ (n : ℕ). fold (shelf_step table) 1 n (inf true)) c.min-end.ensures

@@ -5,36 +5,39 @@ use mathlib.Core.List.{List, []}
 use native.Mathlib.Nat.{sub-zero}
 use native.Mathlib.Numerals.{add-one}
 use native.Mathlib.Omega.{arith}
-use lib.ListN.{take, set}
-use lib.Seq.{take-suc-set}
+use lib.ListN.{length, take, drop, set}
+use lib.Seq.{take-suc-set, length-take-le, take-append-le}
 use Rattle.histogram.specs.File.{bins, read_from}
 use Rattle.histogram.proofs.Steps.{all_read, trailing}
 use Rattle.histogram.proofs.Bins.{bin_fits, bin-read, bin-broken}
 use Rattle.histogram.proofs.reader.read_bins.Goals as goal
 
-pub loop-k-init : goal.loop-k-init
-loop-k-init c = rw sub-zero
+pub loop-slot-init : goal.loop-slot-init
+loop-slot-init c = rw sub-zero
 
 pub returns-in_default : goal.returns-in_default
 returns-in_default c =
-    let l = c.loop-k in
+    let l = c.loop-slot in
+    let long : length (take c.args.n c.args.held.now) ≡ c.args.n = length-take-le c.args.n c.args.held.now c.requires in
     sym (l.invariant
-    ∙ bin-broken c.args.n l.k c.loop-k-test.true (take l.k l.held) c.args.file.now l.at l.at (sym c.in_default.ensures))
+    ∙ bin-broken c.args.n l.slot-index (omega arith) (take l.slot-index l.slot-items) c.args.file.now l.at l.at (sym c.in_default.ensures))
 
-pub overflow_cast-held : goal.overflow_cast-held
-overflow_cast-held c =
-    let l = c.loop-k in
-    let h = bin_fits c.args.n l.k c.loop-k-test.true [] c.args.file.now l.at _ (sym c.in-Some.ensures) in
+pub overflow_cast-slot : goal.overflow_cast-slot
+overflow_cast-slot c =
+    let l = c.loop-slot in
+    let long : length (take c.args.n c.args.held.now) ≡ c.args.n = length-take-le c.args.n c.args.held.now c.requires in
+    let h = bin_fits c.args.n l.slot-index (omega arith) [] c.args.file.now l.at _ (sym c.in-Some.ensures) in
     omega arith
 
-pub loop-k-preserved : goal.loop-k-preserved
-loop-k-preserved c =
-    let l = c.loop-k in
+pub loop-slot-preserved : goal.loop-slot-preserved
+loop-slot-preserved c =
+    let l = c.loop-slot in
+    let long : length (take c.args.n c.args.held.now) ≡ c.args.n = length-take-le c.args.n c.args.held.now c.requires in
     let v = c.in-Some.bin.value in
     l.invariant
-    ∙ bin-read c.args.n l.k c.loop-k-test.true (take l.k l.held) c.args.file.now l.at _ (sym c.in-Some.ensures)
-    ∙ ap (λ (done : List ℕ). read_from (bins (c.args.n - (l.k + 1)) done) c.args.file.now c.in-Some.bin.next)
-    (sym (take-suc-set l.held l.k v (omega arith)) ∙ ap (λ (j : ℕ). take j (set l.held l.k v)) (sym (add-one l.k)))
+    ∙ bin-read c.args.n l.slot-index (omega arith) (take l.slot-index l.slot-items) c.args.file.now l.at _ (sym c.in-Some.ensures)
+    ∙ ap (λ (done : List ℕ). read_from (bins (c.args.n - (l.slot-index + 1)) done) c.args.file.now c.in-Some.bin.next)
+    (sym (take-suc-set l.slot-items l.slot-index v (omega arith)) ∙ ap (λ (j : ℕ). take j (set l.slot-items l.slot-index v)) (sym (add-one l.slot-index)))
 
 -- the last bin is read
 ended : (n k : ℕ) (held file : List ℕ) (at : ℕ) → n ≤ k → k ≤ n
@@ -47,13 +50,16 @@ ended n k held file at h g =
 pub returns-then-at-file : goal.returns-then-at-file
 returns-then-at-file c =
     let a = c.args in
-    let l = c.loop-k in
-    sym (l.invariant ∙ ended a.n l.k l.held a.file.now l.at c.loop-k-test.false l.auto.k-end
-    ∙ trailing (take a.n l.held) a.file.now l.at c.if-at-file.true)
+    let l = c.loop-slot in
+    let long : length (take c.args.n c.args.held.now) ≡ c.args.n = length-take-le c.args.n c.args.held.now c.requires in
+    sym (l.invariant ∙ ended a.n l.slot-index l.slot-items a.file.now l.at (omega arith) (omega arith)
+    ∙ trailing (take a.n l.slot-items) a.file.now l.at c.if-at-file.true)
 
 pub returns : goal.returns
 returns c =
     let a = c.args in
-    let l = c.loop-k in
-    sym (l.invariant ∙ ended a.n l.k l.held a.file.now l.at c.loop-k-test.false l.auto.k-end
-    ∙ all_read (take a.n l.held) a.file.now l.at c.if-at-file.false)
+    let l = c.loop-slot in
+    let long : length (take c.args.n c.args.held.now) ≡ c.args.n = length-take-le c.args.n c.args.held.now c.requires in
+    rw (take-append-le a.n l.slot-items (drop a.n a.held.now) (omega arith))
+    (sym (l.invariant ∙ ended a.n l.slot-index l.slot-items a.file.now l.at (omega arith) (omega arith)
+    ∙ all_read (take a.n l.slot-items) a.file.now l.at c.if-at-file.false))

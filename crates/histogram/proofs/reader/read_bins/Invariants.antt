@@ -7,6 +7,6 @@ use lib.ListN.{take}
 use Rattle.histogram.specs.File.{bins, read_from}
 use Rattle.histogram.proofs.reader.read_bins.Given as goal
 
-abbrev pub invariant-loop-k : goal.invariant-loop-k
-invariant-loop-k l =
-    read_from (bins l.n []) l.file l.first ≡ read_from (bins (l.n - l.k) (take l.k l.held)) l.file l.at
+abbrev pub invariant-loop-slot : goal.invariant-loop-slot
+invariant-loop-slot l =
+    read_from (bins l.n []) l.file l.first ≡ read_from (bins (l.n - l.slot-index) (take l.slot-index l.slot-items)) l.file l.at

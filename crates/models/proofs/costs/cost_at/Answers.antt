@@ -25,14 +25,14 @@ pub slice_bounds-evaluate-end : goal.slice_bounds-evaluate-end
 slice_bounds-evaluate-end c =
     let a = c.args in
     let fill = c.fill_table-items.ensures in
-    front-room (entries_in a.p.shelf a.p.mean a.top (length a.table.now)) a.table.now _ _ fill.value fill.table_after
-    (entries-few a.p.shelf a.p.mean a.top (length a.table.now))
+    front-room (entries_in a.p.shelf a.p.mean a.end.count (length a.table.now)) a.table.now _ _ fill.value
+    fill.table_after (entries-few a.p.shelf a.p.mean a.end.count (length a.table.now))
 
 pub returns : goal.returns
 returns c =
     let a = c.args in
     let fill = c.fill_table-items.ensures in
-    let entries = entries_in a.p.shelf a.p.mean a.top (length a.table.now) in
+    let entries = entries_in a.p.shelf a.p.mean a.end.count (length a.table.now) in
     let usable = sym c.params_usable.ensures ∙ c.if-not-params_usable.false in
     let go = starts _ usable (sym c.mode_held.ensures ∙ c.if-not-mode_held.false) in
     record {

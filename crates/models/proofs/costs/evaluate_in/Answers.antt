@@ -12,9 +12,13 @@ returns-then-not-masses_usable c =
     masses-stop _ _ _ _ _ _ _ _ c.steady_of-steady.ensures c.masses_at-m.ensures.value
     (sym c.masses_usable.ensures ∙ c.if-not-masses_usable.true)
 
+pub likelihood-total-requires : goal.likelihood-total-requires
+likelihood-total-requires c = rw c.count.ensures c.masses_at-m.ensures.kept
+
 pub returns-then-total : goal.returns-then-total
 returns-then-total c =
-    evaluates _ _ _ _ _ _ _ _ c.steady_of-steady.ensures c.masses_at-m.ensures.value _ c.likelihood-total.ensures
+    evaluates _ _ _ _ _ _ _ _ c.steady_of-steady.ensures c.masses_at-m.ensures.value c.likelihood-total.result
+    (rw (c.likelihood-total.ensures, c.count.ensures))
     (sym c.masses_usable.ensures ∙ c.if-not-masses_usable.false)
     (at-most-zero _ (sym c.is_finite.ensures ∙ c.if-is_finite.true) c.if-total.true)
 
@@ -22,7 +26,8 @@ pub returns : goal.returns
 unfolding div of_bits
 returns c =
     let finite = sym c.is_finite.ensures in
-    likelihood-stops _ _ _ _ _ _ _ _ c.steady_of-steady.ensures c.masses_at-m.ensures.value _ c.likelihood-total.ensures
+    likelihood-stops _ _ _ _ _ _ _ _ c.steady_of-steady.ensures c.masses_at-m.ensures.value c.likelihood-total.result
+    (rw (c.likelihood-total.ensures, c.count.ensures))
     (sym c.masses_usable.ensures ∙ c.if-not-masses_usable.false)
     (elim c.else-is_finite.branch [
       | else-is_finite-via-then-is_finite+else-total w ↦ above_zero _ (finite ∙ w.if-is_finite.true) w.if-total.false

@@ -1,7 +1,7 @@
 -- `models::modes::with_nan` meets its contract. Assumes nothing.
 use mathlib.Core.Path.{◌∙◌}
 use Rattle.models.specs.Modes.{with_nan}
-use Rattle.models.proofs.StdFloats.{nan-is}
+use Rattle.routines.proofs.Patterns.{nan-is}
 use Rattle.models.proofs.modes.with_nan.Goals as goal
 
 pub returns-then-nan : goal.returns-then-nan

@@ -13,6 +13,9 @@ pub returns-in-Some : goal.returns-in-Some
 returns-in-Some c =
     let a = c.args in
     let said = c.shelf_log_table.ensures in record {
-      value = c.unwrap_or.ensures ∙ filled-items a.mean a.top a.table.now a.shelf _ c.in-Some.is _ said.result_value;
-      table_after = filled-table a.mean a.top a.table.now a.shelf _ c.in-Some.is _ said.table_after;
+      value =
+          c.unwrap_or.ensures
+          ∙ rw (← c.count.ensures) (filled-items a.mean _ a.table.now a.shelf _ c.in-Some.is _ said.result_value);
+      table_after =
+          rw (← c.count.ensures) (filled-table a.mean _ a.table.now a.shelf _ c.in-Some.is _ said.table_after);
     }

@@ -1,25 +1,22 @@
 -- `record::leaning::leaning_of` meets its contract. Assumes nothing.
+use native.Mathlib.Numerals.{add-one}
 use native.Mathlib.Omega.{arith}
-use Rattle.record.specs.Leaning.{leaning_of}
-use Rattle.record.proofs.Leanings.{still-few}
+use Rattle.record.proofs.Leanings.{leans, leant}
 use Rattle.record.proofs.leaning.leaning_of.Goals as goal
 
-pub lean-second-requires : goal.lean-second-requires
-lean-second-requires c = let f = still-few _ _ _ _ _ 0 c.lean-first.ensures (omega arith, omega arith) in (omega (arith, f.0), omega (arith, f.1))
+pub loop-attempt-init : goal.loop-attempt-init
+loop-attempt-init c = record { said = cc; few = (omega arith, omega arith) }
 
-pub lean-third-requires : goal.lean-third-requires
-lean-third-requires c =
-    let f = still-few _ _ _ _ _ 0 c.lean-first.ensures (omega arith, omega arith) in
-    let g = still-few _ _ _ _ _ 1 c.lean-second.ensures f in
-    (omega (arith, g.0), omega (arith, g.1))
+pub lean-l-requires : goal.lean-l-requires
+lean-l-requires c =
+    let f = c.loop-attempt.invariant.few in
+    (omega (arith, f.0, c.loop-attempt-test.true), omega (arith, f.1, c.loop-attempt-test.true))
 
-pub lean-requires : goal.lean-requires
-lean-requires c =
-    let f = still-few _ _ _ _ _ 0 c.lean-first.ensures (omega arith, omega arith) in
-    let g = still-few _ _ _ _ _ 1 c.lean-second.ensures f in
-    let h = still-few _ _ _ _ _ 2 c.lean-third.ensures g in
-    (omega (arith, h.0), omega (arith, h.1))
+pub loop-attempt-preserved : goal.loop-attempt-preserved
+loop-attempt-preserved c =
+    let l = c.loop-attempt in
+    let p = leans _ _ c.args.attempts l.l _ l.attempt-index _ (omega arith) c.lean-l.ensures l.invariant in
+    rw (add-one l.attempt-index) p
 
 pub returns : goal.returns
-unfolding leaning_of
-returns c = rw (c.lean.ensures, c.lean-third.ensures, c.lean-second.ensures, c.lean-first.ensures)
+returns c = leant _ _ c.args.attempts _ _ (omega arith) c.loop-attempt.invariant
