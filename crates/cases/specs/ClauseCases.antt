@@ -13,7 +13,7 @@ use Rattle.models.specs.declared.families.ErrorModel.TheVariants.{SingletonParet
 use Rattle.models.specs.declared.families.GenomeModel.{GenomeModel}
 use Rattle.models.specs.declared.families.GenomeModel.TheVariants.{NegativeBinomial, ShelfNegativeBinomial}
 use Rattle.models.specs.declared.fit.SpectrumFit.{SpectrumFit}
-use Rattle.fitter.specs.Attempts.{attempt_of}
+use Rattle.fitter.specs.Attempts.{attempt_of, held_as}
 use Rattle.fitter.specs.Selection.{select_of}
 use Rattle.fitter.specs.Shares.{shelf_share_of}
 use Rattle.fitter.specs.Starts.{hint_of, starts_of}
@@ -208,7 +208,14 @@ tried_as i (rejected x) =
     (Some NonFiniteLikelihood)
     0
     0
-tried_as i failed = attempt_of SingletonPareto NegativeBinomial None (Some OptimisationFailed) 0 0
+tried_as i failed =
+    attempt_of
+    SingletonPareto
+    NegativeBinomial
+    (held_as false (fit_from (set bic (neg largest) ∷ count iterations i ∷ [])))
+    (Some OptimisationFailed)
+    0
+    0
 
 abbrev pub all_tried : ℕ → List Tried → List FitAttempt
 all_tried i [] = []

@@ -1,5 +1,5 @@
 -- How C has an answer and a shelf. Definitions only. Assumes nothing.
-use Rattle.std.specs.Prelude.{ℕ, cond, eqb, Float, Option, None, Some}
+use Rattle.std.specs.Prelude.{ℕ, cond, eqb, Float, Option, None, Some, Result, Ok, Err}
 use Rattle.meaning.specs.Numbers as number
 use Rattle.meaning.specs.Reply.{Reply, refuse, broken, give}
 use Rattle.routines.specs.Constants as constants
@@ -8,6 +8,11 @@ use Rattle.exports.specs.declared.answers.FlatCount.{FlatCount}
 use Rattle.exports.specs.declared.answers.FlatNumber.{FlatNumber}
 use Rattle.exports.specs.declared.answers.FlatWritten.{FlatWritten}
 use Rattle.exports.specs.declared.shelf.FlatShelf.{FlatShelf}
+
+-- an answer whose refusals are numbers
+abbrev pub reply_in : {A : Type 0} → Result A ℕ → Reply A
+reply_in (Ok answer) = give answer
+reply_in (Err n) = refuse n
 
 -- the number, 0 for an answer; the value, 0 for a refusal
 abbrev pub say_number : Reply Float → FlatNumber

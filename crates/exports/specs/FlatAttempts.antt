@@ -1,9 +1,9 @@
 -- How C has a verdict, an attempt and the fit that is selected. Definitions only. Assumes nothing.
-use Rattle.std.specs.Prelude.{ℕ, cond, eqb, Option, None, Some, is_some, unwrap_or}
+use Rattle.std.specs.Prelude.{ℕ, not, cond, eqb, Option, None, Some, is_some, unwrap_or}
 use Rattle.meaning.specs.Flags.{byte_of}
 use Rattle.meaning.specs.Numbers as number
 use Rattle.meaning.specs.Reply.{Reply, refuse, broken, give}
-use Rattle.fitter.specs.Attempts.{attempt_of}
+use Rattle.fitter.specs.Attempts.{attempt_of, held_as}
 use Rattle.fitter.specs.Validation.{Judgement, valid, rejected, reason_at}
 use Rattle.fitter.specs.declared.attempts.FitAttempt.{FitAttempt}
 use Rattle.fitter.specs.declared.rejections.FitRejection.{FitRejection}
@@ -31,15 +31,12 @@ say_verdict (give j) = record { number = 0; reason = reason_in j }
 abbrev pub rejection_of : ℕ → ℕ → Option FitRejection
 rejection_of present n = cond (eqb present 0) None (Some (reason_at n))
 
-abbrev pub candidate_of : ℕ → FlatFit → Option SpectrumFit
-candidate_of present f = cond (eqb present 0) None (Some (fit_of f))
-
 unfoldable pub attempt_of_flat : FlatAttempt → FitAttempt
 attempt_of_flat a =
     attempt_of
     (error_of a.error_model)
     (genome_of a.genome_model)
-    (candidate_of a.has_candidate a.candidate)
+    (held_as (not (eqb a.has_candidate 0)) (fit_of a.candidate))
     (rejection_of a.rejection_present a.rejection)
     a.total_iterations
     a.capped_starts

@@ -1,7 +1,7 @@
 // Answers that can refuse, as C has them: a number, 0 for an answer, and the value beside it, 0 for a refusal.
 ghost use Rattle.std.specs.Prelude.{◌≡◌};
 ghost use Rattle.meaning.specs.Answers.{reply_of, number_in};
-ghost use Rattle.exports.specs.Flat.{say_number, say_written, say_count};
+ghost use Rattle.exports.specs.Flat.{reply_in, say_number, say_written, say_count};
 ghost use Rattle.exports.specs.FlatFits.{say_heights};
 
 use meaning::refusals::Refusal;
@@ -47,22 +47,46 @@ pub(crate) fn number_in<T: Copy>(answer: Result<T, Refusal>) -> u8
     }
 }
 
-pub fn flat_number(answer: Result<f64, Refusal>) -> FlatNumber
-    ensures { result ≡ say_number (reply_of answer) }
+// An answer with the refusal's number for the refusal.
+pub(crate) fn numbered<T: Copy>(answer: Result<T, Refusal>) -> Result<T, u8>
+    ensures { reply_in result ≡ reply_of answer }
 {
-    FlatNumber {
-        number: number_in(answer),
-        value: answer.unwrap_or(0.0),
+    match answer {
+        Ok(value) => Ok(value),
+        Err(refusal) => Err(u8::from(refusal)),
     }
 }
 
-pub fn flat_written(answer: Result<usize, Refusal>) -> FlatWritten
+// Any number may stand for a refusal, and comes back.
+pub fn flat_number(answer: Result<f64, u8>) -> FlatNumber
+    ensures { result ≡ say_number (reply_in answer) }
+{
+    match answer {
+        Ok(value) => FlatNumber { number: 0, value },
+        Err(number) => FlatNumber { number, value: 0.0 },
+    }
+}
+
+pub fn flat_written(answer: Result<usize, u8>) -> FlatWritten
+    ensures { result ≡ say_written (reply_in answer) }
+{
+    match answer {
+        Ok(items) => FlatWritten { number: 0, items },
+        Err(number) => FlatWritten { number, items: 0 },
+    }
+}
+
+// The libraries' answers.
+pub fn said_number(answer: Result<f64, Refusal>) -> FlatNumber
+    ensures { result ≡ say_number (reply_of answer) }
+{
+    flat_number(numbered(answer))
+}
+
+pub fn said_written(answer: Result<usize, Refusal>) -> FlatWritten
     ensures { result ≡ say_written (reply_of answer) }
 {
-    FlatWritten {
-        number: number_in(answer),
-        items: answer.unwrap_or(0),
-    }
+    flat_written(numbered(answer))
 }
 
 pub(crate) fn flat_count(answer: Result<u64, Refusal>) -> FlatCount

@@ -9,7 +9,7 @@ ghost use Rattle.exports.specs.Flat.{say_number, say_written};
 ghost use Rattle.models.specs.Parts.{error_of, genome_of};
 ghost use Rattle.exports.specs.FlatFits.{say_fit};
 
-use crate::answers::{FlatNumber, FlatWritten, flat_number, flat_written, number_in};
+use crate::answers::{FlatNumber, FlatWritten, number_in, said_number, said_written};
 use crate::fits::{FlatFit, flat_fit};
 use meaning::refusals::Refusal;
 use models::costs::{cost, cost_prepared};
@@ -53,14 +53,14 @@ pub fn fog_cost(
 {
     let tail = ErrorModel::from(error);
     let lobes = GenomeModel::from(genome);
-    flat_number(cost(bins, scale, window_end, peak, tail, lobes, theta, table))
+    said_number(cost(bins, scale, window_end, peak, tail, lobes, theta, table))
 }
 
 pub fn fog_prepare_window(window_end: usize, out: &mut [f64]) -> FlatWritten
     ensures value { result ≡ say_written (counted (prepare_of window_end (length out.old))) }
     ensures out_after { out.new ≡ laid (prepare_of window_end (length out.old)) out.old }
 {
-    flat_written(prepare_window(window_end, out))
+    said_written(prepare_window(window_end, out))
 }
 
 pub fn fog_cost_prepared(
@@ -83,7 +83,7 @@ pub fn fog_cost_prepared(
 {
     let tail = ErrorModel::from(error);
     let lobes = GenomeModel::from(genome);
-    flat_number(cost_prepared(
+    said_number(cost_prepared(
         bins, scale, window_end, peak, tail, lobes, theta, ready, table,
     ))
 }

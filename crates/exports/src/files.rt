@@ -4,9 +4,9 @@ ghost use Rattle.meaning.specs.Lent.{laid, counted};
 ghost use Rattle.histogram.specs.Read.{read_histogram_of, file_says};
 ghost use Rattle.histogram.specs.Write.{write_histogram_of};
 ghost use Rattle.exports.specs.Flat.{say_written};
-ghost use Rattle.exports.specs.FlatFile.{say_file};
+ghost use Rattle.exports.specs.FlatFile.{fault_of, fault_says, say_file};
 
-use crate::answers::{FlatWritten, flat_written};
+use crate::answers::{FlatWritten, said_written};
 use histogram::reader::{ReadError, read_histogram};
 use histogram::writer::write_histogram;
 use meaning::refusals::Refusal;
@@ -20,8 +20,35 @@ pub struct FlatFile {
     pub place: usize,
 }
 
-pub fn flat_file(answer: Result<usize, ReadError>) -> FlatFile
-    ensures { result ≡ say_file (file_says answer) }
+// The place of the file's first fault, or the number of what else is refused: any number.
+#[derive(Clone, Copy)]
+pub enum FileFault {
+    Broken(usize),
+    Refused(u8),
+}
+
+impl From<ReadError> for FileFault {
+    ghost from_gives = { λ error fault. fault ≡ fault_of error };
+
+    fn from(error: ReadError) -> FileFault {
+        match error {
+            ReadError::Broken(place) => FileFault::Broken(place),
+            ReadError::Refused(refusal) => FileFault::Refused(u8::from(refusal)),
+        }
+    }
+}
+
+fn faulted(answer: Result<usize, ReadError>) -> Result<usize, FileFault>
+    ensures { fault_says result ≡ file_says answer }
+{
+    match answer {
+        Ok(items) => Ok(items),
+        Err(error) => Err(FileFault::from(error)),
+    }
+}
+
+pub fn flat_file(answer: Result<usize, FileFault>) -> FlatFile
+    ensures { result ≡ say_file (fault_says answer) }
 {
     match answer {
         Ok(items) => FlatFile {
@@ -29,17 +56,24 @@ pub fn flat_file(answer: Result<usize, ReadError>) -> FlatFile
             items,
             place: 0,
         },
-        Err(ReadError::Broken(place)) => FlatFile {
+        Err(FileFault::Broken(place)) => FlatFile {
             number: u8::from(Refusal::BrokenFile),
             items: 0,
             place,
         },
-        Err(ReadError::Refused(refusal)) => FlatFile {
-            number: u8::from(refusal),
+        Err(FileFault::Refused(number)) => FlatFile {
+            number,
             items: 0,
             place: 0,
         },
     }
+}
+
+// What the reader answers.
+pub fn said_file(answer: Result<usize, ReadError>) -> FlatFile
+    ensures { result ≡ say_file (file_says answer) }
+{
+    flat_file(faulted(answer))
 }
 
 pub fn fog_read_histogram(file: &[u8], bins: &mut [u32]) -> FlatFile
@@ -47,7 +81,7 @@ pub fn fog_read_histogram(file: &[u8], bins: &mut [u32]) -> FlatFile
     ensures bins_after { bins.new
         ≡ laid (read_histogram_of file.now (length bins.old)) bins.old }
 {
-    flat_file(read_histogram(file, bins))
+    said_file(read_histogram(file, bins))
 }
 
 pub fn fog_write_histogram(bins: &[u32], file: &mut [u8]) -> FlatWritten
@@ -55,5 +89,5 @@ pub fn fog_write_histogram(bins: &[u32], file: &mut [u8]) -> FlatWritten
     ensures file_after { file.new
         ≡ laid (write_histogram_of bins.now (length file.old)) file.old }
 {
-    flat_written(write_histogram(bins, file))
+    said_written(write_histogram(bins, file))
 }

@@ -3,7 +3,7 @@ ghost use Rattle.std.specs.Prelude.{◌≡◌, [], ◌∷◌};
 ghost use Rattle.meaning.specs.Flags.{byte_of};
 ghost use Rattle.fitter.specs.Attempts.{valid_of};
 ghost use Rattle.fitter.specs.Selection.{select_of};
-ghost use Rattle.exports.specs.FlatAttempts.{rejection_of, candidate_of, attempt_of_flat, of_selected};
+ghost use Rattle.exports.specs.FlatAttempts.{rejection_of, attempt_of_flat, of_selected};
 
 use crate::fits::{FlatFit, fit_of, flat_fit};
 use fitter::attempts::{FitAttempt, is_valid, make_attempt};
@@ -40,12 +40,6 @@ fn rejection_of(present: u8, n: u8) -> Option<FitRejection>
     (present != 0).then_some(FitRejection::from(n))
 }
 
-fn candidate_of(present: u8, fit: FlatFit) -> Option<SpectrumFit>
-    ensures { result ≡ candidate_of present fit }
-{
-    (present != 0).then_some(fit_of(fit))
-}
-
 #[tactic(auto, unfolding(crate::specs::FlatAttempts::attempt_of_flat))]
 fn attempt_of(attempt: FlatAttempt) -> FitAttempt
     ensures { result ≡ attempt_of_flat attempt }
@@ -53,7 +47,8 @@ fn attempt_of(attempt: FlatAttempt) -> FitAttempt
     make_attempt(
         ErrorModel::from(attempt.error_model),
         GenomeModel::from(attempt.genome_model),
-        candidate_of(attempt.has_candidate, attempt.candidate),
+        attempt.has_candidate != 0,
+        fit_of(attempt.candidate),
         rejection_of(attempt.rejection_present, attempt.rejection),
         attempt.total_iterations,
         attempt.capped_starts,

@@ -7,7 +7,7 @@ ghost use Rattle.models.specs.Modes.{error_mode_of};
 ghost use Rattle.exports.specs.Flat.{say_count, say_written};
 ghost use Rattle.exports.specs.FlatFits.{fit_of, say_heights};
 
-use crate::answers::{FlatCount, FlatHeights, FlatWritten, flat_count, flat_heights, flat_written};
+use crate::answers::{FlatCount, FlatHeights, FlatWritten, flat_count, flat_heights, said_written};
 use crate::fits::{FlatFit, fit_of};
 use models::fit::{component_total_ratio, mode_roundtrip_error, primary_mode, repeat_mode};
 use models::heights::{component_heights, component_heights_to};
@@ -53,5 +53,5 @@ pub fn fog_component_heights_to(fit: FlatFit, last: usize, out: &mut [f64]) -> F
     ensures value { result ≡ say_written (counted (heights_to_of (fit_of fit) last (length out.old))) }
     ensures out_after { out.new ≡ laid (heights_to_of (fit_of fit) last (length out.old)) out.old }
 {
-    flat_written(component_heights_to(fit_of(fit), last, out))
+    said_written(component_heights_to(fit_of(fit), last, out))
 }

@@ -46,7 +46,7 @@ fn empty_attempt() -> FitAttempt
 {
     let error = ErrorModel::FreeSingletonWeibull;
     let genome = GenomeModel::NegativeBinomial;
-    make_attempt(error, genome, None, None, 0, 0)
+    make_attempt(error, genome, false, empty_fit(), None, 0, 0)
 }
 
 #[tactic(auto, unfolding(crate::specs::FlatTables::say_attempt))]

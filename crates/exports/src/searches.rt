@@ -15,7 +15,7 @@ ghost use Rattle.exports.specs.Flat.{say_written};
 ghost use Rattle.models.specs.Parts.{error_of, genome_of};
 ghost use Rattle.exports.specs.FlatSearches.{problem_of};
 
-use crate::answers::{FlatWritten, flat_written};
+use crate::answers::{FlatWritten, said_written};
 use crate::run_tables::setup_of;
 use models::families::{ErrorModel, GenomeModel};
 use models::problems::Problem;
@@ -81,7 +81,7 @@ pub fn fog_begin_searches(
     let answer = begin_searches(
         bins, problem, starts, simplexes, iterations, stopped, ready, table,
     );
-    flat_written(answer)
+    said_written(answer)
 }
 
 pub fn fog_run_searches(
@@ -139,7 +139,7 @@ pub fn fog_run_searches(
     let answer = run_searches(
         bins, problem, runs, limit, simplexes, iterations, stopped, ready, table,
     );
-    flat_written(answer)
+    said_written(answer)
 }
 
 pub fn fog_report_searches(
@@ -192,5 +192,5 @@ pub fn fog_report_searches(
     let answer = report_searches(
         tail, lobes, runs, simplexes, iterations, stopped, converged, costs, places, lengths, caps,
     );
-    flat_written(answer)
+    said_written(answer)
 }

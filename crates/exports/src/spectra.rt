@@ -5,7 +5,7 @@ ghost use Rattle.fitter.specs.Recovering.{recover_bins_of};
 ghost use Rattle.fitter.specs.Shares.{shelf_share_of};
 ghost use Rattle.exports.specs.Flat.{say_number, say_written};
 
-use crate::answers::{FlatNumber, FlatWritten, flat_number, flat_written};
+use crate::answers::{FlatNumber, FlatWritten, said_number, said_written};
 use fitter::recovering::recover_bins;
 use fitter::shares::empirical_shelf_share;
 
@@ -14,11 +14,11 @@ pub fn fog_recover_bins(bins: &[u32], scale: f64, out: &mut [u32]) -> FlatWritte
     ensures out_after { out.new
         ≡ laid (recover_bins_of bins.now scale (length out.old)) out.old }
 {
-    flat_written(recover_bins(bins, scale, out))
+    said_written(recover_bins(bins, scale, out))
 }
 
 pub fn fog_empirical_shelf_share(bins: &[u32], scale: f64, valley: usize, peak: usize) -> FlatNumber
     ensures { result ≡ say_number (shelf_share_of bins.now scale valley peak) }
 {
-    flat_number(empirical_shelf_share(bins, scale, valley, peak))
+    said_number(empirical_shelf_share(bins, scale, valley, peak))
 }

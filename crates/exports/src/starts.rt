@@ -9,7 +9,7 @@ ghost use Rattle.fitter.specs.Starts.{starts_of};
 ghost use Rattle.exports.specs.Flat.{say_written};
 ghost use Rattle.models.specs.Parts.{error_of, genome_of};
 
-use crate::answers::{FlatWritten, flat_written, number_in};
+use crate::answers::{FlatWritten, number_in, said_written};
 use fitter::starts::{fit_starts, fit_starts_lent, start_tables_refusal};
 use models::families::{ErrorModel, GenomeModel};
 
@@ -37,7 +37,7 @@ pub fn fog_fit_starts(
 {
     let tail = ErrorModel::from(error);
     let lobes = GenomeModel::from(genome);
-    flat_written(fit_starts(tail, lobes, seeds, hint, share, shapes, out))
+    said_written(fit_starts(tail, lobes, seeds, hint, share, shapes, out))
 }
 
 pub fn fog_fit_starts_lent<'a>(
@@ -60,7 +60,7 @@ pub fn fog_fit_starts_lent<'a>(
 {
     let tail = ErrorModel::from(error);
     let lobes = GenomeModel::from(genome);
-    flat_written(fit_starts_lent(
+    said_written(fit_starts_lent(
         tail, lobes, pareto, weibull, seeds, hint, share, shapes, out,
     ))
 }

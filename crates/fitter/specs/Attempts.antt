@@ -1,5 +1,5 @@
 -- What one configuration came to, as spectrum_fitter.rs has it. Definitions only. Assumes nothing.
-use Rattle.std.specs.Prelude.{is_some, unwrap_or, ℕ, Bool, true, false, ◌&&◌, Option, None, Some}
+use Rattle.std.specs.Prelude.{is_some, unwrap_or, ℕ, Bool, true, false, cond, ◌&&◌, Option, None, Some}
 use Rattle.models.specs.declared.families.ErrorModel.{ErrorModel}
 use Rattle.models.specs.declared.families.GenomeModel.{GenomeModel}
 use Rattle.models.specs.Unpacking.{empty_fit}
@@ -17,6 +17,10 @@ attempt_of error genome candidate rejection iterations capped =
       total_iterations = iterations;
       capped_starts = capped;
     }
+
+-- a fit beside a flag: whatever stands beside false is passed over
+abbrev pub held_as : Bool → SpectrumFit → Option SpectrumFit
+held_as held fit = cond held (Some fit) None
 
 abbrev pub unrejected : Option FitRejection → Bool
 unrejected None = true

@@ -2,7 +2,7 @@
 // Ported from src/preprocessing/spectrum_fitter.rs of bacpop/sparrowhawk-asm, f1f8af1232, Apache-2.0; ported and
 // changed.
 ghost use Rattle.std.specs.Prelude.{◌≡◌};
-ghost use Rattle.fitter.specs.Attempts.{attempt_of, valid_of};
+ghost use Rattle.fitter.specs.Attempts.{attempt_of, held_as, valid_of};
 
 use crate::rejections::FitRejection;
 use models::families::{ErrorModel, GenomeModel};
@@ -23,21 +23,23 @@ pub struct FitAttempt {
     pub capped_starts: u32,
 }
 
-// Every attempt is made here.
+// Every attempt is made here. A caller has a flag and a fit, as C has them: where the flag is false the fit is passed
+// over, whatever it is.
 pub fn make_attempt(
     error: ErrorModel,
     genome: GenomeModel,
-    candidate: Option<SpectrumFit>,
+    held: bool,
+    candidate: SpectrumFit,
     rejection: Option<FitRejection>,
     iterations: u64,
     capped: u32,
 ) -> FitAttempt
-    ensures { result ≡ attempt_of error genome candidate rejection iterations capped }
+    ensures { result ≡ attempt_of error genome (held_as held candidate) rejection iterations capped }
 {
     FitAttempt {
         error_model: error,
         genome_model: genome,
-        candidate,
+        candidate: if held { Some(candidate) } else { None },
         rejection,
         total_iterations: iterations,
         capped_starts: capped,

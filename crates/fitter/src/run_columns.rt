@@ -6,7 +6,7 @@ ghost use Rattle.fitter.specs.Surveys.{survey_of};
 ghost use Rattle.fitter.specs.Retrying.{table_from, retried_of};
 
 use crate::judging::{Held, retry_run};
-use crate::runs::{Run, run_point};
+use crate::runs::{Run, RunPoint, run_point};
 use crate::surveys::{Survey, count_run, no_survey, weigh_run};
 use meaning::flags::is_set;
 use models::problems::Problem;
@@ -60,10 +60,10 @@ impl Columns<'_> {
         for i in 0..n {
             let run = self.run_at(i);
             s = count_run(s, run);
-            let Some(point) = run_point(run) else {
+            let Some(RunPoint { cost, place }) = run_point(run) else {
                 continue;
             };
-            s = weigh_run(s, i, run, point.cost, point.place, lent, wanted);
+            s = weigh_run(s, i, run, cost, place, lent, wanted);
         }
         s
     }

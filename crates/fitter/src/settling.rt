@@ -56,7 +56,8 @@ pub(crate) fn failed_attempt(setup: Problem, survey: Survey) -> FitAttempt
     make_attempt(
         setup.error,
         setup.genome,
-        None,
+        false,
+        empty_fit(),
         Some(FitRejection::OptimisationFailed),
         survey.iterations,
         survey.capped,
@@ -71,7 +72,8 @@ pub(crate) fn kept_attempt(setup: Problem, survey: Survey, held: Held) -> FitAtt
     make_attempt(
         setup.error,
         setup.genome,
-        Some(judged.fit),
+        true,
+        judged.fit,
         judged.rejection,
         survey.iterations,
         survey.capped,

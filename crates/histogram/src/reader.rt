@@ -114,7 +114,10 @@ fn bin_at(file: &[u8], at: usize) -> Option<Found>
             });
         }
         if file.len() - at > 4 {
-            return long_bin_at(file, at);
+            // Taken apart and put together: handed on whole, both numbers go through memory, and a file of bins of two
+            // groups takes three times as long.
+            let Found { value, next } = long_bin_at(file, at)?;
+            return Some(Found { value, next });
         }
     }
     number_at(file, at, 0, MAX_BIN)
@@ -127,11 +130,11 @@ fn read_bins(file: &[u8], first: usize, n: usize, held: &mut [u32]) -> Result<()
 {
     let mut at = first;
     for slot in held[..n].iter_mut() {
-        let Some(bin) = bin_at(file, at) else {
+        let Some(Found { value, next }) = bin_at(file, at) else {
             return Err(ReadError::Broken(at));
         };
-        *slot = bin.value as u32;
-        at = bin.next;
+        *slot = value as u32;
+        at = next;
     }
     if at < file.len() {
         return Err(ReadError::Broken(at));

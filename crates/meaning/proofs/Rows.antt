@@ -4,8 +4,9 @@ use Prim.Native.Nat.{ℕ, ◌≤◌, ◌<◌}
 use mathlib.Core.Path.{◌≡◌, refl}
 use mathlib.Core.Bool.{Bool, true, false}
 use mathlib.Core.List.{List, [], ◌∷◌}
+use mathlib.Core.Logic.{◌⊎◌, inl, inr}
 use native.Mathlib.Omega.{arith}
-use borrow.Author.Tests.{ltb-false, eqb-false, le-ltb}
+use borrow.Author.Tests.{ltb-false, eqb-false, lt-ltb, le-ltb}
 use lib.Dec.{ltb, eqb}
 use Rattle.meaning.specs.Reply.{test, first_of}
 use Rattle.meaning.specs.Rows.{most, below_two, above_most, no_window, outside, too_short, window_tests, in_order}
@@ -16,7 +17,11 @@ pub test-passed : (b : Bool) (n : ℕ) → 0 < n → 0 ≡ first_of (test b n �
 test-passed true n h e = absurd (omega arith)
 test-passed false n h e = refl
 
--- each thing that a row names
+-- a thing that a row names, and each of them
+abbrev pub Some : (ℕ → Type 0) → List ℕ → Type 0
+Some P [] = ⊥
+Some P (n ∷ ns) = P n ⊎ Some P ns
+
 abbrev pub Each : (ℕ → Type 0) → List ℕ → Type 0
 Each P [] = Unit {0}
 Each P (n ∷ ns) = P n × Each P ns
@@ -25,6 +30,15 @@ Each P (n ∷ ns) = P n × Each P ns
 pub below-two-clear : (ns : List ℕ) → Each (λ (n : ℕ). 2 ≤ n) ns → 0 ≡ first_of (below_two ns)
 below-two-clear [] h = refl
 below-two-clear (n ∷ ns) h = rw (le-ltb n 2 h.0) (below-two-clear ns h.1)
+
+pub below-two-found : (ns : List ℕ) → Some (λ (n : ℕ). n < 2) ns → 1 ≡ first_of (below_two ns)
+below-two-found [] h = absurd h
+below-two-found (n ∷ ns) (inl h) = rw (lt-ltb n 2 h)
+below-two-found (n ∷ ns) (inr h) = either (ltb n 2) (below-two-found ns h)
+  where
+    either : (b : Bool) → 1 ≡ first_of (below_two ns) → 1 ≡ first_of (test b 1 ∷ below_two ns)
+    either true e = refl
+    either false e = e
 
 -- ---- 2
 pub above-most-passed : (ns : List ℕ) → 0 ≡ first_of (above_most ns) → Each (λ (n : ℕ). n ≤ most) ns
@@ -36,6 +50,15 @@ above-most-passed (n ∷ ns) e =
 pub above-most-clear : (ns : List ℕ) → Each (λ (n : ℕ). n ≤ most) ns → 0 ≡ first_of (above_most ns)
 above-most-clear [] h = refl
 above-most-clear (n ∷ ns) h = rw (le-ltb most n h.0) (above-most-clear ns h.1)
+
+pub above-most-found : (ns : List ℕ) → Some (λ (n : ℕ). most < n) ns → 2 ≡ first_of (above_most ns)
+above-most-found [] h = absurd h
+above-most-found (n ∷ ns) (inl h) = rw (lt-ltb most n h)
+above-most-found (n ∷ ns) (inr h) = either (ltb most n) (above-most-found ns h)
+  where
+    either : (b : Bool) → 2 ≡ first_of (above_most ns) → 2 ≡ first_of (test b 2 ∷ above_most ns)
+    either true e = refl
+    either false e = e
 
 -- ---- 5
 pub no-window-passed : (end : ℕ) → 0 ≡ first_of (no_window end) → 1 ≤ end

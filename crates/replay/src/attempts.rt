@@ -7,7 +7,6 @@ use crate::words::*;
 use fitter::attempts::{FitAttempt, is_valid, make_attempt};
 use fitter::rejections::FitRejection;
 use meaning::refusals::Refusal;
-use models::fit::SpectrumFit;
 use models::problems::Problem;
 use models::unpacking::empty_fit;
 
@@ -45,19 +44,13 @@ fn rejection(present: u64, n: u64) -> Option<FitRejection> {
     Some(FitRejection::from(byte(n)))
 }
 
-fn candidate(present: u64, w: &[u64]) -> Option<SpectrumFit> {
-    if present == 0 {
-        return None;
-    }
-    Some(fit(w))
-}
-
 fn attempt(row: &[u64], i: usize) -> FitAttempt {
     let w = from(row, i);
     make_attempt(
         error(w, 0),
         genome(w, 1),
-        candidate(word(w, 2), from(w, 7)),
+        word(w, 2) != 0,
+        fit(from(w, 7)),
         rejection(word(w, 3), word(w, 4)),
         word(w, 5),
         bin(word(w, 6)),

@@ -1,6 +1,9 @@
 // Rows of a simplex in a lent slice.
 ghost use Rattle.std.specs.Prelude.{◌≡◌, ◌*◌, ◌<◌, ◌≤◌, length};
 
+// The most numbers in a row: a cost and eleven coordinates.
+pub const WIDEST: usize = 12;
+
 // As many rows as there are numbers in one, each a vertex: its cost, then its coordinates.
 #[derive(Drop)]
 pub(crate) struct Simplex<'a> {

@@ -7,10 +7,10 @@ ghost use Rattle.search.specs.Simplex.{vertices_in, IsSame};
 
 use crate::points::{Move, centroid, move_point};
 use crate::prices::Prices;
-use crate::rows::Simplex;
+use crate::rows::{Simplex, WIDEST};
 
 // The most coordinates of a point.
-pub const MOST_COORDINATES: usize = 11;
+pub const MOST_COORDINATES: usize = WIDEST - 1;
 
 // A point out of two, and what it costs.
 pub(crate) fn try_point(

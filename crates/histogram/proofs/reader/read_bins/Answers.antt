@@ -33,10 +33,11 @@ pub loop-slot-preserved : goal.loop-slot-preserved
 loop-slot-preserved c =
     let l = c.loop-slot in
     let long : length (take c.args.n c.args.held.now) ≡ c.args.n = length-take-le c.args.n c.args.held.now c.requires in
-    let v = c.in-Some.bin.value in
+    let bin = c.in-Some.field-0 in
+    let v = bin.value in
     l.invariant
     ∙ bin-read c.args.n l.slot-index (omega arith) (take l.slot-index l.slot-items) c.args.file.now l.at _ (sym c.in-Some.ensures)
-    ∙ ap (λ (done : List ℕ). read_from (bins (c.args.n - (l.slot-index + 1)) done) c.args.file.now c.in-Some.bin.next)
+    ∙ ap (λ (done : List ℕ). read_from (bins (c.args.n - (l.slot-index + 1)) done) c.args.file.now bin.next)
     (sym (take-suc-set l.slot-items l.slot-index v (omega arith)) ∙ ap (λ (j : ℕ). take j (set l.slot-items l.slot-index v)) (sym (add-one l.slot-index)))
 
 -- the last bin is read
