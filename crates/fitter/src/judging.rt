@@ -7,7 +7,7 @@ ghost use Rattle.fitter.specs.Judging.{judged_fit_of};
 ghost use Rattle.fitter.specs.Retrying.{table_from, could_win, retry_step};
 
 use crate::rejections::FitRejection;
-use crate::runs::{Run, list_at, run_point};
+use crate::runs::{Run, RunPoint, list_at, run_point};
 use crate::surveys::Best;
 use crate::validation::judge;
 use models::fit::SpectrumFit;
@@ -98,10 +98,10 @@ pub(crate) fn retry_run(
         ≡ retry_step bins.now setup lists.now (length table.old) position run held }
     ensures table_unchanged { drop (table_from setup) table.new ≡ drop (table_from setup) table.old }
 {
-    let Some(point) = run_point(run) else {
+    let Some(RunPoint { cost, .. }) = run_point(run) else {
         return held;
     };
-    if !could_win(held, point.cost) {
+    if !could_win(held, cost) {
         return held;
     }
     let judged = judge_run(bins, setup, run, lists, table);

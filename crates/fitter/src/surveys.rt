@@ -5,7 +5,7 @@ ghost use Rattle.std.specs.Prelude.{◌≡◌, ◌+◌};
 ghost use Rattle.fitter.specs.Runs.{at_most, top64, top32, one_if, no_run};
 ghost use Rattle.fitter.specs.Surveys.{no_survey, beats, lesser, count_of, weigh_of, survey_step};
 
-use crate::runs::{Run, bad_cost, run_point, wrong_place};
+use crate::runs::{Run, RunPoint, bad_cost, run_point, wrong_place};
 
 // A run and its position in the table; a run that did not converge stands for none, and no Option: the definition
 // `kept_best` and the theorems of specs/Kept.antt and specs/Candidates.antt read the flag of the run.
@@ -125,16 +125,8 @@ pub(crate) fn survey_run(s: Survey, position: usize, run: Run, lent: usize, want
     ensures { result ≡ survey_step lent wanted position run s }
 {
     let counted = count_run(s, run);
-    let Some(point) = run_point(run) else {
+    let Some(RunPoint { cost, place }) = run_point(run) else {
         return counted;
     };
-    weigh_run(
-        counted,
-        position,
-        run,
-        point.cost,
-        point.place,
-        lent,
-        wanted,
-    )
+    weigh_run(counted, position, run, cost, place, lent, wanted)
 }
